@@ -1,0 +1,4 @@
+pub mod Numbers
+pub mod Kind
+pub mod Entry
+pub mod Claims

@@ -1,0 +1,334 @@
+-- Formats built from lawful pieces. A format says what is read (payloads by their places), what that means (payloads by their bytes) and the actions that write
+-- the meaning; its laws tie the three together. A byte of fields, a run, one after the other, a list and an optional part are lawful, and so is what is built of them.
+use Prim.Native.Nat.{ℕ, zero, suc, _+_, _≤_, _<_}
+use mathlib.Core.List.{List, [], _∷_, _++_, append-nil, flatMap, map}
+use mathlib.Core.Bool.{Bool, true, false, _&&_}
+use mathlib.Core.Option.{Option, none, some}
+use mathlib.Core.Path.{_≡_, refl, sym, ap, _∙_, subst}
+use native.Mathlib.Omega.{arith}
+use lib.ListN.{length, length-append, replicate, length-replicate}
+use lib.Seq.{slice, drop-at}
+use Rattle.wire.specs.Lists.{Every, all-nil, all-cons, Byte}
+use Rattle.wire.specs.Bits.{Field, fit, join}
+use Rattle.wire.specs.Prog.{Prog, ret, Out, done, short, run, _>>=_, u8, pass, many, span, passed}
+use Rattle.wire.specs.declared.rows.Payload.{Payload}
+use Rattle.wire.specs.Act.{Act, demand, byte, copy}
+use Rattle.wire.specs.Pen.{clean, bytes}
+use Rattle.wire.proofs.Lists.{every-head, every-left, every-right}
+use Rattle.wire.proofs.Runs.{run-split, run-ret}
+use Rattle.wire.proofs.Blind.{passed-bind, passed-map, passed-u8, passed-pass}
+use Rattle.wire.proofs.Takes.{Takes, nothing, takes-bind, takes-split, takes-ret, takes-map, map-takes, takes-u8, u8-takes, takes-pass, pass-takes, Here, here-left, here-right, here-is}
+use Rattle.wire.proofs.Acts.{and-both, both-and, Makes, makes-both, clean-both, bytes-append}
+
+-- the program, begun at `at`, takes bs, and what it answers means c in every body that has bs there
+pub record Read {A C : Type 0} (p : Prog A) (means : List ℕ → A → C) (at : ℕ) (c : C) (bs : List ℕ) : Type 0 where
+  pub value : A
+  pub takes : Takes p at value bs
+  pub meant : (s : List ℕ) → Here s at bs → means s value ≡ c
+
+-- c fits, and its actions make bs
+pub record Wrote {C : Type 0} (Fits : C → Type 0) (acts : C → List Act) (c : C) (bs : List ℕ) : Type 0 where
+  pub fits : Fits c
+  pub makes : Makes (acts c) bs
+
+-- Fits is what the actions of a meaning leave open: a length or a count that another part holds
+pub record Codec (A C : Type 0) : Type 1 where
+  pub read : Prog A
+  pub means : List ℕ → A → C
+  pub acts : C → List Act
+  pub Fits : C → Type 0
+  -- what is written is read, and what is read is written
+  pub forth : (c : C) → Fits c → clean (acts c) ≡ true → (at : ℕ) → Read read means at c (bytes (acts c))
+  pub back : (s : List ℕ) (at : ℕ) (a : A) (bs : List ℕ) → Takes read at a bs → Every Byte bs → Here s at bs → Wrote Fits acts (means s a) bs
+  -- its payloads are what the program passes over
+  pub spans : A → List Payload
+  pub skipped : (s : List ℕ) (at : ℕ) (a : A) (k : ℕ) → run read s at ≡ done a k → passed read s at ≡ spans a
+
+-- some body that has the bytes there
+some-body : (at : ℕ) (bs : List ℕ) → (s : List ℕ) × Here s at bs
+some-body at bs =
+    let z : List ℕ = replicate at 0 in
+    let l : length z ≡ at = length-replicate at 0 in
+    (z ++ bs, record { begun = omega (arith, length-append z bs); rest = []; holds = drop-at z bs at l ∙ sym (append-nil bs) })
+
+-- ---- one byte, taken apart into fields
+
+module _ {A : Type 0} (of : ℕ → A) (fields : A → List Field) (pack : (x : A) → fit (fields x) ≡ true → of (join 0 (fields x)) ≡ x)
+    (unpack : (b : ℕ) → b < 256 → (fit (fields (of b)) ≡ true) × (join 0 (fields (of b)) ≡ b)) where
+  abbrev byte-acts : A → List Act
+  byte-acts x = byte (fields x) ∷ []
+
+  pub byte-forth : (x : A) → clean (byte-acts x) ≡ true → (at : ℕ) → Read (u8 >>= λ b. ret (of b)) (λ s x. x) at x (bytes (byte-acts x))
+  unfolding clean bytes
+  byte-forth x e at = record {
+    value = x;
+    takes = rw (pack x (and-both (fit (fields x)) true e .0)) at (takes-map of {at = at} (takes-u8 (join 0 (fields x))));
+    meant = λ s h. refl;
+  }
+
+  byte-made : (b : ℕ) {bs : List ℕ} → bs ≡ b ∷ [] → b < 256 → Wrote (λ (x : A). Unit {0}) byte-acts (of b) bs
+  unfolding clean bytes
+  byte-made b q h = let r = unpack b h in record { fits = tt; makes = record { sound = both-and (r .0) refl; is = q ∙ ap (λ (n : ℕ). n ∷ []) (sym (r .1)) } }
+
+  pub byte-back : (s : List ℕ) (at : ℕ) (x : A) (bs : List ℕ) → Takes (u8 >>= λ b. ret (of b)) at x bs → Every Byte bs → Here s at bs → Wrote (λ (x : A). Unit {0}) byte-acts x bs
+  byte-back s at x bs t h i =
+      let u = map-takes u8 of t in
+      let q = u8-takes (u .2) in
+      rw (u .1) at (byte-made (u .0) q (every-head Byte (rw q at h)))
+
+  unfoldable pub one-byte : Codec A A
+  one-byte = record {
+    read = u8 >>= λ b. ret (of b);
+    means = λ s x. x;
+    acts = byte-acts;
+    Fits = λ x. Unit {0};
+    forth = λ x f e at. byte-forth x e at;
+    back = byte-back;
+    spans = λ x. [];
+    skipped = λ s at x k e. let u = run-split u8 (λ b. ret (of b)) s at x k e in passed-map u8 of s at (u .first) ∙ passed-u8 s at;
+  }
+
+-- ---- a run of n bytes, by its place
+
+pub run-forth : (n : ℕ) (x : List ℕ) → length x ≡ n → (at : ℕ) → Read (pass n) (λ s p. slice p (p + n) s) at x (bytes (copy x ∷ []))
+unfolding bytes
+run-forth n x f at = rw (append-nil x) (record { value = at; takes = rw f at (takes-pass {at = at} x); meant = λ s h. rw f at (here-is h) })
+
+pub run-back : (n : ℕ) (s : List ℕ) (at p : ℕ) (bs : List ℕ) → Takes (pass n) at p bs → Here s at bs → Wrote (λ (x : List ℕ). length x ≡ n) (λ x. copy x ∷ []) (slice p (p + n) s) bs
+unfolding clean bytes
+run-back n s at p bs t i =
+    let u = pass-takes t in
+    let q : slice p (p + n) s ≡ bs = rw (u .0) (rw (u .1) at (here-is i)) in
+    rw q (record { fits = u .1; makes = record { sound = refl; is = sym (append-nil bs) } })
+
+unfoldable pub payload : ℕ → Codec ℕ (List ℕ)
+payload n = record {
+  read = pass n;
+  means = λ s p. slice p (p + n) s;
+  acts = λ x. copy x ∷ [];
+  Fits = λ x. length x ≡ n;
+  forth = λ x f e at. run-forth n x f at;
+  back = λ s at p bs t h i. run-back n s at p bs t i;
+  spans = λ p. span p n ∷ [];
+  skipped = λ s at p k e. passed-pass n s at p k e;
+}
+
+-- ---- one after the other; what follows is steered by a key that the first part has
+
+module _ {A B C D K : Type 0} (m : Codec A C) (key : A → K) (keyed : C → K) (same : (s : List ℕ) (a : A) → keyed (m .means s a) ≡ key a) (next : K → Codec B D) where
+  unfoldable pub then-read : Prog (A × B)
+  then-read = do
+    x ← m .read
+    y ← next (key x) .read
+    ret (x, y)
+
+  unfoldable pub then-means : List ℕ → A × B → C × D
+  then-means s v = (m .means s (v .0), next (key (v .0)) .means s (v .1))
+
+  unfoldable pub then-acts : C × D → List Act
+  then-acts c = m .acts (c .0) ++ next (keyed (c .0)) .acts (c .1)
+
+  unfoldable pub Then-fits : C × D → Type 0
+  Then-fits c = m .Fits (c .0) × next (keyed (c .0)) .Fits (c .1)
+
+  pub then-forth : (c : C × D) → Then-fits c → clean (then-acts c) ≡ true → (at : ℕ) → Read then-read then-means at c (bytes (then-acts c))
+  unfolding then-read then-means then-acts Then-fits
+  then-forth c f e at =
+      let g = clean-both (m .acts (c .0)) (next (keyed (c .0)) .acts (c .1)) e in
+      let r = m .forth (c .0) (f .0) (g .0) at in
+      let b = some-body at (bytes (m .acts (c .0))) in
+      let q : keyed (c .0) ≡ key (r .value) = ap keyed (sym (r .meant (b .0) (b .1))) ∙ same (b .0) (r .value) in
+      let t = next (key (r .value)) .forth (c .1) (rw q at (f .1)) (rw q at (g .1)) (at + length (bytes (m .acts (c .0)))) in
+      let h : bytes (next (key (r .value)) .acts (c .1)) ≡ bytes (next (keyed (c .0)) .acts (c .1)) = ap (λ (k : K). bytes (next k .acts (c .1))) (sym q) in
+      rw (bytes-append (m .acts (c .0)) (next (keyed (c .0)) .acts (c .1))) (record {
+        value = (r .value, t .value);
+        takes = takes-bind _ (r .takes) (takes-map (λ y. (r .value, y)) (rw h at (t .takes)));
+        meant = λ s i j. (r .meant s (here-left _ _ i) j, t .meant s (rw (sym h) at (here-right (bytes (m .acts (c .0))) _ i)) j);
+      })
+
+  then-wrote : (s : List ℕ) (x : A) (y : B) (bs front back : List ℕ) → bs ≡ front ++ back → Wrote (m .Fits) (m .acts) (m .means s x) front
+      → Wrote (next (key x) .Fits) (next (key x) .acts) (next (key x) .means s y) back → Wrote Then-fits then-acts (then-means s (x, y)) bs
+  unfolding then-means then-acts Then-fits
+  then-wrote s x y bs front back j a b = rw j (record { fits = (a .fits, rw (same s x) (b .fits)); makes = rw (same s x) (makes-both (a .makes) (b .makes)) })
+
+  pub then-back : (s : List ℕ) (at : ℕ) (v : A × B) (bs : List ℕ) → Takes then-read at v bs → Every Byte bs → Here s at bs → Wrote Then-fits then-acts (then-means s v) bs
+  unfolding then-read
+  then-back s at v bs t h i =
+      let u = takes-split (m .read) _ t in
+      let w = map-takes (next (key (u .value)) .read) (λ y. (u .value, y)) (u .second) in
+      let h′ : Every Byte (u .front ++ u .back) = rw (u .joined) at h in
+      let i′ : Here s at (u .front ++ u .back) = rw (u .joined) at i in
+      let x = m .back s at (u .value) (u .front) (u .first) (every-left Byte _ _ h′) (here-left _ _ i′) in
+      let y = next (key (u .value)) .back s (at + length (u .front)) (w .0) (u .back) (w .2) (every-right Byte (u .front) _ h′) (here-right (u .front) _ i′) in
+      rw (w .1) at (then-wrote s (u .value) (w .0) bs (u .front) (u .back) (u .joined) x y)
+
+  unfoldable pub then-spans : A × B → List Payload
+  then-spans v = m .spans (v .0) ++ next (key (v .0)) .spans (v .1)
+
+  pub then-skipped : (s : List ℕ) (at : ℕ) (v : A × B) (k : ℕ) → run then-read s at ≡ done v k → passed then-read s at ≡ then-spans v
+  unfolding then-read then-spans
+  then-skipped s at v k e =
+      let u = run-split (m .read) _ s at v k e in
+      let w = run-split (next (key (u .value)) .read) (λ y. ret (u .value, y)) s (u .middle) v k (u .second) in
+      let q : (u .value, w .value) ≡ v = run-ret _ _ _ (w .second) .0 in
+      passed-bind (m .read) _ s at (u .first) ∙ rw (passed-map {B = A × B} (next (key (u .value)) .read) (λ y. (u .value, y)) s (u .middle) (w .first))
+      (rw (m .skipped s at (u .value) (u .middle) (u .first), next (key (u .value)) .skipped s (u .middle) (w .value) (w .middle) (w .first)) (ap then-spans q))
+
+  unfoldable pub steer : Codec (A × B) (C × D)
+  steer = record { read = then-read; means = then-means; acts = then-acts; Fits = Then-fits; forth = then-forth; back = then-back; spans = then-spans; skipped = then-skipped }
+
+-- the second part is not steered
+unfoldable pub both : {A B C D : Type 0} → Codec A C → Codec B D → Codec (A × B) (C × D)
+both m n = steer {K = Unit {0}} m (λ a. tt) (λ c. tt) (λ s a. refl) (λ k. n)
+
+-- ---- n of one kind
+
+module _ {A C : Type 0} (m : Codec A C) where
+  unfoldable pub Counted : ℕ → List C → Type 0
+  Counted n cs = (length cs ≡ n) × Every (m .Fits) cs
+
+  unfoldable pub list-acts : List C → List Act
+  list-acts [] = []
+  list-acts (c ∷ cs) = m .acts c ++ list-acts cs
+
+  pub list-forth : (cs : List C) → Every (m .Fits) cs → clean (list-acts cs) ≡ true → (at : ℕ) → Read (many (length cs) (m .read)) (λ s l. map (m .means s) l) at cs (bytes (list-acts cs))
+  unfolding many list-acts bytes
+  list-forth [] f e at = record { value = []; takes = nothing; meant = λ s h. refl }
+  list-forth (c ∷ cs) (all-cons h f) e at =
+      let g = clean-both (m .acts c) (list-acts cs) e in
+      let r = m .forth c h (g .0) at in
+      let t = list-forth cs f (g .1) (at + length (bytes (m .acts c))) in
+      rw (bytes-append (m .acts c) (list-acts cs)) (record {
+        value = r .value ∷ t .value;
+        takes = takes-bind _ (r .takes) (takes-map (λ l. r .value ∷ l) (t .takes));
+        meant = λ s i j. r .meant s (here-left _ _ i) j ∷ t .meant s (here-right (bytes (m .acts c)) _ i) j;
+      })
+
+  list-nil : (s : List ℕ) {bs : List ℕ} → bs ≡ [] → Wrote (Counted 0) list-acts (map (m .means s) []) bs
+  unfolding Counted list-acts clean bytes
+  list-nil s e = record { fits = (refl, all-nil); makes = record { sound = refl; is = e } }
+
+  list-cons : (n : ℕ) (s : List ℕ) (x : A) (l : List A) (bs front back : List ℕ) → bs ≡ front ++ back → Wrote (m .Fits) (m .acts) (m .means s x) front
+      → Wrote (Counted n) list-acts (map (m .means s) l) back → Wrote (Counted (suc n)) list-acts (map (m .means s) (x ∷ l)) bs
+  unfolding Counted list-acts
+  list-cons n s x l bs front back j a b = rw j (record { fits = (ap suc (b .fits .0), all-cons (a .fits) (b .fits .1)); makes = makes-both (a .makes) (b .makes) })
+
+  pub list-back : (n : ℕ) (s : List ℕ) (at : ℕ) (l : List A) (bs : List ℕ) → Takes (many n (m .read)) at l bs → Every Byte bs → Here s at bs → Wrote (Counted n) list-acts (map (m .means s) l) bs
+  unfolding many
+  list-back zero s at l bs t h i = subst (λ l. Wrote (Counted 0) list-acts (map (m .means s) l) bs) (takes-ret t .0) (list-nil s (takes-ret t .1))
+  list-back (suc n) s at l bs t h i =
+      let u = takes-split (m .read) _ t in
+      let w = map-takes (many n (m .read)) (λ l. u .value ∷ l) (u .second) in
+      let h′ : Every Byte (u .front ++ u .back) = rw (u .joined) at h in
+      let i′ : Here s at (u .front ++ u .back) = rw (u .joined) at i in
+      let x = m .back s at (u .value) (u .front) (u .first) (every-left Byte _ _ h′) (here-left _ _ i′) in
+      let y = list-back n s (at + length (u .front)) (w .0) (u .back) (w .2) (every-right Byte (u .front) _ h′) (here-right (u .front) _ i′) in
+      subst (λ l. Wrote (Counted (suc n)) list-acts (map (m .means s) l) bs) (w .1) (list-cons n s (u .value) (w .0) bs (u .front) (u .back) (u .joined) x y)
+
+  pub list-skipped : (n : ℕ) (s : List ℕ) (at : ℕ) (l : List A) (k : ℕ) → run (many n (m .read)) s at ≡ done l k → passed (many n (m .read)) s at ≡ flatMap (m .spans) l
+  unfolding many flatMap passed
+  list-skipped zero s at l k e = ap (flatMap (m .spans)) (run-ret _ _ _ e .0)
+  list-skipped (suc n) s at l k e =
+      let u = run-split (m .read) _ s at l k e in
+      let w = run-split (many n (m .read)) (λ l. ret (u .value ∷ l)) s (u .middle) l k (u .second) in
+      let q : u .value ∷ w .value ≡ l = run-ret _ _ _ (w .second) .0 in
+      passed-bind (m .read) _ s at (u .first) ∙ rw (passed-map (many n (m .read)) (λ l. u .value ∷ l) s (u .middle) (w .first))
+      (rw (m .skipped s at (u .value) (u .middle) (u .first), list-skipped n s (u .middle) (w .value) (w .middle) (w .first)) (ap (flatMap (m .spans)) q))
+
+  unfoldable pub list : ℕ → Codec (List A) (List C)
+  unfolding Counted
+  list n = record {
+    read = many n (m .read);
+    means = λ s l. map (m .means s) l;
+    acts = list-acts;
+    Fits = Counted n;
+    forth = λ cs f e at. rw (f .0) at (list-forth cs (f .1) e at);
+    back = list-back n;
+    spans = flatMap (m .spans);
+    skipped = list-skipped n;
+  }
+
+-- ---- a part that a flag steers
+
+module _ {A C : Type 0} (m : Codec A C) where
+  unfoldable pub opt-read : Bool → Prog (Option A)
+  opt-read false = ret none
+  opt-read true = m .read >>= λ x. ret (some x)
+
+  unfoldable pub opt-means : List ℕ → Option A → Option C
+  opt-means s none = none
+  opt-means s (some x) = some (m .means s x)
+
+  unfoldable pub opt-acts : Option C → List Act
+  opt-acts none = []
+  opt-acts (some c) = m .acts c
+
+  unfoldable pub Opt-fits : Bool → Option C → Type 0
+  Opt-fits false none = Unit {0}
+  Opt-fits true none = ⊥
+  Opt-fits false (some c) = ⊥
+  Opt-fits true (some c) = m .Fits c
+
+  pub opt-forth : (b : Bool) (c : Option C) → Opt-fits b c → clean (opt-acts c) ≡ true → (at : ℕ) → Read (opt-read b) opt-means at c (bytes (opt-acts c))
+  unfolding opt-read opt-means opt-acts Opt-fits bytes
+  opt-forth false none f e at = record { value = none; takes = nothing; meant = λ s h. refl }
+  opt-forth true none f e at = absurd f
+  opt-forth false (some c) f e at = absurd f
+  opt-forth true (some c) f e at =
+      let r = m .forth c f e at in
+      record { value = some (r .value); takes = takes-map some (r .takes); meant = λ s h j. some (r .meant s h j) }
+
+  opt-none : (s : List ℕ) {bs : List ℕ} → bs ≡ [] → Wrote (Opt-fits false) opt-acts (opt-means s none) bs
+  unfolding opt-means opt-acts Opt-fits clean bytes
+  opt-none s e = record { fits = tt; makes = record { sound = refl; is = e } }
+
+  opt-some : (s : List ℕ) (x : A) {bs : List ℕ} → Wrote (m .Fits) (m .acts) (m .means s x) bs → Wrote (Opt-fits true) opt-acts (opt-means s (some x)) bs
+  unfolding opt-means opt-acts Opt-fits
+  opt-some s x a = record { fits = a .fits; makes = a .makes }
+
+  pub opt-back : (b : Bool) (s : List ℕ) (at : ℕ) (x : Option A) (bs : List ℕ) → Takes (opt-read b) at x bs → Every Byte bs → Here s at bs → Wrote (Opt-fits b) opt-acts (opt-means s x) bs
+  unfolding opt-read
+  opt-back false s at x bs t h i = rw (takes-ret t .0) at (opt-none s (takes-ret t .1))
+  opt-back true s at x bs t h i =
+      let u = map-takes (m .read) some t in
+      rw (u .1) at (opt-some s (u .0) (m .back s at (u .0) bs (u .2) h i))
+
+  unfoldable pub opt-spans : Option A → List Payload
+  opt-spans none = []
+  opt-spans (some x) = m .spans x
+
+  pub opt-skipped : (b : Bool) (s : List ℕ) (at : ℕ) (x : Option A) (k : ℕ) → run (opt-read b) s at ≡ done x k → passed (opt-read b) s at ≡ opt-spans x
+  unfolding opt-read opt-spans passed
+  opt-skipped false s at x k e = ap opt-spans (run-ret _ _ _ e .0)
+  opt-skipped true s at x k e =
+      let u = run-split (m .read) (λ x. ret (some x)) s at x k e in
+      passed-map (m .read) some s at (u .first) ∙ m .skipped s at (u .value) (u .middle) (u .first) ∙ ap opt-spans (run-ret _ _ _ (u .second) .0)
+
+  unfoldable pub opt : Bool → Codec (Option A) (Option C)
+  opt b = record { read = opt-read b; means = opt-means; acts = opt-acts; Fits = Opt-fits b; forth = opt-forth b; back = opt-back b; spans = opt-spans; skipped = opt-skipped b }
+
+-- ---- the same format under another type of value and of meaning, read by an equal program
+
+module _ {A B C D : Type 0} (m : Codec A C) (f : A → B) (program : Prog B) (reads : m .read >>= (λ x. ret (f x)) ≡ program) (places : B → List Payload) (placed : (a : A) → m .spans a ≡ places (f a))
+    (mean : List ℕ → B → D) (to : C → D) (from : D → C) (same : (s : List ℕ) (a : A) → mean s (f a) ≡ to (m .means s a))
+    (to-from : (d : D) → to (from d) ≡ d) (from-to : (c : C) → m .Fits c → clean (m .acts c) ≡ true → from (to c) ≡ c) where
+  pub as-forth : (d : D) → m .Fits (from d) → clean (m .acts (from d)) ≡ true → (at : ℕ) → Read program mean at d (bytes (m .acts (from d)))
+  as-forth d g e at =
+      let r = m .forth (from d) g e at in
+      rw (← reads) (record { value = f (r .value); takes = takes-map f (r .takes); meant = λ s h. same s (r .value) ∙ ap to (r .meant s h) ∙ to-from d })
+
+  pub as-back : (s : List ℕ) (at : ℕ) (b : B) (bs : List ℕ) → Takes program at b bs → Every Byte bs → Here s at bs → Wrote (λ d. m .Fits (from d)) (λ d. m .acts (from d)) (mean s b) bs
+  as-back s at b bs t h i =
+      let u = map-takes (m .read) f (rw (← reads) at t) in
+      let x = m .back s at (u .0) bs (u .2) h i in
+      let q : from (mean s (f (u .0))) ≡ m .means s (u .0) = ap from (same s (u .0)) ∙ from-to (m .means s (u .0)) (x .fits) (x .makes .sound) in
+      let k : Wrote (λ d. m .Fits (from d)) (λ d. m .acts (from d)) (mean s (f (u .0))) bs = record { fits = rw q (x .fits); makes = rw q (x .makes) } in
+      rw (u .1) at k
+
+  pub as-skipped : (s : List ℕ) (at : ℕ) (b : B) (k : ℕ) → run program s at ≡ done b k → passed program s at ≡ places b
+  as-skipped s at b k e =
+      let u = run-split (m .read) (λ x. ret (f x)) s at b k (rw (← reads) at e) in
+      rw (← reads) (passed-map (m .read) f s at (u .first) ∙ m .skipped s at (u .value) (u .middle) (u .first) ∙ placed (u .value) ∙ ap places (run-ret _ _ _ (u .second) .0))
+
+  unfoldable pub seen-as : Codec B D
+  seen-as = record { read = program; means = mean; acts = λ d. m .acts (from d); Fits = λ d. m .Fits (from d); forth = as-forth; back = as-back; spans = places; skipped = as-skipped }

@@ -1,0 +1,10 @@
+pub mod Lists
+pub mod Fields
+pub mod Runs
+pub mod Blind
+pub mod Takes
+pub mod Steps
+pub mod Loops
+pub mod Acts
+pub mod Passes
+pub mod Codec

@@ -1,0 +1,34 @@
+-- What holds of every element of a list holds of its parts.
+use Prim.Native.Nat.{ℕ}
+use mathlib.Core.List.{List, [], _∷_, _++_}
+use lib.ListN.{take, drop, take-append-drop}
+use lib.Seq.{slice}
+use Rattle.wire.specs.Lists.{Every, all-nil, all-cons}
+
+module _ {A : Type 0} (P : A → Type 0) where
+  pub every-head : {x : A} {xs : List A} → Every P (x ∷ xs) → P x
+  every-head (all-cons h r) = h
+
+  pub every-tail : {x : A} {xs : List A} → Every P (x ∷ xs) → Every P xs
+  every-tail (all-cons h r) = r
+
+  pub every-left : (xs ys : List A) → Every P (xs ++ ys) → Every P xs
+  every-left [] ys h = all-nil
+  every-left (x ∷ xs) ys h = all-cons (every-head h) (every-left xs ys (every-tail h))
+
+  pub every-right : (xs ys : List A) → Every P (xs ++ ys) → Every P ys
+  every-right [] ys h = h
+  every-right (x ∷ xs) ys h = every-right xs ys (every-tail h)
+
+  pub every-both : {xs ys : List A} → Every P xs → Every P ys → Every P (xs ++ ys)
+  every-both all-nil k = k
+  every-both (all-cons h r) k = all-cons h (every-both r k)
+
+  pub every-drop : (n : ℕ) (l : List A) → Every P l → Every P (drop n l)
+  every-drop n l h = every-right (take n l) (drop n l) (rw (take-append-drop n l) h)
+
+  pub every-take : (n : ℕ) (l : List A) → Every P l → Every P (take n l)
+  every-take n l h = every-left (take n l) (drop n l) (rw (take-append-drop n l) h)
+
+  pub every-slice : (i k : ℕ) (l : List A) → Every P l → Every P (slice i k l)
+  every-slice i k l h = every-drop i (take k l) (every-take k l h)

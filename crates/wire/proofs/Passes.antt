@@ -1,0 +1,286 @@
+-- Laws of a writer's two passes: how the promises of calls come together, what a loop over rows keeps, and that both passes do what the
+-- actions settle to.
+use Prim.Native.Nat.{ℕ, suc, _+_, _-_, _≤_, _<_}
+use mathlib.Core.Path.{_≡_, refl, sym, ap, _∙_}
+use mathlib.Core.List.{List, [], _∷_, _++_, append-assoc, append-nil}
+use mathlib.Core.Bool.{Bool, true, false, _&&_, and-eq-true-iff}
+use native.Mathlib.Omega.{arith}
+use native.Mathlib.Nat.{add-zero, zero-add}
+use lib.ListN.{length, set, getD, take, drop, length-append}
+use lib.Seq.{sets, sets-eq, slice, length-slice, getD-drop, getD-take}
+use Rattle.wire.specs.Bits.{Field, fit, join}
+use Rattle.wire.specs.Act.{Act, demand, byte, copy, pick, rows, Settled, fault, image, ahead, settle}
+use Rattle.wire.specs.Pen.{look, glance, looks, reach, Checked, CheckedRun, clean, bytes, Ready, Filled}
+use Rattle.wire.specs.declared.pen.Fault.{Fault}
+use Rattle.wire.specs.declared.pen.Fault.the-variants as F
+use Rattle.wire.specs.declared.pen.Pen.{Pen}
+use Rattle.wire.specs.declared.pen.Pen.the-variants.{At, Stop}
+use Rattle.wire.proofs.Steps.{sets-turn, sets-end, sets-append}
+use Rattle.wire.proofs.Acts.{and-both, bytes-append, clean-both}
+
+-- ---- the check pass
+
+-- one action, from a pen that stands at a place
+pub one : (a : Act) {p : Pen} {n : ℕ} (r : Pen) (k : ℕ) → p ≡ At n → r ≡ look a n → reach r ≤ n + k → Checked (a ∷ []) k p r
+unfolding looks glance
+one a r k e h g = record { pens = rw e h; near = rw e g }
+
+stuck : (q : List Act) (f : Fault) (n : ℕ) → looks q (Stop f n) ≡ Stop f n
+unfolding looks glance
+stuck [] f n = refl
+stuck (a ∷ q) f n = stuck q f n
+
+-- a pen that has stopped stays
+pub stopped : {p : Pen} {f : Fault} {n : ℕ} (q : List Act) (k : ℕ) → p ≡ Stop f n → Checked q k p p
+stopped {f = f} {n} q k e = record { pens = rw (e, stuck q f n); near = omega arith }
+
+pub looks-append : (a b : List Act) (p : Pen) → looks (a ++ b) p ≡ looks b (looks a p)
+unfolding looks
+looks-append [] b p = refl
+looks-append (x ∷ a) b p = looks-append a b (glance x p)
+
+-- one check after the other
+pub then : {a b : List Act} {k j : ℕ} {p r r′ : Pen} → Checked a k p r → Checked b j r r′ → Checked (a ++ b) (k + j) p r′
+then {a} {b} {p = p} v w = record { pens = rw (looks-append a b p, ← v .pens) (w .pens); near = omega (arith, v .near, w .near) }
+
+-- from a pen that is known to stand at a place
+pub here : {q : List Act} {k n : ℕ} {p r : Pen} → p ≡ At n → Checked q k (At n) r → Checked q k p r
+here e w = rw e w
+
+pub nothing : (k : ℕ) (p : Pen) → Checked [] k p p
+unfolding looks
+nothing k p = record { pens = refl; near = omega arith }
+
+-- a larger bound
+pub more : {a : List Act} {k : ℕ} {p r : Pen} (k′ : ℕ) → Checked a k p r → k ≤ k′ → Checked a k′ p r
+more k′ w h = record { pens = w .pens; near = omega (arith, w .near) }
+
+-- a demand that is not met, and one that is
+pub refused : (f : Fault) (n : ℕ) (q : List Act) (k : ℕ) → Checked (demand f false ∷ q) k (At n) (Stop f n)
+unfolding looks glance look
+refused f n q k = record { pens = sym (stuck q f n); near = omega arith }
+
+pub passed : (f : Fault) (n : ℕ) {q : List Act} {k : ℕ} {r : Pen} → Checked q k (At n) r → Checked (demand f true ∷ q) k (At n) r
+unfolding looks glance look
+passed f n w = record { pens = w .pens; near = w .near }
+
+-- ---- the fill pass
+
+-- what the first part requires, and what the rest requires after it
+pub first : (a b : List Act) {n : ℕ} {l : List ℕ} → Ready (a ++ b) n l → Ready a n l
+first a b {n} {l} h =
+    let r : n + length (bytes a ++ bytes b) ≤ length l = rw (bytes-append a b) at (h .room) in
+    record { sound = clean-both a b (h .sound) .0; room = omega (arith, length-append (bytes a) (bytes b)) }
+
+pub onward : {a b : List Act} {n r : ℕ} {l o : List ℕ} → Ready (a ++ b) n l → length o ≡ length l → Filled a n l r o → Ready b r o
+onward {a} {b} {n} {r} {l} h s w =
+    let g : n + length (bytes a ++ bytes b) ≤ length l = rw (bytes-append a b) at (h .room) in
+    record { sound = clean-both a b (h .sound) .1; room = omega (arith, length-append (bytes a) (bytes b), w .place) }
+
+-- the same, where the first part is one action
+pub head : {a : Act} {q : List Act} {n : ℕ} {l : List ℕ} → Ready (a ∷ q) n l → Ready (a ∷ []) n l
+head {a} {q} h = first (a ∷ []) q h
+
+pub rest : {a : Act} {q : List Act} {n r : ℕ} {l o : List ℕ}
+    → Ready (a ∷ q) n l → length o ≡ length l → Filled (a ∷ []) n l r o → Ready q r o
+rest h s w = onward h s w
+
+-- one part after the other
+pub fill-then : {a b : List Act} {n r r′ : ℕ} {l o o′ : List ℕ} → Filled a n l r o → Filled b r o r′ o′ → Filled (a ++ b) n l r′ o′
+fill-then {a} {b} {n} {r} {r′} {l} {o} {o′} v w =
+    let e : n + length (bytes a) + length (bytes b) ≡ n + (length (bytes a) + length (bytes b)) = omega arith in
+    record {
+      place = rw (bytes-append a b, length-append (bytes a) (bytes b)) (w .place ∙ ap (λ (x : ℕ). x + length (bytes b)) (v .place) ∙ e);
+      holds = rw (bytes-append a b, sets-append l n (bytes a) (bytes b), ← v .holds, ← v .place) (w .holds);
+    }
+
+pub fill-none : (n : ℕ) (l : List ℕ) → Filled [] n l n l
+unfolding bytes
+fill-none n l = record { place = sym (add-zero n); holds = refl }
+
+-- a demand stores nothing, and is met
+pub skip : (f : Fault) (ok : Bool) {q : List Act} {n r : ℕ} {l o : List ℕ} → Filled q n l r o → Filled (demand f ok ∷ q) n l r o
+unfolding bytes
+skip f ok w = record { place = w .place; holds = w .holds }
+
+pub unskip : {f : Fault} {ok : Bool} {q : List Act} {n : ℕ} {l : List ℕ} → Ready (demand f ok ∷ q) n l → Ready q n l
+unfolding bytes clean
+unskip {ok = ok} {q} h = record { sound = and-both ok (clean q) (h .sound) .1; room = h .room }
+
+pub demanded : {f : Fault} {ok : Bool} {q : List Act} {n : ℕ} {l : List ℕ} → Ready (demand f ok ∷ q) n l → ok ≡ true
+unfolding clean
+demanded {ok = ok} {q} h = and-both ok (clean q) (h .sound) .0
+
+-- ---- a byte
+
+-- its fields fit, and there is room for it
+pub byte-ready : {fs : List Field} {q : List Act} {n : ℕ} {l : List ℕ} → Ready (byte fs ∷ q) n l → (fit fs ≡ true) × (n < length l)
+unfolding bytes clean
+byte-ready {fs} {q} h = (and-both (fit fs) (clean q) (h .sound) .0, omega (arith, h .room))
+
+pub byte-put : {fs : List Field} {n r b : ℕ} {l o : List ℕ} → b ≡ join 0 fs → r ≡ n + 1 → o ≡ set l n b → Filled (byte fs ∷ []) n l r o
+unfolding bytes
+byte-put e h g = record { place = h; holds = g ∙ rw e }
+
+-- ---- a part of the store, copied byte by byte
+
+module _ (f k : ℕ) (s : List ℕ) (h : f + k ≤ length s) where
+  pub slice-long : length (slice f (f + k) s) ≡ k
+  slice-long = length-slice f (f + k) s h ∙ omega arith
+
+  -- a turn of the loop, and its end
+  pub copy-turn : (o : List ℕ) (n i : ℕ) → i < k
+      → sets o (n + i) (drop i (slice f (f + k) s))
+      ≡ sets (set o (n + i) (getD s (f + i) 0)) (n + (i + 1)) (drop (i + 1) (slice f (f + k) s))
+  copy-turn o n i l =
+      let e : getD (slice f (f + k) s) i 0 ≡ getD s (f + i) 0 =
+      getD-drop f (take (f + k) s) i 0 ∙ getD-take (f + k) s (f + i) 0 (omega arith) in
+      rw (← e) (sets-turn o (slice f (f + k) s) n i (omega (arith, slice-long)))
+
+  pub copy-end : (o : List ℕ) (n i : ℕ) → k ≤ i → sets o (n + i) (drop i (slice f (f + k) s)) ≡ o
+  copy-end o n i l = sets-end o (slice f (f + k) s) (n + i) i (omega (arith, slice-long))
+
+  -- what the copy gives and requires in the fill pass, and what its length gives in the check pass
+  pub run-good : {n : ℕ} {o o′ : List ℕ} → sets o n (slice f (f + k) s) ≡ o′ → Filled (copy (slice f (f + k) s) ∷ []) n o (n + k) o′
+  unfolding bytes
+  run-good e = record { place = rw (append-nil, slice-long); holds = rw append-nil (sym e) }
+
+  pub run-room : {n : ℕ} {l : List ℕ} → Ready (copy (slice f (f + k) s) ∷ []) n l → n + k ≤ length l
+  unfolding bytes
+  run-room r = rw (append-nil, slice-long) at (r .room)
+
+  pub run-looked : {p r : Pen} → CheckedRun k p r → Checked (copy (slice f (f + k) s) ∷ []) k p r
+  run-looked w = w .of (slice f (f + k) s) slice-long
+
+-- ---- a loop over rows
+
+pub rows-turn : (f : ℕ → List Act) (i n : ℕ) → i < n → rows f i (n - i) ≡ f i ++ rows f (i + 1) (n - (i + 1))
+unfolding rows
+rows-turn f i n h = let e : n - i ≡ suc (n - (i + 1)) = omega arith in rw e
+
+pub rows-end : (f : ℕ → List Act) (i n : ℕ) → n ≤ i → rows f i (n - i) ≡ []
+unfolding rows
+rows-end f i n h = let e : n - i ≡ 0 = omega arith in rw e
+
+-- within a loop: all the actions, from where it began, come to what is left of them, from here
+pub record Checking (all left : List Act) (k : ℕ) (p q : Pen) : Type 0 where
+  pub whole : looks all p ≡ looks left q
+  pub near : reach q ≤ reach p + k
+
+pub check-start : (a : List Act) (p : Pen) → Checking a a 0 p p
+check-start a p = record { whole = refl; near = omega arith }
+
+pub check-turn : {all left rest a : List Act} {k j : ℕ} {p q q′ : Pen} (k′ : ℕ)
+    → Checking all left k p q → left ≡ a ++ rest → Checked a j q q′ → k + j ≤ k′ → Checking all rest k′ p q′
+check-turn {rest = rest} {a} {q = q} k′ v e w h =
+    record { whole = v .whole ∙ rw (e, looks-append a rest q, ← w .pens); near = omega (arith, v .near, w .near) }
+
+pub check-end : {all left : List Act} {k : ℕ} {p q : Pen} (k′ : ℕ) → Checking all left k p q → left ≡ [] → k ≤ k′ → Checked all k′ p q
+unfolding looks
+check-end k′ v e h = record { pens = sym (v .whole ∙ rw e); near = omega (arith, v .near) }
+
+pub check-stop : {all left : List Act} {k : ℕ} {p q : Pen} {f : Fault} {n : ℕ} (k′ : ℕ)
+    → Checking all left k p q → q ≡ Stop f n → k ≤ k′ → Checked all k′ p q
+check-stop {left = left} {f = f} {n} k′ v e h = record { pens = sym (v .whole ∙ rw (e, stuck left f n)); near = omega (arith, v .near) }
+
+pub record Filling (all left : List Act) (n₀ : ℕ) (l : List ℕ) (n : ℕ) (o : List ℕ) : Type 0 where
+  pub ready : Ready left n o
+  pub size : length o ≡ length l
+  pub place : n₀ + length (bytes all) ≡ n + length (bytes left)
+  pub whole : sets l n₀ (bytes all) ≡ sets o n (bytes left)
+
+pub fill-start : {q : List Act} {n : ℕ} {l : List ℕ} → Ready q n l → Filling q q n l n l
+fill-start r = record { ready = r; size = refl; place = refl; whole = refl }
+
+pub fill-row : {all left : List Act} (a rest : List Act) {n₀ n : ℕ} {l o : List ℕ}
+    → Filling all left n₀ l n o → left ≡ a ++ rest → Ready a n o
+fill-row a rest v e = first a rest (rw e at (v .ready))
+
+pub fill-turn : {all left rest a : List Act} {n₀ n r : ℕ} {l o o′ : List ℕ}
+    → Filling all left n₀ l n o → left ≡ a ++ rest → length o′ ≡ length o → Filled a n o r o′ → Filling all rest n₀ l r o′
+fill-turn {left = left} {rest} {a} {n₀} {n} {r} {l} {o} {o′} v e s w =
+    let b : bytes left ≡ bytes a ++ bytes rest = ap bytes e ∙ bytes-append a rest in
+    let t : length (bytes left) ≡ length (bytes a) + length (bytes rest) = ap length b ∙ length-append (bytes a) (bytes rest) in
+    record {
+      ready = onward (rw e at (v .ready)) s w;
+      size = s ∙ v .size;
+      place = omega (arith, v .place, w .place);
+      whole = v .whole ∙ rw (b, sets-append o n (bytes a) (bytes rest), ← w .holds, ← w .place);
+    }
+
+pub fill-end : {all left : List Act} {n₀ n : ℕ} {l o : List ℕ} → Filling all left n₀ l n o → left ≡ [] → Filled all n₀ l n o
+unfolding bytes
+fill-end {all} {n₀ = n₀} {n} v e =
+    let p : n₀ + length (bytes all) ≡ n = rw (e, add-zero) at (v .place) in
+    record { place = sym p; holds = sym (rw e at (v .whole)) }
+
+-- ---- what the actions settle to is what the check pass finds
+
+abbrev Told : ℕ → List Act → Settled → Pen → Type 0
+Told n q (fault f m) p = p ≡ Stop f m
+Told n q (image b) p = (p ≡ At (n + length b)) × (b ≡ bytes q) × (clean q ≡ true)
+
+ahead-told : (n : ℕ) (v : List ℕ) (q : List Act) (x : Settled) (p : Pen) → Told (n + length v) q x p
+    → (r : List Act) → bytes r ≡ v ++ bytes q → clean r ≡ clean q → Told n r (ahead v x) p
+unfolding ahead
+ahead-told n v q (fault f m) p h r e g = h
+ahead-told n v q (image b) p h r e g =
+    let i : n + (length v + length b) ≡ n + length v + length b = omega arith in
+    (rw (length-append v b, i) (h .0), rw (h .1) (sym e), g ∙ h .2)
+
+told : (q : List Act) (n : ℕ) → Told n q (settle q n) (looks q (At n))
+unfolding settle looks glance look bytes clean
+told [] n = (rw add-zero, refl, refl)
+told (demand f true ∷ q) n = met (settle q n) (told q n)
+  where
+    met : (x : Settled) → Told n q x (looks q (At n)) → Told n (demand f true ∷ q) x (looks q (At n))
+    met (fault f m) h = h
+    met (image b) h = h
+told (demand f false ∷ q) n = stuck q f n
+told (byte fs ∷ q) n = by-fit (fit fs) refl (told q (n + 1))
+  where
+    by-fit : (b : Bool) → fit fs ≡ b → Told (n + 1) q (settle q (n + 1)) (looks q (At (n + 1)))
+        → Told n (byte fs ∷ q) (pick b (ahead (join 0 fs ∷ []) (settle q (n + 1))) (fault F.Field n))
+        (looks q (pick b (At (n + 1)) (Stop F.Field n)))
+    by-fit true i h = ahead-told n (join 0 fs ∷ []) q (settle q (n + 1)) _ h (byte fs ∷ q) refl (rw i)
+    by-fit false i h = stuck q F.Field n
+told (copy v ∷ q) n = ahead-told n v q (settle q (n + length v)) _ (told q (n + length v)) (copy v ∷ q) refl refl
+
+-- the check pass came to the end, at n
+pub record Image (q : List Act) (n : ℕ) : Type 0 where
+  pub settles : settle q 0 ≡ image (bytes q)
+  pub long : length (bytes q) ≡ n
+  pub sound : clean q ≡ true
+
+module _ {q : List Act} {k : ℕ} {p : Pen} (w : Checked q k (At 0) p) where
+  pub imaged : {n : ℕ} → p ≡ At n → Image q n
+  imaged {n} e = go (settle q 0) refl (told q 0)
+    where
+      go : (x : Settled) → settle q 0 ≡ x → Told 0 q x (looks q (At 0)) → Image q n
+      go (fault f m) g h = let z : _≡_ {A = ℕ} 0 1 = cc (w .pens, h, e) in absurd (omega arith)
+      go (image b) g h =
+          let m : At n ≡ At (0 + length b) = cc (w .pens, h .0, e) in
+          let i : n ≡ 0 + length b = cc m in
+          record { settles = g ∙ ap image (h .1); long = rw (← h .1) (omega arith); sound = h .2 }
+
+  pub stopped-at : {f : Fault} {n : ℕ} → p ≡ Stop f n → settle q 0 ≡ fault f n
+  stopped-at {f} {n} e = go (settle q 0) refl (told q 0)
+    where
+      go : (x : Settled) → settle q 0 ≡ x → Told 0 q x (looks q (At 0)) → settle q 0 ≡ fault f n
+      go (fault f′ m) g h =
+          let i : Stop f n ≡ Stop f′ m = cc (w .pens, h, e) in
+          let a : f ≡ f′ = cc i in
+          let b : n ≡ m = cc i in
+          cc
+      go (image b) g h = let z : _≡_ {A = ℕ} 0 1 = cc (w .pens, h .0, e) in absurd (omega arith)
+
+  -- the fill pass may begin
+  pub to-fill : {out : List ℕ} {n : ℕ} → p ≡ At n → n ≤ length out → Ready q 0 out
+  to-fill e g = let i = imaged e in record { sound = i .sound; room = omega (arith, i .long) }
+
+-- and leaves the bytes at the front, and the output as it was behind them
+pub filled-front : {q : List Act} {out out′ : List ℕ} {r : ℕ} → Filled q 0 out r out′ → length (bytes q) ≤ length out
+    → out′ ≡ bytes q ++ drop (length (bytes q)) out
+filled-front {q} {out} v h =
+    let z : 0 + length (bytes q) ≡ length (bytes q) = zero-add (length (bytes q)) in
+    v .holds ∙ sets-eq (bytes q) out 0 (omega arith) ∙ rw z

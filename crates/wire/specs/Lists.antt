@@ -1,0 +1,14 @@
+-- Every element of a list, as data, so that what it speaks of is read off; bytes and columns.
+use Prim.Native.Nat.{ℕ, _<_}
+use mathlib.Core.List.{List, [], _∷_}
+
+module _ {A : Type 0} (P : A → Type 0) where
+  pub data Every : List A → Type 0 where
+    all-nil : Every []
+    all-cons : {x : A} {xs : List A} → P x → Every xs → Every (x ∷ xs)
+
+abbrev pub Byte : ℕ → Type 0
+Byte b = b < 256
+
+abbrev pub Column : ℕ → Type 0
+Column c = c < 65536
