@@ -9,7 +9,7 @@ use native.Mathlib.Omega.{arith}
 use native.Mathlib.Nat.{le-trans}
 use lib.ListN.{length, drop, getD, drop-of-length-le}
 use lib.Dec.{leb}
-use borrow.Author.Tests.{leb-true}
+use borrow.Author.Tests.{leb-true, leb-false}
 use Rattle.wire.specs.Prog.{done, run, span, Inside, passed}
 use Rattle.wire.specs.declared.rows.Payload.{Payload}
 use Rattle.wire.specs.Act.{Settled, fault, image, settle}
@@ -26,7 +26,8 @@ use Rattle.frame.proofs.Judged.{not-refused, answers, judged, ran-well,
 use Rattle.frame.proofs.Lawful.{Lawful, Samples}
 use Rattle.frame.proofs.More.{end-within, more-measured, more-tallied, too-long-refused, more-bytes, alike}
 use Rattle.frame.proofs.Room.{more-room}
-use Rattle.frame.proofs.Round.{put-image, round, rewrites}
+use Rattle.frame.proofs.Output.{put-done, put-short, put-long}
+use Rattle.frame.proofs.Round.{round, rewrites}
 
 -- ---- the output
 
@@ -40,9 +41,9 @@ put-view (fault f m) out = keeps (W.Wrong f m) (λ n e. not-refused (sym e)) ref
 put-view (image b) out = go (leb (length b) 65535) refl (leb (length b) (length out)) refl
   where
     go : (p : Bool) → leb (length b) 65535 ≡ p → (q : Bool) → leb (length b) (length out) ≡ q → Put (image b) out
-    go true h true g = writes b refl (leb-true _ _ h) (put-image out b (leb-true _ _ h) (leb-true _ _ g))
-    go true h false g = keeps (W.NoRoom (length b)) (λ n e. not-refused (sym e)) (rw (h, g, put) refl)
-    go false h q g = keeps (W.TooLong (length b)) (λ n e. not-refused (sym e)) (rw (h, put) refl)
+    go true h true g = writes b refl (leb-true _ _ h) (put-done out b refl (leb-true _ _ h) (leb-true _ _ g))
+    go true h false g = keeps (W.NoRoom (length b)) (λ n e. not-refused (sym e)) (put-short out b refl (leb-true _ _ h) (leb-false _ _ g))
+    go false h q g = keeps (W.TooLong (length b)) (λ n e. not-refused (sym e)) (put-long out b refl (leb-false _ _ h))
 
 module _ {Tree Top Value : Type 0} (K : Kind Tree Top Value) where
   as-written : (top : Top) (lent : Lent) (store out : List ℕ) (n : ℕ) → writing K top lent store out .answer ≡ accepted n

@@ -29,6 +29,7 @@ use Rattle.frame.specs.Entry.{no-room, Outcome, leaves, Sound, Need, nee
 use Rattle.frame.specs.Claims.{Image, Meaning, meaning, Lendable, Writable, Room, Round}
 use Rattle.frame.proofs.Judged.{answers, judged, Ran, ran-well, View, is-read, lacks, is-short, is-long, view, reads-so, lacks-so, Was, was}
 use Rattle.frame.proofs.Lawful.{top-of, Lawful}
+use Rattle.frame.proofs.Output.{put-done}
 
 -- the trailing run, found again in the body
 run-found : (bs rest : List ℕ) → slice (length bs) (length bs + length rest) (bs ++ rest) ≡ rest
@@ -36,10 +37,6 @@ run-found bs rest = rw (← length-append bs rest, take-length (bs ++ rest)) (dr
 
 the-tail : (bs rest : List ℕ) → tail (length bs) (bs ++ rest) ≡ span (length bs) (length rest)
 the-tail bs rest = let e : length (bs ++ rest) - length bs ≡ length rest = omega (arith, length-append bs rest) in ap (λ (n : ℕ). span (length bs) n) e
-
-pub put-image : (out b : List ℕ) → length b ≤ 65535 → length b ≤ length out → put out (image b) ≡ puts (W.Done (length b)) (b ++ drop (length b) out)
-unfolding put
-put-image out b h g = rw (le-leb (length b) 65535 h, le-leb (length b) (length out) g, put) refl
 
 -- ---- tables of columns stay tables of columns
 
@@ -255,7 +252,7 @@ module _ {Tree Top Value : Type 0} (K : Kind Tree Top Value) where
     unfolding writing
     rewrites body lent top after out b e h =
         let w = was K body lent top after e in
-        rw (of-read body lent top after b w .image-is) (put-image out body (ran-well K body (w .sound) (w .judges) .within) h)
+        rw (of-read body lent top after b w .image-is) (put-done out body refl (ran-well K body (w .sound) (w .judges) .within) h)
 
     pub round : Round K
     round = record {

@@ -4,6 +4,7 @@ pub mod Runs
 pub mod Blind
 pub mod Takes
 pub mod Steps
+pub mod Walk
 pub mod Loops
 pub mod Acts
 pub mod Passes

@@ -1,4 +1,4 @@
--- Walking a program a read at a time: what code has to show at a read, at a row, and around a loop that measures or fills a list.
+-- Loops over a counted list: what code has to show at a row, and around a loop that measures or fills.
 use Prim.Native.Nat.{ℕ, suc, zero, _+_, _-_, _*_, _≤_, _<_}
 use mathlib.Core.Path.{_≡_, refl, ap, _∙_, sym}
 use mathlib.Core.List.{List, [], _∷_, _++_, flatMap}
@@ -10,38 +10,13 @@ use lib.Seq.{sets, length-sets}
 use Rattle.wire.specs.declared.reads.Short.{Short}
 use Rattle.wire.specs.Prog.{Prog, ret, Out, done, short, run, _>>=_, many}
 use Rattle.wire.specs.Reads.{shortOf, endOf, isDone, posOf, rowsOf}
-use Rattle.wire.proofs.Runs.{andThen, run-bind, extent}
+use Rattle.wire.proofs.Runs.{andThen, run-bind}
+use Rattle.wire.proofs.Walk.{step, halt, ends, undo}
 use Rattle.wire.proofs.Steps.{sets-append}
-
-never : {A X : Type 0} {x : Short} {n : ℕ} {a : A} → short x ≡ done a n → X
-never e = let z : _≡_ {A = ℕ} 0 1 = cc in absurd (omega arith)
-
--- p is done: go on
-pub step : {A B : Type 0} (p : Prog A) (f : A → Prog B) (s : List ℕ) (at : ℕ) {n : ℕ} {a : A} {o : Out A} → o ≡ run p s at → o ≡ done a n → run (p >>= f) s at ≡ run (f a) s n
-step {A} p f s at e d = run-bind p f s at ∙ ap (λ (x : Out A). andThen x (λ a k. run (f a) s k)) (sym e ∙ d)
-
--- p is short: so is the whole
-pub halt : {A B : Type 0} (p : Prog A) (f : A → Prog B) (s : List ℕ) (at : ℕ) {x y : Short} {o : Out A} → o ≡ run p s at → o ≡ short x → y ≡ shortOf o → run (p >>= f) s at ≡ short y
-halt {A} p f s at e d h = run-bind p f s at ∙ ap (λ (x : Out A). andThen x (λ a k. run (f a) s k)) (sym e ∙ d) ∙ ap short (sym (h ∙ ap shortOf d))
-
-pub ends : {A : Type 0} (p : Prog A) (s : List ℕ) (at : ℕ) {n : ℕ} {a : A} {o : Out A} → at ≤ length s → o ≡ run p s at → o ≡ done a n → n ≤ length s
-ends p s at h e d = extent p s at (sym e ∙ d) h .1
-
-pub run-ret : {A : Type 0} (a : A) (s : List ℕ) (at : ℕ) → run (ret a) s at ≡ done a at
-unfolding run
-run-ret a s at = refl
 
 pub end-done : {A : Type 0} (o : Out (List A)) {n : ℕ} → done tt n ≡ endOf o → o ≡ done (rowsOf o) n
 end-done (done l m) e = cc
 end-done (short m) e = let z : _≡_ {A = ℕ} 0 1 = cc in absurd (omega arith)
-
-then-done : {A B : Type 0} (o : Out A) (f : A → Prog B) (s : List ℕ) {b : B} {m : ℕ} → andThen o (λ a k. run (f a) s k) ≡ done b m → (a : A) × (n : ℕ) × (o ≡ done a n) × (run (f a) s n ≡ done b m)
-then-done (done a n) f s e = (a, n, refl, e)
-then-done (short n) f s e = never e
-
--- a run that is done, taken apart
-pub undo : {A B : Type 0} (p : Prog A) (f : A → Prog B) (s : List ℕ) (at : ℕ) {b : B} {m : ℕ} → run (p >>= f) s at ≡ done b m → (a : A) × (n : ℕ) × (run p s at ≡ done a n) × (run (f a) s n ≡ done b m)
-undo p f s at e = then-done (run p s at) f s (sym (run-bind p f s at) ∙ e)
 
 pub is-done : {A : Type 0} {o : Out A} {a : A} {n : ℕ} → o ≡ done a n → isDone o ≡ true
 is-done e = ap isDone e

@@ -1,0 +1,19 @@
+use borrow.Author.Needs.{needs}
+use Rattle.base.proofs.rows.MpegH3dAudio.new.Statement.{statement}
+use Rattle.base.proofs.rows.MpegH3dAudio.new.Tie as tie
+use Rattle.base.proofs.rows.MpegH3dAudio.new.Reads as reads
+use Rattle.base.proofs.rows.MpegH3dAudio.new.Lts as lts
+use Rattle.wire.proofs.bits.ones.Reads as ones-reads
+
+ones-requires : tie.Need-ones-requires
+ones-requires c κs = search needs
+
+ones-requires-2 : tie.Need-ones-requires-2
+ones-requires-2 c κs = search needs
+
+returns : tie.Need-returns
+returns c =
+    cc
+
+pub new-spec : {M : Type 1} → statement M
+new-spec = tie.close (tie.spec ones-requires ones-requires-2 returns)

@@ -1,0 +1,43 @@
+use Rattle.base.specs.Tally.{tally}
+use borrow.Author.Needs.{needs}
+use Rattle.base.proofs.zero_bits.Statement.{statement}
+use Rattle.base.proofs.zero_bits.Tie as tie
+use Rattle.base.proofs.zero_bits.Reads as reads
+use Rattle.base.proofs.zero_bits.Lts as lts
+use Rattle.wire.proofs.bits.wide.Reads as wide-reads
+use Rattle.wire.proofs.bits.zero_bits.Reads as zero-bits-reads
+
+wide-requires : tie.Need-wide-requires
+wide-requires c κs = search needs
+
+zero-bits-requires : tie.Need-zero-bits-requires
+zero-bits-requires c κs = search needs
+
+wide-requires-2 : tie.Need-wide-requires-2
+wide-requires-2 c κs = search needs
+
+zero-bits-requires-2 : tie.Need-zero-bits-requires-2
+zero-bits-requires-2 c κs = search needs
+
+add-result : tie.Need-add-result
+add-result c = search needs
+
+cast-result : tie.Need-cast-result
+cast-result c = search needs
+
+returns : tie.Need-returns
+unfolding tally
+returns c =
+    cc
+
+pub zero-bits-spec : {M : Type 1} → statement M
+zero-bits-spec =
+    tie.close
+    (tie.spec
+    wide-requires
+    zero-bits-requires
+    wide-requires-2
+    zero-bits-requires-2
+    add-result
+    cast-result
+    returns)

@@ -1,0 +1,34 @@
+-- The top record of the base body: its compatible sets, its trailing run, and the bounds that its types set.
+use Prim.Native.Nat.{ℕ}
+use mathlib.Core.List.{List, [], _∷_}
+use mathlib.Core.Bool.{true, false}
+use Rattle.wire.specs.Prog.{span}
+use Rattle.wire.specs.declared.rows.Payload.{Payload}
+use Rattle.frame.specs.Kind.{Bound}
+use Rattle.base.specs.declared.rows.CompatibleSets.{CompatibleSets}
+use Rattle.base.specs.declared.rows.MpegH3dAudio.{MpegH3dAudio}
+
+abbrev pub absentSets : CompatibleSets
+absentSets = record { present = false; indications = span 0 0 }
+
+abbrev pub listedSets : Payload → CompatibleSets
+listedSets p = record { present = true; indications = p }
+
+abbrev pub retrail : MpegH3dAudio → Payload → MpegH3dAudio
+retrail m r = record {
+  «profile_level_indication» = m .«profile_level_indication»;
+  «interactivity_enabled» = m .«interactivity_enabled»;
+  «compatible_sets» = m .«compatible_sets»;
+  «reserved_flags» = m .«reserved_flags»;
+  «reserved_layout» = m .«reserved_layout»;
+  «reference_channel_layout» = m .«reference_channel_layout»;
+  trailing = r;
+}
+
+abbrev pub below : ℕ → ℕ → Bound
+below n x = record { it = x; below = n }
+
+unfoldable pub bounds : MpegH3dAudio → List Bound
+bounds m =
+    below 256 (m .«profile_level_indication») ∷ below 65536 (m .«compatible_sets» .indications .offset) ∷ below 65536 (m .«compatible_sets» .indications .length)
+    ∷ below 256 (m .«reserved_flags») ∷ below 256 (m .«reserved_layout») ∷ below 256 (m .«reference_channel_layout») ∷ below 65536 (m .trailing .offset) ∷ below 65536 (m .trailing .length) ∷ []

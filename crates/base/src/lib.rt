@@ -1,0 +1,80 @@
+// The base body (kind 1; H.222.0 2.6.106, Table 2-121): read, measure, tally and write.
+pub mod parsing;
+pub mod rows;
+
+ghost use mathlib.Core.Path.{_≡_};
+ghost use mathlib.Core.List.{[]};
+ghost use Prim.Native.Nat.{_<_};
+ghost use Rattle.frame.specs.Numbers.{tallied};
+ghost use Rattle.frame.specs.Entry.{Reads, Measures, Tallies};
+ghost use Rattle.base.specs.Tally.{tally};
+ghost use Rattle.base.specs.Write.{kind};
+ghost use Rattle.base.specs.Contract.{read, measured};
+use frame::Refusal;
+use frame::Tallied;
+use parsing::Judged;
+use rows::MpegH3dAudio;
+use wire::bits;
+
+// What reading answers: the top record, its trailing run included.
+pub enum Reading {
+    Done(MpegH3dAudio),
+    Refused(Refusal),
+}
+
+// What a body needs: the base has no tables, so only k, the bytes before the trailing run.
+pub struct Sizes {
+    pub k: usize,
+}
+
+pub enum Measured {
+    Done(Sizes),
+    Refused(Refusal),
+}
+
+// The record of a body, or 2, or 1.
+pub fn read(body: &[u8]) -> Reading
+    ensures { λ r. ⌜ Reads kind (now (body .entry)) [] (read r) [] ⌝ }
+{
+    let j = parsing::judge(body);
+    match j {
+        Judged::Sound(m, k) => {
+            let mut done = m;
+            done.trailing = wire::rows::trailing_run(k, body.len());
+            Reading::Done(done)
+        }
+        Judged::Refused(r) => Reading::Refused(r),
+    }
+}
+
+// What the body needs, or 2, or 1.
+pub fn measure(body: &[u8]) -> Measured
+    ensures { λ r. ⌜ Measures kind (now (body .entry)) (measured r) ⌝ }
+{
+    let j = parsing::judge(body);
+    match j {
+        Judged::Sound(_, k) => Measured::Done(Sizes { k }),
+        Judged::Refused(r) => Measured::Refused(r),
+    }
+}
+
+// The reserved bits at 0, or 2, or 1.
+pub fn tally(body: &[u8]) -> Tallied
+    ensures { λ r. ⌜ Tallies kind (now (body .entry)) (tallied r) ⌝ }
+{
+    let j = parsing::judge(body);
+    match j {
+        Judged::Sound(m, _) => Tallied::Done(zero_bits(m)),
+        Judged::Refused(r) => Tallied::Refused(r),
+    }
+}
+
+// The reserved bits at 0 of a record whose fields fit.
+fn zero_bits(m: MpegH3dAudio) -> usize
+    requires { ⌜ (m .«reserved_flags» < 64) × (m .«reserved_layout» < 4) ⌝ }
+    ensures { λ r. ⌜ r ≡ tally m ⌝ }
+{
+    let flags = bits::zero_bits(bits::wide(m.reserved_flags), 6);
+    let layout = bits::zero_bits(bits::wide(m.reserved_layout), 2);
+    (flags + layout) as usize
+}
