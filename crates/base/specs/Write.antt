@@ -6,7 +6,7 @@ use mathlib.Core.Option.{Option, none, some}
 use lib.ListN.{length}
 use lib.Seq.{slice}
 use lib.Dec.{leb}
-use Rattle.wire.specs.Bits.{bit, field}
+use Rattle.wire.specs.Bits.{bit, Field, field}
 use Rattle.wire.specs.Prog.{span}
 use Rattle.wire.specs.Act.{Act, demand, byte, copy, when, pick}
 use Rattle.wire.specs.declared.pen.Fault.the-variants as F
@@ -29,12 +29,18 @@ listed s store = slice (s .indications .offset) (s .indications .offset + s .ind
 unfoldable pub setsActs : CompatibleSets → List ℕ → List Act
 setsActs s l = when (s .present) (byte (field 8 (s .indications .length) ∷ []) ∷ copy l ∷ [])
 
+abbrev pub flagsByte : MpegH3dAudio → List Field
+flagsByte m = field 1 (bit (m .«interactivity_enabled»)) ∷ field 1 (bit (not (m .«compatible_sets» .present))) ∷ field 6 (m .«reserved_flags») ∷ []
+
+abbrev pub layoutByte : MpegH3dAudio → List Field
+layoutByte m = field 2 (m .«reserved_layout») ∷ field 6 (m .«reference_channel_layout») ∷ []
+
 unfoldable pub acts : MpegH3dAudio → Lent → List ℕ → List Act
 acts m lent store =
     demand F.Range (inside (m .«compatible_sets») store)
     ∷ byte (field 8 (m .«profile_level_indication») ∷ [])
-    ∷ byte (field 1 (bit (m .«interactivity_enabled»)) ∷ field 1 (bit (not (m .«compatible_sets» .present))) ∷ field 6 (m .«reserved_flags») ∷ [])
-    ∷ byte (field 2 (m .«reserved_layout») ∷ field 6 (m .«reference_channel_layout») ∷ [])
+    ∷ byte (flagsByte m)
+    ∷ byte (layoutByte m)
     ∷ setsActs (m .«compatible_sets») (listed (m .«compatible_sets») store)
 
 -- ---- the meaning: the Rust's struct

@@ -1,20 +1,23 @@
 // The base body (kind 1; H.222.0 2.6.106, Table 2-121): read, measure, tally and write.
 pub mod parsing;
 pub mod rows;
+pub mod writing;
 
 ghost use mathlib.Core.Path.{_≡_};
 ghost use mathlib.Core.List.{[]};
 ghost use Prim.Native.Nat.{_<_};
-ghost use Rattle.frame.specs.Numbers.{tallied};
-ghost use Rattle.frame.specs.Entry.{Reads, Measures, Tallies};
+ghost use Rattle.frame.specs.Numbers.{tallied, written};
+ghost use Rattle.frame.specs.Entry.{Reads, Measures, Tallies, Writes};
 ghost use Rattle.base.specs.Tally.{tally};
 ghost use Rattle.base.specs.Write.{kind};
 ghost use Rattle.base.specs.Contract.{read, measured};
 use frame::Refusal;
 use frame::Tallied;
+use frame::Written;
 use parsing::Judged;
 use rows::MpegH3dAudio;
 use wire::bits;
+use wire::pen::Pen;
 
 // What reading answers: the top record, its trailing run included.
 pub enum Reading {
@@ -77,4 +80,24 @@ fn zero_bits(m: MpegH3dAudio) -> usize
     let flags = bits::zero_bits(bits::wide(m.reserved_flags), 6);
     let layout = bits::zero_bits(bits::wide(m.reserved_layout), 2);
     (flags + layout) as usize
+}
+
+// Writes the value at the front of the output, its payloads taken from the store: first the faults, then 10, then 4.
+pub fn write(m: MpegH3dAudio, store: &[u8], out: &mut [u8]) -> Written
+    ensures { λ r. ⌜ Writes kind m [] (now (store .entry)) (now (out .entry)) (written r) (now (out .exit)) ⌝ }
+{
+    let p = writing::check(m, store);
+    match p {
+        Pen::Stop(fault, place) => Written::Wrong(fault, place),
+        Pen::At(n) => {
+            if 65535 < n {
+                return Written::TooLong(n);
+            }
+            if out.len() < n {
+                return Written::NoRoom(n);
+            }
+            writing::fill(m, store, out);
+            Written::Done(n)
+        }
+    }
 }

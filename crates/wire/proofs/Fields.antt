@@ -3,7 +3,7 @@
 use Prim.Native.Nat.{ℕ, suc, _+_, _*_, _-_, _/_, _%_, _^_, _≤_, _<_}
 use mathlib.Core.Path.{_≡_, refl, sym, ap, _∙_}
 use mathlib.Core.List.{List, [], _∷_}
-use mathlib.Core.Bool.{Bool, true, false, and-eq-true-iff}
+use mathlib.Core.Bool.{Bool, true, false, and-eq-true-iff, and-true}
 use native.Mathlib.Omega.{arith}
 use native.Mathlib.Nat.{mod-eq-of-lt, mod-lt, div-eq-of-lt, div-lt-iff-lt-mul, div-one, mul-add-div-right, mul-add-mod-self-right}
 use native.Mathlib.Nat.{zero-mul, zero-add, one-mul, mul-assoc, suc-mul, mul-le-mul-right, lt-of-lt-of-le}
@@ -52,6 +52,10 @@ fits-cons w v fs e =
 pub cons-fits : (w v : ℕ) (fs : List Field) → v < 2 ^ w → fit fs ≡ true → fit (field w v ∷ fs) ≡ true
 unfolding fit
 cons-fits w v fs h e = rw (lt-ltb v (2 ^ w) h) e
+
+pub fit-one : (w v : ℕ) → ltb v (2 ^ w) ≡ fit (field w v ∷ [])
+unfolding fit
+fit-one w v = sym (and-true (ltb v (2 ^ w)))
 
 -- ---- one field above k bits
 

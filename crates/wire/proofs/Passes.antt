@@ -6,7 +6,7 @@ use mathlib.Core.List.{List, [], _∷_, _++_, append-assoc, append-nil}
 use mathlib.Core.Bool.{Bool, true, false, _&&_, and-eq-true-iff}
 use native.Mathlib.Omega.{arith}
 use native.Mathlib.Nat.{add-zero, zero-add}
-use lib.ListN.{length, set, getD, take, drop, length-append}
+use lib.ListN.{length, set, getD, take, drop, length-append, length-set}
 use lib.Seq.{sets, sets-eq, slice, length-slice, getD-drop, getD-take}
 use Rattle.wire.specs.Bits.{Field, fit, join}
 use Rattle.wire.specs.Act.{Act, demand, byte, copy, pick, rows, Settled, fault, image, ahead, settle}
@@ -207,6 +207,18 @@ fill-turn {left = left} {rest} {a} {n₀} {n} {r} {l} {o} {o′} v e s w =
       place = omega (arith, v .place, w .place);
       whole = v .whole ∙ rw (b, sets-append o n (bytes a) (bytes rest), ← w .holds, ← w .place);
     }
+
+-- straight on: a demand, which stores nothing, and a byte
+pub fill-demand : {all q : List Act} {f : Fault} {ok : Bool} {n₀ n : ℕ} {l o : List ℕ} → Filling all (demand f ok ∷ q) n₀ l n o → Filling all q n₀ l n o
+unfolding bytes
+fill-demand v = record { ready = unskip (v .ready); size = v .size; place = v .place; whole = v .whole }
+
+pub fill-byte : {all q : List Act} {fs : List Field} {n₀ n r b : ℕ} {l o o′ : List ℕ} → Filling all (byte fs ∷ q) n₀ l n o → b ≡ join 0 fs → (r ≡ n + 1) × (o′ ≡ set o n b) → Filling all q n₀ l r o′
+fill-byte {n = n} {b = b} {o = o} v e p = fill-turn v refl (ap length (p .1) ∙ length-set o n b) (byte-put e (p .0) (p .1))
+
+-- what is left is filled by one call
+pub fill-last : {all left : List Act} {n₀ n r : ℕ} {l o o′ : List ℕ} → Filling all left n₀ l n o → Filled left n o r o′ → Filled all n₀ l r o′
+fill-last v w = record { place = w .place ∙ sym (v .place); holds = w .holds ∙ sym (v .whole) }
 
 pub fill-end : {all left : List Act} {n₀ n : ℕ} {l o : List ℕ} → Filling all left n₀ l n o → left ≡ [] → Filled all n₀ l n o
 unfolding bytes

@@ -1,0 +1,83 @@
+-- `base::writing::check_fields` meets its contract: the bytes one after the other, behind the range of the sets.
+use mathlib.Core.List.{[], _∷_}
+use mathlib.Core.Path.{_≡_, sym, ap, _∙_}
+use Prim.Native.Nat.{ℕ}
+use native.Mathlib.Omega.{arith}
+use lib.Dec.{ltb}
+use Rattle.wire.specs.Bits.{field}
+use Rattle.wire.specs.Act.{byte}
+use Rattle.wire.specs.Pen.{Checked}
+use Rattle.wire.specs.declared.pen.Pen.the-variants.{At}
+use Rattle.wire.proofs.Fields.{fit-one}
+use Rattle.wire.proofs.Passes.{then, more, passed, refused}
+use Rattle.base.specs.Write.{flagsByte, layoutByte, acts}
+use Rattle.base.proofs.Stored.{listed-long}
+use borrow.Author.Needs.{needs}
+use Rattle.base.proofs.writing.check_fields.Statement.{statement}
+use Rattle.base.proofs.writing.check_fields.Tie as tie
+
+-- the first byte, the first two, all three
+first : (c : tie.After-byte) → Checked (byte (field 8 (c .before .before .before .before .before .before .before .args .m .«profile_level_indication») ∷ []) ∷ []) 1 (At 0) (c .byte .result)
+first c = c .byte .ensures .of (field 8 _ ∷ []) (c .before .fits2 .ensures ∙ ap (λ (v : ℕ). ltb v 256) (c .before .before .wide .ensures) ∙ fit-one 8 _)
+
+second : (c : tie.After-byte2) → Checked (byte (field 8 (c .before .before .before .before .before .before .before .before .before .args .m .«profile_level_indication») ∷ []) ∷ byte (flagsByte (c .before .before .before .before .before .before .before .before .before .args .m)) ∷ []) 2 (At 0) (c .byte2 .result)
+second c = then (first (c .before .before)) (c .byte2 .ensures .of _ (c .before .flags-fit .ensures))
+
+third : (c : tie.After-byte3)
+    → Checked (byte (field 8 (c .before .before .before .before .before .before .before .before .before .before .before .args .m .«profile_level_indication») ∷ []) ∷ byte (flagsByte (c .before .before .before .before .before .before .before .before .before .before .before .args .m)) ∷ byte (layoutByte (c .before .before .before .before .before .before .before .before .before .before .before .args .m)) ∷ []) 3 (At 0) (c .byte3 .result)
+third c = then (second (c .before .before)) (c .byte3 .ensures .of _ (c .before .layout-fits .ensures))
+
+sets-inside-requires : tie.Need-sets-inside-requires
+sets-inside-requires c κs = search needs
+
+wide-requires : tie.Need-wide-requires
+wide-requires c κs = search needs
+
+fits-requires : tie.Need-fits-requires
+fits-requires c κs = search needs
+
+byte-requires : tie.Need-byte-requires
+byte-requires c κs = search needs
+
+flags-fit-requires : tie.Need-flags-fit-requires
+flags-fit-requires c κs = search needs
+
+byte-requires-2 : tie.Need-byte-requires-2
+byte-requires-2 c κs = omega (arith, first (c .before) .near)
+
+layout-fits-requires : tie.Need-layout-fits-requires
+layout-fits-requires c κs = search needs
+
+byte-requires-3 : tie.Need-byte-requires-3
+byte-requires-3 c κs = omega (arith, second (c .before) .near)
+
+check-sets-requires : tie.Need-check-sets-requires
+check-sets-requires c κs = omega (arith, third c .near)
+
+returns : tie.Need-returns
+unfolding acts
+returns c =
+    let sets = c .before .before .before .before .before .before .before .before .before .before .before .before .args .m .«compatible_sets» in
+    let store = c .before .before .before .before .before .before .before .before .before .before .before .before .args .store .now in
+    let e = sym (c .before .before .before .before .before .before .before .before .before .sets-inside .ensures) ∙ c .before .before .before .before .before .before .before .before .if1 .taken in
+    rw e (passed _ 0 (more 65539 (then (third (c .before)) (c .check-sets .ensures .of _ (listed-long sets store e))) (omega arith)))
+
+returns-2 : tie.Need-returns-2
+unfolding acts
+returns-2 c = rw (sym (c .before .sets-inside .ensures) ∙ c .if1 .left) (refused _ 0 _ _)
+
+pub check-fields-spec : {M : Type 1} → statement M
+check-fields-spec =
+    tie.close
+    (tie.spec
+    sets-inside-requires
+    wide-requires
+    fits-requires
+    byte-requires
+    flags-fit-requires
+    byte-requires-2
+    layout-fits-requires
+    byte-requires-3
+    check-sets-requires
+    returns
+    returns-2)

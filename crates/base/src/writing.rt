@@ -1,0 +1,171 @@
+// Writing the base body in two passes, each in the Rust's order: the check pass names the first fault or the length, the fill pass stores the bytes.
+ghost use mathlib.Core.Path.{_≡_};
+ghost use mathlib.Core.Bool.{true};
+ghost use mathlib.Core.List.{[]};
+ghost use Prim.Native.Nat.{_<_, _^_};
+ghost use Rattle.wire.specs.Bits.{fit, Packed};
+ghost use Rattle.wire.specs.Pen.{reach, Checked, Ready, Filled};
+ghost use Rattle.wire.specs.declared.pen.Pen.the-variants.{At};
+ghost use Rattle.frame.specs.Entry.{whole};
+ghost use Rattle.base.specs.Write.{inside, listed, flagsByte, layoutByte, setsActs, acts, kind};
+ghost use Rattle.base.specs.Contract.{CheckedSets};
+use super::rows::CompatibleSets;
+use super::rows::MpegH3dAudio;
+use wire::bits::fits;
+use wire::bits::fits2;
+use wire::bits::fits3;
+use wire::bits::flag;
+use wire::bits::pack2;
+use wire::bits::pack3;
+use wire::bits::wide;
+use wire::pen;
+use wire::pen::Fault;
+use wire::pen::Pen;
+use wire::rows::in_store;
+
+// ---- the two bytes of fields
+
+fn flags_fit(m: MpegH3dAudio) -> bool
+    ensures { λ r. ⌜ r ≡ fit (flagsByte m) ⌝ }
+{
+    let sets = m.compatible_sets;
+    fits3(
+        flag(m.interactivity_enabled),
+        1,
+        flag(!sets.present),
+        1,
+        wide(m.reserved_flags),
+        6,
+    )
+}
+
+fn flags_byte(m: MpegH3dAudio) -> u16
+    requires { ⌜ fit (flagsByte m) ≡ true ⌝ }
+    ensures { λ r. ⌜ Packed (flagsByte m) r ⌝ }
+{
+    let sets = m.compatible_sets;
+    pack3(
+        flag(m.interactivity_enabled),
+        1,
+        flag(!sets.present),
+        1,
+        wide(m.reserved_flags),
+        6,
+    )
+}
+
+fn layout_fits(m: MpegH3dAudio) -> bool
+    ensures { λ r. ⌜ r ≡ fit (layoutByte m) ⌝ }
+{
+    fits2(
+        wide(m.reserved_layout),
+        2,
+        wide(m.reference_channel_layout),
+        6,
+    )
+}
+
+fn layout_byte(m: MpegH3dAudio) -> u16
+    requires { ⌜ fit (layoutByte m) ≡ true ⌝ }
+    ensures { λ r. ⌜ Packed (layoutByte m) r ⌝ }
+{
+    pack2(
+        wide(m.reserved_layout),
+        2,
+        wide(m.reference_channel_layout),
+        6,
+    )
+}
+
+// ---- the check pass
+
+// Whether the sets, if there are any, stand in the store.
+fn sets_inside(sets: CompatibleSets, store: &[u8]) -> bool
+    ensures { λ r. ⌜ r ≡ inside sets (now (store .entry)) ⌝ }
+{
+    if sets.present {
+        let indications = sets.indications;
+        in_store(indications, store)
+    } else {
+        true
+    }
+}
+
+fn check_sets(p: Pen, sets: CompatibleSets) -> Pen
+    requires { ⌜ reach p < 2 ^ 16 ⌝ }
+    ensures { λ r. ⌜ CheckedSets sets p r ⌝ }
+{
+    if sets.present {
+        let count = sets.indications.length;
+        let p1 = pen::byte(p, fits(count, 8));
+        pen::run(p1, count as usize)
+    } else {
+        p
+    }
+}
+
+// All but the trailing run.
+fn check_fields(m: MpegH3dAudio, store: &[u8]) -> Pen
+    ensures { λ r. ⌜ Checked (acts m [] (now (store .entry))) 65539 (At 0) r ⌝ }
+{
+    let sets = m.compatible_sets;
+    if sets_inside(sets, store) {
+        let p1 = pen::byte(Pen::At(0), fits(wide(m.profile_level_indication), 8));
+        let p2 = pen::byte(p1, flags_fit(m));
+        let p3 = pen::byte(p2, layout_fits(m));
+        check_sets(p3, sets)
+    } else {
+        Pen::Stop(Fault::Range, 0)
+    }
+}
+
+// The whole: its first fault, or its length.
+pub fn check(m: MpegH3dAudio, store: &[u8]) -> Pen
+    ensures { λ r. ⌜ Checked (whole kind m [] (now (store .entry))) 131074 (At 0) r ⌝ }
+{
+    let trailing = m.trailing;
+    if in_store(trailing, store) {
+        let count = trailing.length;
+        pen::run(check_fields(m, store), count as usize)
+    } else {
+        Pen::Stop(Fault::Range, 0)
+    }
+}
+
+// ---- the fill pass
+
+fn fill_sets(sets: CompatibleSets, store: &[u8], out: &mut [u8], n: usize) -> usize
+    requires { ⌜ (inside sets (now store) ≡ true) × Ready (setsActs sets (listed sets (now store))) n (now out) ⌝ }
+    ensures { λ r. ⌜ Filled (setsActs sets (listed sets (now (store .entry)))) n (now (out .entry)) r (now (out .exit)) ⌝ }
+{
+    if sets.present {
+        let from = sets.indications.offset;
+        let count = sets.indications.length;
+        let n1 = pen::put(out, n, count);
+        pen::copy(out, n1, store, from as usize, count as usize)
+    } else {
+        n
+    }
+}
+
+// All but the trailing run.
+fn fill_fields(m: MpegH3dAudio, store: &[u8], out: &mut [u8]) -> usize
+    requires { ⌜ Ready (acts m [] (now store)) 0 (now out) ⌝ }
+    ensures { λ r. ⌜ Filled (acts m [] (now (store .entry))) 0 (now (out .entry)) r (now (out .exit)) ⌝ }
+{
+    let sets = m.compatible_sets;
+    let n1 = pen::put(out, 0, wide(m.profile_level_indication));
+    let n2 = pen::put(out, n1, flags_byte(m));
+    let n3 = pen::put(out, n2, layout_byte(m));
+    fill_sets(sets, store, out, n3)
+}
+
+pub fn fill(m: MpegH3dAudio, store: &[u8], out: &mut [u8]) -> usize
+    requires { ⌜ Ready (whole kind m [] (now store)) 0 (now out) ⌝ }
+    ensures { λ r. ⌜ Filled (whole kind m [] (now (store .entry))) 0 (now (out .entry)) r (now (out .exit)) ⌝ }
+{
+    let from = m.trailing.offset;
+    let count = m.trailing.length;
+    let n = fill_fields(m, store, out);
+    pen::copy(out, n, store, from as usize, count as usize)
+}
