@@ -1,2 +1,5 @@
 pub mod Parsed
 pub mod Stored
+pub mod Format
+pub mod Laws
+pub mod Claims

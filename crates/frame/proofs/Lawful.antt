@@ -6,7 +6,7 @@ use mathlib.Core.Option.{Option, none, some}
 use mathlib.Core.Path.{_≡_}
 use lib.ListN.{length}
 use Rattle.wire.specs.Lists.{Every, Byte, Column}
-use Rattle.wire.specs.Prog.{span}
+use Rattle.wire.specs.Prog.{span, Within}
 use Rattle.wire.specs.declared.rows.Payload.{Payload}
 use Rattle.wire.specs.Pen.{clean, bytes}
 use Rattle.wire.proofs.Takes.{Takes}
@@ -24,6 +24,13 @@ module _ {Tree Top Value : Type 0} (K : Kind Tree Top Value) where
   abbrev pub top-of : Tree → List ℕ → List ℕ → Top
   top-of t bs rest = K .top t (span (length bs) (length rest))
 
+  -- what is known of a tree that was read: bs is what the program takes, its payloads stand in the body, and the actions of its meaning meet no fault
+  pub record Taken (format : Codec Tree Value) (t : Tree) (bs rest : List ℕ) : Type 0 where
+    pub takes : Takes (K .program) 0 t bs
+    pub small : Every Byte bs
+    pub inside : Every (Within (bs ++ rest)) (K .payloads t)
+    pub sound : clean (format .acts (format .means (bs ++ rest) t)) ≡ true
+
   pub record Lawful : Type 1 where
     -- the trailing run of a record
     pub run-of : (t : Tree) (r : Payload) → K .trailing (K .top t r) ≡ r
@@ -39,10 +46,10 @@ module _ {Tree Top Value : Type 0} (K : Kind Tree Top Value) where
     -- what stands in the record and the tables means what was read, and is what the code's types can hold
     pub laid : (t : Tree) (bs rest : List ℕ) (lent : Lent) → Takes (K .program) 0 t bs → lacking (needs (K .tables t)) lent ≡ none
         → K .value (top-of t bs rest) (filled (K .tables t) lent) (bs ++ rest) ≡ format .means (bs ++ rest) t
-    pub held : (t : Tree) (bs rest : List ℕ) → Takes (K .program) 0 t bs → Every Byte bs → length (bs ++ rest) ≤ 65535 → Every (λ (x : Bound). x .it < x .below) (K .bounds (top-of t bs rest))
-    pub columns : (t : Tree) (bs : List ℕ) → Takes (K .program) 0 t bs → Every Byte bs → length bs ≤ 65535 → Every (λ (r : Rows). Every (Every Column) (r .rows)) (K .tables t)
+    pub held : (t : Tree) (bs rest : List ℕ) → Taken format t bs rest → length (bs ++ rest) < 65536 → Every (λ (x : Bound). x .it < x .below) (K .bounds (top-of t bs rest))
+    pub columns : (t : Tree) (bs rest : List ℕ) → Taken format t bs rest → length (bs ++ rest) < 65536 → Every (λ (r : Rows). Every (Every Column) (r .rows)) (K .tables t)
     -- what was read is written without a fault
-    pub ready : (t : Tree) (bs rest : List ℕ) (lent : Lent) → Takes (K .program) 0 t bs → Every Byte bs → lacking (needs (K .tables t)) lent ≡ none
+    pub ready : (t : Tree) (bs rest : List ℕ) (lent : Lent) → Taken format t bs rest → lacking (needs (K .tables t)) lent ≡ none
         → clean (K .acts (top-of t bs rest) (filled (K .tables t) lent) (bs ++ rest)) ≡ true
     -- actions without a fault are those of the meaning
     pub fits : (top : Top) (lent : Lent) (store : List ℕ) → clean (K .acts top lent store) ≡ true → format .Fits (K .value top lent store)

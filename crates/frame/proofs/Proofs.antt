@@ -8,6 +8,7 @@ use mathlib.Core.Logic.{_⊎_, inl, inr}
 use native.Mathlib.Omega.{arith}
 use native.Mathlib.Nat.{le-trans}
 use lib.ListN.{length, drop, getD, drop-of-length-le}
+use lib.Seq.{slice, length-slice}
 use lib.Dec.{leb}
 use borrow.Author.Tests.{leb-true, leb-false}
 use Rattle.wire.specs.Prog.{done, run, span, Inside, passed}
@@ -27,7 +28,7 @@ use Rattle.frame.proofs.Lawful.{Lawful, Samples}
 use Rattle.frame.proofs.More.{end-within, more-measured, more-tallied, too-long-refused, more-bytes, alike}
 use Rattle.frame.proofs.Room.{more-room}
 use Rattle.frame.proofs.Output.{put-done, put-short, put-long}
-use Rattle.frame.proofs.Round.{round, rewrites}
+use Rattle.frame.proofs.Round.{passes, round, rewrites}
 
 -- ---- the output
 
@@ -84,16 +85,12 @@ module _ {Tree Top Value : Type 0} (K : Kind Tree Top Value) (L : Lawful K) wher
     | some n ↦ leaves (no-room (n .number) (n .rows)) lent
   ])
 
-  -- the payloads of the tree are what the program passes over
-  passes : (body : List ℕ) (t : Tree) (k : ℕ) → run (K .program) body 0 ≡ done t k → passed (K .program) body 0 ≡ K .payloads t
-  passes body t k e = rw (← L .reads) (L .format .skipped body 0 t k (rw (L .reads) e)) ∙ L .placed t
-
   unseen : (body other : List ℕ) (s : Sound Tree) → judging K body ≡ accepted s → length other ≡ length body
       → ((i : ℕ) → (Inside i (K .payloads (s .tree) ++ (tail (s .before) body ∷ [])) → ⊥) → getD other i 0 ≡ getD body i 0) → judging K other ≡ judging K body
   unfolding reach
   unseen body other s j l g =
       let r = ran-well K body s j in
-      let p = passes body (s .tree) (s .before) (r .reads) in
+      let p = passes K L body (s .tree) (s .before) (r .reads) in
       let b : run (K .program) other 0 ≡ run (K .program) body 0 = B.blind (K .program) body other 0 l
       (λ i a h n. g i (λ m. inside-last (K .payloads (s .tree)) (tail (s .before) body) i m (λ v. n (rw p v))
       (λ o. let q : reach (run (K .program) body 0) ≡ s .before = ap reach (r .reads) in omega arith))) in
@@ -107,6 +104,9 @@ module _ {Tree Top Value : Type 0} (K : Kind Tree Top Value) (L : Lawful K) wher
         (same-reading body other l u, ap (onto (sizes K)) u, ap (onto (λ (s : Sound Tree). K .zeros (s .tree))) u);
   }
 
+  taken-within : (body : List ℕ) (k : ℕ) → k ≤ length body → length (slice 0 k body) ≤ length body
+  taken-within body k h = omega (arith, length-slice 0 k body h)
+
   bounded : Bounded K
   unfolding sizes
   bounded = record {
@@ -115,11 +115,11 @@ module _ {Tree Top Value : Type 0} (K : Kind Tree Top Value) (L : Lawful K) wher
         let r = ran-well K body s j in
         let w : needs (K .tables (s .tree)) ≡ z .tables = ap (λ (x : Sizes). x .tables) q in
         let t = run-takes (K .program) body 0 (r .reads) (omega arith) in
-        rw (← w) (le-trans (L .bounded (s .tree) _ t) (taken body (s .before) (end-within K body s j)));
+        rw (← w) (le-trans (L .bounded (s .tree) _ t) (taken-within body (s .before) (end-within K body s j)));
+    payloads-inside = λ body s j.
+        let r = ran-well K body s j in
+        rw (passes K L body (s .tree) (s .before) (r .reads)) at (B.passed-within (K .program) body 0 (r .reads));
   }
-    where
-      taken : (body : List ℕ) (k : ℕ) → k ≤ length body → length (lib.Seq.slice 0 k body) ≤ length body
-      taken body k h = omega (arith, lib.Seq.length-slice 0 k body h)
 
 -- ---- one outcome
 

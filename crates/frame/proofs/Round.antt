@@ -12,13 +12,14 @@ use lib.Seq.{slice, length-take-le, take-length, drop-append-seam}
 use lib.Dec.{leb}
 use borrow.Author.Tests.{leb-true, le-leb}
 use Rattle.wire.specs.Lists.{Every, all-nil, all-cons, Byte, Column}
-use Rattle.wire.specs.Prog.{done, run, span}
+use Rattle.wire.specs.Prog.{done, run, span, Within, passed}
 use Rattle.wire.specs.declared.rows.Payload.{Payload}
 use Rattle.wire.specs.Act.{image, settle}
 use Rattle.wire.specs.Pen.{clean, bytes}
 use Rattle.wire.specs.declared.pen.Fault.the-variants as F
 use Rattle.wire.proofs.Lists.{every-left, every-both, every-drop}
 use Rattle.wire.proofs.Runs.{extent}
+use Rattle.wire.proofs.Blind.{passed-within}
 use Rattle.wire.proofs.Takes.{Takes, run-takes, takes-run, Here, here-append}
 use Rattle.wire.proofs.Acts.{and-both, both-and, clean-append, clean-both, bytes-append, settles, settled}
 use Rattle.wire.proofs.Codec.{Codec, Read, Wrote}
@@ -28,7 +29,7 @@ use Rattle.frame.specs.Kind.{Kind, Lent, Rows, Bound}
 use Rattle.frame.specs.Entry.{no-room, Outcome, leaves, Sound, Need, needs, first, others, lacking, filled, tail, judging, reading, puts, put, trail, whole, writing}
 use Rattle.frame.specs.Claims.{Image, Meaning, meaning, Lendable, Writable, Room, Round}
 use Rattle.frame.proofs.Judged.{answers, judged, Ran, ran-well, View, is-read, lacks, is-short, is-long, view, reads-so, lacks-so, Was, was}
-use Rattle.frame.proofs.Lawful.{top-of, Lawful}
+use Rattle.frame.proofs.Lawful.{top-of, Taken, Lawful}
 use Rattle.frame.proofs.Output.{put-done}
 
 -- the trailing run, found again in the body
@@ -119,6 +120,21 @@ module _ {Tree Top Value : Type 0} (K : Kind Tree Top Value) where
     trail-within : (t : Tree) (bs rest : List ℕ) → K .trailing (top-of K t bs rest) .offset + K .trailing (top-of K t bs rest) .length ≤ length (bs ++ rest)
     trail-within t bs rest = rw (L .run-of t (span (length bs) (length rest))) (omega (arith, length-append bs rest))
 
+    wrote : (t : Tree) (bs rest : List ℕ) → Takes (K .program) 0 t bs → Every Byte bs → Wrote (L .format .Fits) (L .format .acts) (L .format .means (bs ++ rest) t) bs
+    wrote t bs rest d b = L .format .back (bs ++ rest) 0 t bs (rw (L .reads) d) b (here-append [] bs rest)
+
+    -- the payloads of the tree are what the program passes over
+    pub passes : (body : List ℕ) (t : Tree) (k : ℕ) → run (K .program) body 0 ≡ done t k → passed (K .program) body 0 ≡ K .payloads t
+    passes body t k e = rw (← L .reads) (L .format .skipped body 0 t k (rw (L .reads) e)) ∙ L .placed t
+
+    payloads-inside : (t : Tree) (bs rest : List ℕ) → Takes (K .program) 0 t bs → Every (Within (bs ++ rest)) (K .payloads t)
+    payloads-inside t bs rest d =
+        let r = takes-run d (here-append [] bs rest) in
+        rw (passes (bs ++ rest) t _ r) at (passed-within (K .program) (bs ++ rest) 0 r)
+
+    taken : (t : Tree) (bs rest : List ℕ) → Takes (K .program) 0 t bs → Every Byte bs → Taken K (L .format) t bs rest
+    taken t bs rest d b = record { takes = d; small = b; inside = payloads-inside t bs rest d; sound = wrote t bs rest d b .makes .sound }
+
     rewritten : (t : Tree) (bs rest : List ℕ) (lent : Lent) → Takes (K .program) 0 t bs → Every Byte bs → lacking (needs (K .tables t)) lent ≡ none
         → Rewritten (top-of K t bs rest) (filled (K .tables t) lent) (bs ++ rest)
     unfolding image-of
@@ -126,8 +142,8 @@ module _ {Tree Top Value : Type 0} (K : Kind Tree Top Value) where
         let top = top-of K t bs rest in
         let after = filled (K .tables t) lent in
         let v = L .laid t bs rest lent d f in
-        let w = L .format .back (bs ++ rest) 0 t bs (rw (L .reads) d) b (here-append [] bs rest) in
-        let c = L .ready t bs rest lent d b f in
+        let w = wrote t bs rest d b in
+        let c = L .ready t bs rest lent (taken t bs rest d b) f in
         let e : bs ≡ bytes (L .format .acts (K .value top after (bs ++ rest))) = w .makes .is ∙ ap (λ (x : Value). bytes (L .format .acts x)) (sym v) in
         let i : bs ++ rest ≡ bytes (L .format .acts (K .value top after (bs ++ rest))) ++ trail K top (bs ++ rest) = λ j. e j ++ sym (trail-of t bs rest) j in
         record {
@@ -207,8 +223,8 @@ module _ {Tree Top Value : Type 0} (K : Kind Tree Top Value) where
 
     typed-so : (body : List ℕ) (t : Tree) (k : ℕ) (p : Parted body t k) → Every Byte (p .front) → length body ≤ 65535 → Every (λ (x : Bound). x .it < x .below) (K .bounds (K .top t (tail k body)))
     typed-so body t k p b h =
-        let h′ : length (p .front ++ p .rest) ≤ 65535 = rw (p .joins) at h in
-        rw (p .joins, p .long, the-tail (p .front) (p .rest)) (L .held t (p .front) (p .rest) (p .takes) b h′)
+        let h′ : length (p .front ++ p .rest) < 65536 = omega (arith, ap length (p .joins)) in
+        rw (p .joins, p .long, the-tail (p .front) (p .rest)) (L .held t (p .front) (p .rest) (taken t (p .front) (p .rest) (p .takes) b) h′)
 
     witness : (body : List ℕ) (lent : Lent) (s : Sound Tree) → Every Byte body → Lendable K lent → judging K body ≡ accepted s → lacking (needs (K .tables (s .tree))) lent ≡ none → Writable K body
     witness body lent s b l j f =
@@ -225,7 +241,7 @@ module _ {Tree Top Value : Type 0} (K : Kind Tree Top Value) where
           typed = typed-so body t (s .before) p bf (r .within);
           lendable = record {
             all-lent = filled-count (K .tables t) lent n ∙ l .all-lent;
-            columns = filled-columns (K .tables t) lent (L .columns t (p .front) (p .takes) bf (omega (arith, r .within, ap length (p .joins), length-append (p .front) (p .rest)))) (l .columns) n;
+            columns = filled-columns (K .tables t) lent (L .columns t (p .front) (p .rest) (taken t (p .front) (p .rest) (p .takes) bf) (omega (arith, r .within, ap length (p .joins)))) (l .columns) n;
           };
           bytes = b;
           written = of-parts body t (s .before) lent p b f .image-is;

@@ -5,7 +5,7 @@ use mathlib.Core.Path.{_≡_}
 use mathlib.Core.Logic.{_↔_}
 use lib.ListN.{length, take, drop, getD}
 use Rattle.wire.specs.Lists.{Every, Byte, Column}
-use Rattle.wire.specs.Prog.{Inside}
+use Rattle.wire.specs.Prog.{Within, Inside}
 use Rattle.wire.specs.declared.rows.Payload.{Payload}
 use Rattle.wire.specs.Act.{image, settle}
 use Rattle.wire.specs.declared.reads.Short.{Short}
@@ -134,7 +134,9 @@ module _ {Tree Top Value : Type 0} (K : Kind Tree Top Value) where
     pub untouched : (top : Top) (lent : Lent) (store out : List ℕ) → ((n : ℕ) → writing K top lent store out .answer ≡ accepted n → ⊥) → writing K top lent store out .output ≡ out
 
   pub record Bounded : Type 0 where
+    -- the rows of all tables together never number more than the body's bytes; payloads stand in the body
     pub rows-bounded : (body : List ℕ) (z : Sizes) → measuring K body ≡ accepted z → total (z .tables) ≤ length body
+    pub payloads-inside : (body : List ℕ) (s : Sound Tree) → judging K body ≡ accepted s → Every (Within body) (K .payloads (s .tree))
 
   -- ---- text can't move a row
 

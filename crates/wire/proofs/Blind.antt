@@ -9,8 +9,9 @@ use lib.ListN.{length, getD}
 use lib.Seq.{slice, length-slice, ext-getD, getD-drop, getD-take}
 use lib.Dec.{leb}
 use borrow.Author.Tests.{le-leb, lt-leb}
-use Rattle.wire.specs.Prog.{Prog, ret, look, skip, Out, done, short, needing, run, _>>=_, u8, bytes, pass, many, span, Inside, passed}
+use Rattle.wire.specs.Prog.{Prog, ret, look, skip, Out, done, short, needing, run, _>>=_, u8, bytes, pass, many, span, Within, Inside, passed}
 use Rattle.wire.specs.declared.rows.Payload.{Payload}
+use Rattle.wire.specs.Lists.{Every, all-nil, all-cons}
 use Rattle.wire.proofs.Runs.{reach, Runs, ends, looks, blinks, skips, lacks, runs, runs-are, onward, Went, run-split, run-ret}
 
 inside-nil : (i : ℕ) → Inside i [] → ⊥
@@ -65,6 +66,16 @@ module _ {A : Type 0} where
   pub blind : (p : Prog A) (s t : List ℕ) (at : ℕ) → length t ≡ length s
       → ((i : ℕ) → at ≤ i → i < reach (run p s at) → (Inside i (passed p s at) → ⊥) → getD t i 0 ≡ getD s i 0) → run p t at ≡ run p s at
   blind p s t at l g = runs-are (blind-at {t = t} (runs p s at) l g)
+
+-- what is passed over stands in the body
+pub passed-within : {A : Type 0} (p : Prog A) (s : List ℕ) (at : ℕ) {a : A} {k : ℕ} → run p s at ≡ done a k → Every (Within s) (passed p s at)
+unfolding passed
+passed-within {A} p s at e = go (rw e at (runs p s at))
+  where
+    go : {p : Prog A} {at : ℕ} {a : A} {k : ℕ} → Runs s p at (done a k) → Every (Within s) (passed p s at)
+    go ends = all-nil
+    go {at = at} (looks {n = n} {k = k} h d) = rw (passed-looks n k s at h) (go d)
+    go {at = at} (skips {n = n} {k = k} h d) = rw (passed-skips n k s at h) (all-cons h (go d))
 
 -- the parts of a program that goes on
 pub passed-bind : {A B : Type 0} (p : Prog A) (f : A → Prog B) (s : List ℕ) (at : ℕ) {a : A} {k : ℕ} → run p s at ≡ done a k

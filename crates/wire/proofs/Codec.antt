@@ -1,19 +1,21 @@
 -- Formats built from lawful pieces. A format says what is read (payloads by their places), what that means (payloads by their bytes) and the actions that write
 -- the meaning; its laws tie the three together. A byte of fields, a run, one after the other, a list and an optional part are lawful, and so is what is built of them.
-use Prim.Native.Nat.{ℕ, zero, suc, _+_, _≤_, _<_}
+use Prim.Native.Nat.{ℕ, zero, suc, _+_, _^_, _≤_, _<_}
 use mathlib.Core.List.{List, [], _∷_, _++_, append-nil, flatMap, map}
 use mathlib.Core.Bool.{Bool, true, false, _&&_}
 use mathlib.Core.Option.{Option, none, some}
 use mathlib.Core.Path.{_≡_, refl, sym, ap, _∙_, subst}
 use native.Mathlib.Omega.{arith}
+use native.Mathlib.Nat.{add-zero}
 use lib.ListN.{length, length-append, replicate, length-replicate}
 use lib.Seq.{slice, drop-at}
 use Rattle.wire.specs.Lists.{Every, all-nil, all-cons, Byte}
-use Rattle.wire.specs.Bits.{Field, fit, join}
+use Rattle.wire.specs.Bits.{part, Field, field, fit, join, total, split, widths}
 use Rattle.wire.specs.Prog.{Prog, ret, Out, done, short, run, _>>=_, u8, pass, many, span, passed}
 use Rattle.wire.specs.declared.rows.Payload.{Payload}
 use Rattle.wire.specs.Act.{Act, demand, byte, copy}
 use Rattle.wire.specs.Pen.{clean, bytes}
+use Rattle.wire.proofs.Fields.{joined-below, split-fits, join-split, split-join}
 use Rattle.wire.proofs.Lists.{every-head, every-left, every-right}
 use Rattle.wire.proofs.Runs.{run-split, run-ret}
 use Rattle.wire.proofs.Blind.{passed-bind, passed-map, passed-u8, passed-pass}
@@ -51,12 +53,17 @@ some-body at bs =
     let l : length z ≡ at = length-replicate at 0 in
     (z ++ bs, record { begun = omega (arith, length-append z bs); rest = []; holds = drop-at z bs at l ∙ sym (append-nil bs) })
 
--- ---- one byte, taken apart into fields
+-- ---- one byte, taken apart into fields of widths that fill it
 
-module _ {A : Type 0} (of : ℕ → A) (fields : A → List Field) (pack : (x : A) → fit (fields x) ≡ true → of (join 0 (fields x)) ≡ x)
-    (unpack : (b : ℕ) → b < 256 → (fit (fields (of b)) ≡ true) × (join 0 (fields (of b)) ≡ b)) where
+module _ {A : Type 0} (ws : List ℕ) (full : total ws ≡ 8) (of : ℕ → A) (fields : A → List Field) (shape : (x : A) → widths (fields x) ≡ ws)
+    (taken : (b : ℕ) → b < 256 → fields (of b) ≡ split ws b) (found : (b : ℕ) (x : A) → b < 256 → fields x ≡ split ws b → of b ≡ x) where
   abbrev byte-acts : A → List Act
   byte-acts x = byte (fields x) ∷ []
+
+  pack : (x : A) → fit (fields x) ≡ true → of (join 0 (fields x)) ≡ x
+  pack x e =
+      let h : join 0 (fields x) < 2 ^ total ws = rw (shape x) at (joined-below (fields x) e) in
+      found (join 0 (fields x)) x (rw full at h) (sym (rw (shape x) at (split-join (fields x) e)))
 
   pub byte-forth : (x : A) → clean (byte-acts x) ≡ true → (at : ℕ) → Read (u8 >>= λ b. ret (of b)) (λ s x. x) at x (bytes (byte-acts x))
   unfolding clean bytes
@@ -68,7 +75,11 @@ module _ {A : Type 0} (of : ℕ → A) (fields : A → List Field) (pack : (x : 
 
   byte-made : (b : ℕ) {bs : List ℕ} → bs ≡ b ∷ [] → b < 256 → Wrote (λ (x : A). Unit {0}) byte-acts (of b) bs
   unfolding clean bytes
-  byte-made b q h = let r = unpack b h in record { fits = tt; makes = record { sound = both-and (r .0) refl; is = q ∙ ap (λ (n : ℕ). n ∷ []) (sym (r .1)) } }
+  byte-made b q h =
+      let e = taken b h in
+      let f : fit (fields (of b)) ≡ true = rw e (split-fits ws b) in
+      let j : join 0 (fields (of b)) ≡ b = rw e (join-split ws b (rw full h)) in
+      record { fits = tt; makes = record { sound = both-and f refl; is = q ∙ ap (λ (n : ℕ). n ∷ []) (sym j) } }
 
   pub byte-back : (s : List ℕ) (at : ℕ) (x : A) (bs : List ℕ) → Takes (u8 >>= λ b. ret (of b)) at x bs → Every Byte bs → Here s at bs → Wrote (λ (x : A). Unit {0}) byte-acts x bs
   byte-back s at x bs t h i =
@@ -87,6 +98,25 @@ module _ {A : Type 0} (of : ℕ → A) (fields : A → List Field) (pack : (x : 
     spans = λ x. [];
     skipped = λ s at x k e. let u = run-split u8 (λ b. ret (of b)) s at x k e in passed-map u8 of s at (u .first) ∙ passed-u8 s at;
   }
+
+-- a byte that is one field
+pub whole : (b : ℕ) → b < 256 → b ≡ part 0 8 b
+whole b h = omega arith
+
+unfoldable pub number : Codec ℕ ℕ
+unfolding split total widths
+number = one-byte (8 ∷ []) refl (λ b. b) (λ x. field 8 x ∷ []) (λ x. refl) (λ b h. ap (λ (n : ℕ). field 8 n ∷ []) (whole b h)) (λ b x h e. let q : x ≡ part 0 8 b = cc e in whole b h ∙ sym q)
+
+-- a byte of two fields, the lower of w bits
+two-split : (h w b : ℕ) → field h (part w h b) ∷ field w (part 0 w b) ∷ [] ≡ split (h ∷ w ∷ []) b
+unfolding split total
+two-split h w b = rw add-zero refl
+
+unfoldable pub two : (h w : ℕ) → h + w ≡ 8 → Codec (ℕ × ℕ) (ℕ × ℕ)
+unfolding total widths two-split
+two h w e = one-byte (h ∷ w ∷ []) (ap (λ (n : ℕ). h + n) (add-zero w) ∙ e) (λ b. (part w h b, part 0 w b)) (λ x. field h (x .0) ∷ field w (x .1) ∷ []) (λ x. refl)
+    (λ b l. two-split h w b)
+    (λ b x l q. let r = q ∙ sym (two-split h w b) in let y : x .0 ≡ part w h b = cc r in let z : x .1 ≡ part 0 w b = cc r in λ i. (sym y i, sym z i))
 
 -- ---- a run of n bytes, by its place
 

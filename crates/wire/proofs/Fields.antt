@@ -7,11 +7,11 @@ use mathlib.Core.Bool.{Bool, true, false, and-eq-true-iff, and-true}
 use native.Mathlib.Omega.{arith}
 use native.Mathlib.Nat.{mod-eq-of-lt, mod-lt, div-eq-of-lt, div-lt-iff-lt-mul, div-one, mul-add-div-right, mul-add-mod-self-right}
 use native.Mathlib.Nat.{zero-mul, zero-add, one-mul, mul-assoc, suc-mul, mul-le-mul-right, lt-of-lt-of-le}
-use borrow.Author.Tests.{lt-ltb, ltb-true, ltb-false, eq-eqb, ne-eqb}
+use borrow.Author.Tests.{lt-ltb, ltb-true, ltb-false, eq-eqb, ne-eqb, eqb-true, eqb-false}
 use lib.Dec.{ltb, eqb}
 use lib.Pow.{pow-pos, pow-add, pow-mono, shl-exact, high, low, mod-pow-add, recompose}
 use lib.Bits.{bitOr, or-shifted}
-use Rattle.wire.specs.Bits.{Field, field, part, fit, join, total, split, widths, Packed}
+use Rattle.wire.specs.Bits.{Field, field, part, bit, fit, join, total, split, widths, Packed}
 
 -- ---- shifts
 
@@ -56,6 +56,19 @@ cons-fits w v fs h e = rw (lt-ltb v (2 ^ w) h) e
 pub fit-one : (w v : ℕ) → ltb v (2 ^ w) ≡ fit (field w v ∷ [])
 unfolding fit
 fit-one w v = sym (and-true (ltb v (2 ^ w)))
+
+-- ---- a flag is a field of one bit
+
+pub bit-of : (n : ℕ) → n < 2 → bit (eqb n 1) ≡ n
+bit-of n h = go (eqb n 1) refl
+  where
+    go : (t : Bool) → eqb n 1 ≡ t → bit t ≡ n
+    go true e = sym (eqb-true n 1 e)
+    go false e = let x : n ≡ 1 → ⊥ = eqb-false n 1 e in omega arith
+
+pub bit-back : (b : Bool) → eqb (bit b) 1 ≡ b
+bit-back true = refl
+bit-back false = refl
 
 -- ---- one field above k bits
 
