@@ -1,0 +1,33 @@
+-- The bench program's line (document 01): number, first returned number, k and tally, of an input of one kind byte and a body.
+use Prim.Native.Nat.{ℕ}
+use mathlib.Core.List.{List, [], _∷_}
+use mathlib.Core.Bool.{true, false}
+use lib.ListN.{length, getD}
+use lib.Dec.{leb, eqb}
+use Rattle.frame.specs.Numbers.{Numbered, numbered, Answer, accepted, refused}
+use Rattle.frame.specs.Kind.{Kind}
+use Rattle.frame.specs.Entry.{Sizes, measuring, tallying}
+use Rattle.base.specs.Write as Base
+use Rattle.bench.specs.declared.line.Line.{Line}
+
+-- k and tally are 0 on refusal
+abbrev pub refusedLine : Numbered → Line
+refusedLine x = record { number = x .number; first = getD (x .values) 0 0; k = 0; tally = 0 }
+
+abbrev pub judgedLine : Answer Sizes → Answer ℕ → Line
+judgedLine (accepted z) (accepted n) = record { number = 0; first = 0; k = z .before; tally = n }
+judgedLine (accepted z) (refused x) = refusedLine x
+judgedLine (refused x) t = refusedLine x
+
+-- the program takes at most 4,096 body bytes; a longer body counts as one of 4,097
+unfoldable pub bodyLine : {Tree Top Value : Type 0} → Kind Tree Top Value → List ℕ → Line
+bodyLine K body = elim (leb (length body) 4096) [ true ↦ judgedLine (measuring K body) (tallying K body) | false ↦ refusedLine (numbered 2 (4097 ∷ [])) ]
+
+-- the kinds that exist: 1 base
+unfoldable pub kindLine : ℕ → List ℕ → Line
+kindLine k body = elim (eqb k 1) [ true ↦ bodyLine Base.kind body | false ↦ refusedLine (numbered 11 (k ∷ [])) ]
+
+-- empty input is kind 0
+unfoldable pub lineOf : List ℕ → Line
+lineOf [] = kindLine 0 []
+lineOf (k ∷ body) = kindLine k body
