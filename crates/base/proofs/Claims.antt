@@ -2,26 +2,38 @@
 use Prim.Native.Nat.{ℕ, _-_, _≤_, _<_}
 use mathlib.Core.Path.{_≡_, refl, sym, ap, _∙_}
 use mathlib.Core.List.{List, [], _∷_, _++_}
-use mathlib.Core.Bool.{Bool, true, false}
+use mathlib.Core.Bool.{Bool, true, false, not}
 use native.Mathlib.Omega.{arith}
 use lib.ListN.{length, getD, take, drop}
 use lib.Dec.{lit<, eqb}
 use lib.Count.{ones, onesIn}
 use Rattle.wire.specs.Lists.{Every, all-nil, all-cons, Byte}
 use Rattle.wire.specs.Bits.{part}
-use Rattle.wire.specs.Prog.{run, u8, pass, _>>=_, span}
+use Rattle.wire.specs.Prog.{done, run, u8, pass, _>>=_, span}
 use Rattle.wire.specs.declared.reads.Short.{Short}
+use Rattle.wire.proofs.Runs.{run-split, run-ret, u8-done}
+use Rattle.frame.specs.declared.Tallied.{Tallied}
+use Rattle.frame.specs.declared.Written.{Written}
 use Rattle.frame.specs.declared.Written.the-variants as W
-use Rattle.frame.specs.Numbers.{Answer, accepted, refused, refusal, shorts}
-use Rattle.frame.specs.Entry.{too-short, leaves, onto, into, Sizes, needs, lacking, filled, judging, sizes, placing, reading, measuring, tallying, puts, writing}
+use Rattle.frame.specs.Numbers.{Answer, accepted, refused, refusal, tallied, written}
+use Rattle.frame.specs.Entry.{too-short, leaves, onto, into, Sizes, needs, lacking, filled, judging, sizes, placing, reading, measuring, tallying, puts, trail, writing, Reads, Measures, Tallies, Writes}
 use Rattle.frame.specs.Claims.{Claims}
+use Rattle.frame.proofs.Numbers.{refusal-once, tallied-once, written-once}
+use Rattle.frame.proofs.Judged.{not-refused, was, ran-well}
 use Rattle.frame.proofs.Lawful.{Samples}
 use Rattle.frame.proofs.Proofs as P
+use Rattle.base.specs.declared.rows.CompatibleSets.{CompatibleSets}
 use Rattle.base.specs.declared.rows.MpegH3dAudio.{MpegH3dAudio}
+use Rattle.base.specs.declared.Sizes as Base
+use Rattle.base.specs.declared.Reading.{Reading}
+use Rattle.base.specs.declared.Reading.the-variants as R
+use Rattle.base.specs.declared.Measured.{Measured}
+use Rattle.base.specs.declared.Measured.the-variants as M
 use Rattle.base.specs.Rows.{absentSets, listedSets}
 use Rattle.base.specs.Read.{sets, fields, parse}
 use Rattle.base.specs.Tally.{tally}
-use Rattle.base.specs.Write.{kind}
+use Rattle.base.specs.Write.{value, kind}
+use Rattle.base.specs.Contract.{read, measured}
 use Rattle.base.proofs.Laws.{lawful}
 
 -- 05 BF C6 00: sets present, none listed, every reserved bit set
@@ -79,3 +91,78 @@ samples = record {
 
 pub claims : Claims kind
 claims = P.claims kind lawful samples
+
+-- ---- spelled out for this record
+
+-- what is read writes back the same bytes, at the front of the output and nowhere else
+pub same-bytes : (body out : List ℕ) (m : MpegH3dAudio) → Every Byte body → reading kind body [] ≡ leaves (accepted m) [] → length body ≤ length out
+    → writing kind m [] body out ≡ puts (W.Done (length body)) (body ++ drop (length body) out)
+same-bytes body out m b e l = claims .round .writes-what-is-read body [] m [] out b e l
+
+-- two bodies that agree in the Rust's struct and in the trailing bytes are one body
+pub one-body : (body body′ : List ℕ) (m m′ : MpegH3dAudio) → Every Byte body → Every Byte body′ → reading kind body [] ≡ leaves (accepted m) [] → reading kind body′ [] ≡ leaves (accepted m′) []
+    → value m [] body ≡ value m′ [] body′ → trail kind m body ≡ trail kind m′ body′ → body ≡ body′
+unfolding kind
+one-body body body′ m m′ b b′ e e′ v t = claims .round .apart body body′ [] [] m m′ [] [] b b′ e e′ (λ i. record { value = v i; trailing = t i })
+
+-- a short refusal stands while the body is shorter than the need that it names
+pub stands : (body more : List ℕ) (x : Short) → reading kind body [] ≡ leaves (too-short x) [] → length (body ++ more) < x .need → length (body ++ more) ≤ 65535
+    → reading kind (body ++ more) [] ≡ leaves (too-short x) []
+stands body more x e l h = claims .more-bytes .short-stands body more [] x e l h
+
+-- bit 0x40 of byte 1 is set exactly if there are no sets
+sets-flag : (a : Bool) (s : List ℕ) (at : ℕ) {x : CompatibleSets} {k : ℕ} → run (sets a) s at ≡ done x k → x .present ≡ not a
+unfolding sets
+sets-flag true s at e = ap (λ (x : CompatibleSets). x .present) (sym (run-ret absentSets s at e .0))
+sets-flag false s at e =
+    let y = run-split u8 _ s at _ _ e in
+    let z = run-split (pass (y .value)) _ s (y .middle) _ _ (y .second) in
+    ap (λ (x : CompatibleSets). x .present) (sym (run-ret (listedSets (span (z .value) (y .value))) s (z .middle) (z .second) .0))
+
+parsed-flag : (s : List ℕ) {m : MpegH3dAudio} {k : ℕ} → run parse s 0 ≡ done m k → m .«compatible_sets» .present ≡ not (eqb (part 6 1 (getD s 1 0)) 1)
+unfolding parse fields
+parsed-flag s e =
+    let x = run-split u8 _ s 0 _ _ e in
+    let y = run-split u8 _ s (x .middle) _ _ (x .second) in
+    let z = run-split u8 _ s (y .middle) _ _ (y .second) in
+    let w = run-split (sets _) _ s (z .middle) _ _ (z .second) in
+    let q = run-ret _ s (w .middle) (w .second) .0 in
+    let b : y .value ≡ getD s 1 0 = u8-done s _ (y .first) .0 ∙ ap (λ (n : ℕ). getD s n 0) (u8-done s 0 (x .first) .1) in
+    ap (λ (m : MpegH3dAudio). m .«compatible_sets» .present) (sym q) ∙ sets-flag _ s (z .middle) (w .first) ∙ ap (λ (n : ℕ). not (eqb (part 6 1 n) 1)) b
+
+pub flag : (body : List ℕ) (m : MpegH3dAudio) → reading kind body [] ≡ leaves (accepted m) [] → m .«compatible_sets» .present ≡ not (eqb (part 6 1 (getD body 1 0)) 1)
+unfolding kind
+flag body m e =
+    let w = was kind body [] m [] e in
+    ap (λ (x : MpegH3dAudio). x .«compatible_sets» .present) (sym (w .top-is)) ∙ parsed-flag body (ran-well kind body (w .sound) (w .judges) .reads)
+
+-- ---- the promises fix the answers themselves
+
+read-once : (r r′ : Reading) → read r ≡ read r′ → r ≡ r′
+read-once (R.Done m) (R.Done m′) e = let z : m ≡ m′ = cc e in ap R.Done z
+read-once (R.Done m) (R.Refused x) e = not-refused e
+read-once (R.Refused x) (R.Done m) e = not-refused (sym e)
+read-once (R.Refused x) (R.Refused x′) e = let z : refusal x ≡ refusal x′ = cc e in ap R.Refused (refusal-once x x′ z)
+
+same-k : (s s′ : Base.Sizes) → Path Sizes (record { tables = []; before = s .k }) (record { tables = []; before = s′ .k }) → s ≡ s′
+same-k s s′ e = λ i. record { k = ap (λ (z : Sizes). z .before) e i }
+
+measured-once : (r r′ : Measured) → measured r ≡ measured r′ → r ≡ r′
+measured-once (M.Done s) (M.Done s′) e = ap M.Done (same-k s s′ (cc e))
+measured-once (M.Done s) (M.Refused x) e = not-refused e
+measured-once (M.Refused x) (M.Done s) e = not-refused (sym e)
+measured-once (M.Refused x) (M.Refused x′) e = let z : refusal x ≡ refusal x′ = cc e in ap M.Refused (refusal-once x x′ z)
+
+pub record Fixed : Type 0 where
+  pub reading : (body : List ℕ) (r r′ : Reading) → Reads kind body [] (read r) [] → Reads kind body [] (read r′) [] → r ≡ r′
+  pub measuring : (body : List ℕ) (r r′ : Measured) → Measures kind body (measured r) → Measures kind body (measured r′) → r ≡ r′
+  pub tallying : (body : List ℕ) (r r′ : Tallied) → Tallies kind body (tallied r) → Tallies kind body (tallied r′) → r ≡ r′
+  pub writing : (m : MpegH3dAudio) (store out after after′ : List ℕ) (r r′ : Written) → Writes kind m [] store out (written r) after → Writes kind m [] store out (written r′) after′ → (r ≡ r′) × (after ≡ after′)
+
+pub fixed : Fixed
+fixed = record {
+  reading = λ body r r′ v w. read-once r r′ (claims .determined .read-once body [] _ _ [] [] v w .0);
+  measuring = λ body r r′ v w. measured-once r r′ (claims .determined .measured-once body _ _ v w);
+  tallying = λ body r r′ v w. tallied-once r r′ (claims .determined .tallied-once body _ _ v w);
+  writing = λ m store out after after′ r r′ v w. let e = claims .determined .written-once m [] store out _ _ after after′ v w in (written-once r r′ (e .0), e .1);
+}

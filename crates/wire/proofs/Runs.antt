@@ -172,6 +172,13 @@ run-u8 s at = go (leb (at + 1) (length s)) refl
     go true e = ap (λ (l : List ℕ). done (getD l 0 0) (at + 1)) (slice-cons at (at + 1) s 0 (omega arith) (leb-true _ _ e))
     go false e = refl
 
+pub u8-done : (s : List ℕ) (at : ℕ) {b k : ℕ} → run u8 s at ≡ done b k → (b ≡ getD s at 0) × (k ≡ at + 1)
+u8-done s at {b} {k} e = go (leb (at + 1) (length s)) (sym (run-u8 s at) ∙ e)
+  where
+    go : (t : Bool) → Path (Out ℕ) (elim t [ true ↦ done (getD s at 0) (at + 1) | false ↦ short (needing (at + 1)) ]) (done b k) → (b ≡ getD s at 0) × (k ≡ at + 1)
+    go true q = ((cc q), (cc q))
+    go false q = absurd (let z : _≡_ {A = ℕ} 0 1 = cc q in omega arith)
+
 -- a run in two parts
 pub record Went {A B : Type 0} (p : Prog A) (f : A → Prog B) (s : List ℕ) (at : ℕ) (b : B) (k : ℕ) : Type 0 where
   pub value : A
