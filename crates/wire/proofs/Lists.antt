@@ -32,3 +32,12 @@ module _ {A : Type 0} (P : A → Type 0) where
 
   pub every-slice : (i k : ℕ) (l : List A) → Every P l → Every P (slice i k l)
   every-slice i k l h = every-drop i (take k l) (every-take k l h)
+
+  -- a list that is written out: one proof for each element
+  abbrev pub Each : List A → Type 0
+  Each [] = Unit {0}
+  Each (x ∷ xs) = P x × Each xs
+
+  pub every-each : (l : List A) → Each l → Every P l
+  every-each [] h = all-nil
+  every-each (x ∷ xs) h = all-cons (h .0) (every-each xs (h .1))
