@@ -4,7 +4,7 @@ use mathlib.Core.Path.{_≡_, refl, sym, ap, _∙_}
 use mathlib.Core.List.{List, [], _∷_, _++_}
 use mathlib.Core.Bool.{Bool, true, false, not}
 use native.Mathlib.Omega.{arith}
-use lib.ListN.{length, getD, take, drop}
+use lib.ListN.{length, getD, drop}
 use lib.Dec.{lit<, eqb}
 use lib.Count.{ones, onesIn}
 use Rattle.wire.specs.Lists.{Every, all-nil, all-cons, Byte}
@@ -15,7 +15,7 @@ use Rattle.wire.proofs.Runs.{run-split, run-ret, u8-done}
 use Rattle.frame.specs.declared.Tallied.{Tallied}
 use Rattle.frame.specs.declared.Written.{Written}
 use Rattle.frame.specs.declared.Written.the-variants as W
-use Rattle.frame.specs.Numbers.{Answer, accepted, refused, refusal, tallied, written}
+use Rattle.frame.specs.Numbers.{accepted, refusal, tallied, written}
 use Rattle.frame.specs.Entry.{too-short, leaves, onto, into, Sizes, needs, lacking, filled, judging, sizes, placing, reading, measuring, tallying, puts, trail, writing, Reads, Measures, Tallies, Writes}
 use Rattle.frame.specs.Claims.{Claims}
 use Rattle.frame.proofs.Numbers.{refusal-once, tallied-once, written-once}

@@ -1,5 +1,5 @@
 -- The base body as a format of lawful pieces: three bytes of fields, then the compatible sets, which the second byte steers.
-use Prim.Native.Nat.{ℕ, _<_}
+use Prim.Native.Nat.{ℕ}
 use mathlib.Core.List.{List, [], _∷_}
 use mathlib.Core.Bool.{Bool, true, false, not}
 use mathlib.Core.Option.{Option, none, some}
@@ -8,7 +8,7 @@ use native.Mathlib.Omega.{arith}
 use lib.ListN.{length, getD}
 use lib.Dec.{eqb}
 use Rattle.wire.specs.Bits.{part, bit, Field, field, split, total, widths}
-use Rattle.wire.specs.Prog.{Prog, ret, look, u8, pass, _>>=_, span}
+use Rattle.wire.specs.Prog.{ret, look, u8, pass, _>>=_, span}
 use Rattle.wire.specs.Act.{Act, byte, copy}
 use Rattle.wire.proofs.Fields.{bit-of, bit-back}
 use Rattle.wire.proofs.Runs.{bind-assoc}

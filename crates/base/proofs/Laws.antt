@@ -1,28 +1,26 @@
 -- The base kind is lawful: its record and its actions are those of its format.
 use Prim.Native.Nat.{ℕ, _+_, _≤_, _<_}
 use mathlib.Core.List.{List, [], _∷_, _++_}
-use mathlib.Core.Bool.{Bool, true, false, not, _&&_}
+use mathlib.Core.Bool.{Bool, true, false, not}
 use mathlib.Core.Option.{Option, none, some}
 use mathlib.Core.Path.{_≡_, refl, sym, ap, _∙_}
 use native.Mathlib.Omega.{arith}
 use lib.ListN.{length, length-append}
-use lib.Seq.{slice}
 use lib.Dec.{leb}
 use borrow.Author.Tests.{le-leb}
 use Rattle.wire.specs.Lists.{Every, all-nil, all-cons}
-use Rattle.wire.specs.Bits.{bit, Field, field, fit}
+use Rattle.wire.specs.Bits.{bit, field, fit}
 use Rattle.wire.specs.Prog.{Within, span}
 use Rattle.wire.specs.Act.{Act, demand, byte, copy, pick}
 use Rattle.wire.specs.Pen.{clean, bytes}
 use Rattle.wire.specs.declared.pen.Fault.the-variants as F
 use Rattle.wire.specs.declared.rows.Payload.{Payload}
 use Rattle.wire.proofs.Lists.{every-head}
-use Rattle.wire.proofs.Acts.{and-both, both-and}
+use Rattle.wire.proofs.Acts.{and-both}
 use Rattle.wire.proofs.Fields.{fits-cons}
 use Rattle.frame.specs.Kind.{Bound, Lent}
 use Rattle.frame.specs.Entry.{needs, total, filled}
-use Rattle.frame.proofs.Lawful.{Taken, Lawful}
-use Rattle.base.specs.declared.rows.CompatibleSets.{CompatibleSets}
+use Rattle.frame.proofs.Lawful.{Lawful}
 use Rattle.base.specs.declared.rows.MpegH3dAudio.{MpegH3dAudio}
 use Rattle.base.specs.Rows.{retrail, bounds}
 use Rattle.base.specs.Write.{inside, listed, setsActs, acts, Value, value, payloads, kind}

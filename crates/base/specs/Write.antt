@@ -1,13 +1,12 @@
 -- Writing the base body, line by line as `MpegH3dAudio::write`; what a value means; and the kind itself.
 use Prim.Native.Nat.{ℕ, _+_}
-use mathlib.Core.List.{List, [], _∷_, _++_}
-use mathlib.Core.Bool.{Bool, true, false, not}
+use mathlib.Core.List.{List, [], _∷_}
+use mathlib.Core.Bool.{Bool, true, not}
 use mathlib.Core.Option.{Option, none, some}
 use lib.ListN.{length}
 use lib.Seq.{slice}
 use lib.Dec.{leb}
 use Rattle.wire.specs.Bits.{bit, Field, field}
-use Rattle.wire.specs.Prog.{span}
 use Rattle.wire.specs.Act.{Act, demand, byte, copy, when, pick}
 use Rattle.wire.specs.declared.pen.Fault.the-variants as F
 use Rattle.wire.specs.declared.rows.Payload.{Payload}

@@ -1,6 +1,6 @@
 // The four numbers that the bench program prints (document 01, "The bench program"), decided from its input: one kind byte, then the body.
 ghost use mathlib.Core.Path.{_≡_};
-ghost use Rattle.frame.specs.Numbers.{numbered, refusal};
+ghost use Rattle.frame.specs.Numbers.{refusal};
 ghost use Rattle.frame.specs.Entry.{measuring, tallying};
 ghost use Rattle.base.specs.Write.{kind};
 ghost use Rattle.bench.specs.Line.{lineOf, judgedLine, refusedLine};

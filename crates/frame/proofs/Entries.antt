@@ -1,26 +1,22 @@
 -- What the code of an entry point cites at its returns: an outcome of the program, a judgement or a checked pen is the promise.
 use Prim.Native.Nat.{ℕ, _+_, _≤_, _<_}
-use mathlib.Core.List.{List, [], _∷_, _++_}
-use mathlib.Core.Bool.{true, false}
+use mathlib.Core.List.{List, _++_}
 use mathlib.Core.Option.{none}
-use mathlib.Core.Path.{_≡_, refl, sym, ap, _∙_}
+use mathlib.Core.Path.{_≡_, sym, ap, _∙_}
 use native.Mathlib.Omega.{arith}
 use lib.ListN.{length, drop}
 use borrow.Author.Tests.{le-leb}
 use Rattle.wire.specs.Prog.{Out, run}
-use Rattle.wire.specs.Act.{Act, image, settle}
 use Rattle.wire.specs.Pen.{Checked, Filled, bytes}
 use Rattle.wire.specs.declared.pen.Pen.{Pen}
 use Rattle.wire.specs.declared.pen.Pen.the-variants.{At, Stop}
 use Rattle.wire.specs.declared.pen.Fault.{Fault}
-use Rattle.wire.proofs.Runs.{extent}
 use Rattle.wire.proofs.Passes.{imaged, stopped-at, filled-front}
-use Rattle.frame.specs.declared.Written.{Written}
 use Rattle.frame.specs.declared.Written.the-variants as W
 use Rattle.frame.specs.Numbers.{Numbered, Answer, accepted, refused, written}
 use Rattle.frame.specs.Kind.{Kind, Lent}
-use Rattle.frame.specs.Entry.{too-long, leaves, onto, ran, Sound, needs, lacking, filled, tail, judging, sizes, reading, measuring, tallying, put, puts, whole, writing, Reads, Measures, Tallies, Writes}
-use Rattle.frame.proofs.Judged.{judged, judged-short, ran-well, reads-so, refused-so}
+use Rattle.frame.specs.Entry.{too-long, onto, ran, Sound, needs, lacking, filled, tail, judging, sizes, measuring, tallying, put, puts, whole, writing, Reads, Measures, Tallies, Writes}
+use Rattle.frame.proofs.Judged.{ran-well, reads-so, refused-so}
 use Rattle.frame.proofs.More.{judge-long, end-within}
 use Rattle.frame.proofs.Output.{put-done, put-short, put-long}
 

@@ -1,28 +1,28 @@
 -- All claims, of every lawful kind: what writing leaves, that text decides nothing, that each promise is met by one outcome and shuts out the programs that do nothing.
-use Prim.Native.Nat.{ℕ, _+_, _-_, _≤_, _<_}
+use Prim.Native.Nat.{ℕ, _+_, _-_, _≤_}
 use mathlib.Core.List.{List, [], _∷_, _++_, append-nil}
 use mathlib.Core.Bool.{Bool, true, false}
 use mathlib.Core.Option.{none, some}
 use mathlib.Core.Path.{_≡_, refl, sym, ap, _∙_}
-use mathlib.Core.Logic.{_⊎_, inl, inr}
+use mathlib.Core.Logic.{inl, inr}
 use native.Mathlib.Omega.{arith}
 use native.Mathlib.Nat.{le-trans}
 use lib.ListN.{length, drop, getD, drop-of-length-le}
 use lib.Seq.{slice, length-slice}
 use lib.Dec.{leb}
 use borrow.Author.Tests.{leb-true, leb-false}
-use Rattle.wire.specs.Prog.{done, run, span, Inside, passed}
+use Rattle.wire.specs.Prog.{run, span, Inside}
 use Rattle.wire.specs.declared.rows.Payload.{Payload}
 use Rattle.wire.specs.Act.{Settled, fault, image, settle}
-use Rattle.wire.proofs.Runs.{reach, extent}
+use Rattle.wire.proofs.Runs.{reach}
 use Rattle.wire.proofs.Takes.{run-takes}
 use Rattle.wire.proofs.Blind as B
 use Rattle.frame.specs.declared.Written.{Written}
 use Rattle.frame.specs.declared.Written.the-variants as W
-use Rattle.frame.specs.Numbers.{Answer, accepted, refused, number, written}
+use Rattle.frame.specs.Numbers.{accepted, number, written}
 use Rattle.frame.specs.Kind.{Kind, Lent}
-use Rattle.frame.specs.Entry.{no-room, Outcome, leaves, into, Sound, Sizes, needs, total, lacking, filled, tail, judging, sizes, placing, reading, measuring, tallying, Output, puts, put, whole, writing, onto}
-use Rattle.frame.specs.Claims.{Image, Bounded, Blind-to-text, Determined, Shut-out, Writing, Claims}
+use Rattle.frame.specs.Entry.{no-room, Outcome, leaves, into, Sound, Sizes, needs, lacking, filled, tail, judging, sizes, placing, reading, measuring, tallying, Output, puts, put, whole, writing, onto}
+use Rattle.frame.specs.Claims.{Image, Bounded, Blind-to-text, Determined, Shut-out, Claims}
 use Rattle.frame.proofs.Judged.{not-refused, answers, judged, ran-well, measured}
 use Rattle.frame.proofs.Lawful.{Lawful, Samples}
 use Rattle.frame.proofs.More.{end-within, more-measured, more-tallied, too-long-refused, more-bytes, alike}

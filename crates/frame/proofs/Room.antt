@@ -9,13 +9,13 @@ use native.Mathlib.Nat.{le-div-iff-mul-le, mul-zero, zero-mul, suc-mul, add-comm
 use lib.ListN.{length, drop, length-append, length-drop}
 use lib.Dec.{leb}
 use borrow.Author.Tests.{leb-true, leb-false, le-leb, lt-leb}
-use Rattle.wire.specs.Lists.{Every, all-nil, all-cons}
+use Rattle.wire.specs.Lists.{Every, all-cons}
 use Rattle.wire.proofs.Lists.{every-head, every-tail}
-use Rattle.frame.specs.Numbers.{Answer, accepted, number, refusal, shorts}
+use Rattle.frame.specs.Numbers.{accepted, number}
 use Rattle.frame.specs.Kind.{Kind, Lent, Rows}
-use Rattle.frame.specs.Entry.{no-room, Outcome, leaves, onto, Sound, Sizes, Need, needs, first, others, room, lacking, filled, judging, sizes, reading, measuring}
+use Rattle.frame.specs.Entry.{no-room, Outcome, leaves, onto, Sizes, Need, needs, first, others, room, lacking, filled, sizes, reading, measuring}
 use Rattle.frame.specs.Claims.{Lowest, this, later, Roomier, none-lent, one-more, More-room}
-use Rattle.frame.proofs.Judged.{not-refused, short-room, long-room, same-room, answers, View, is-read, lacks, is-short, is-long, view, reads-so, lacks-so, refused-so, Was, was, measured}
+use Rattle.frame.proofs.Judged.{not-refused, short-room, long-room, same-room, answers, View, is-read, lacks, is-short, is-long, view, reads-so, lacks-so, refused-so, was, measured}
 use Rattle.frame.proofs.Lawful.{Shaped, Lawful}
 use Rattle.frame.proofs.More.{judge-long}
 

@@ -1,7 +1,7 @@
 -- Condition 2, of every kind: what is read is written as the same bytes, what is written is read back equal in meaning, and two different bodies never give one record.
-use Prim.Native.Nat.{ℕ, zero, suc, _+_, _-_, _≤_, _<_}
+use Prim.Native.Nat.{ℕ, suc, _+_, _-_, _≤_, _<_}
 use mathlib.Core.List.{List, [], _∷_, _++_, append-nil, flatten}
-use mathlib.Core.Bool.{Bool, true, false, _&&_}
+use mathlib.Core.Bool.{true}
 use mathlib.Core.Option.{Option, none, some}
 use mathlib.Core.Path.{_≡_, refl, sym, ap, _∙_}
 use mathlib.Core.Logic.{_↔_}
@@ -10,25 +10,23 @@ use native.Mathlib.Nat.{zero-add}
 use lib.ListN.{length, take, drop, length-append, take-append-drop}
 use lib.Seq.{slice, length-take-le, take-length, drop-append-seam}
 use lib.Dec.{leb}
-use borrow.Author.Tests.{leb-true, le-leb}
+use borrow.Author.Tests.{le-leb}
 use Rattle.wire.specs.Lists.{Every, all-nil, all-cons, Byte, Column}
 use Rattle.wire.specs.Prog.{done, run, span, Within, passed}
-use Rattle.wire.specs.declared.rows.Payload.{Payload}
-use Rattle.wire.specs.Act.{image, settle}
+use Rattle.wire.specs.Act.{image}
 use Rattle.wire.specs.Pen.{clean, bytes}
-use Rattle.wire.specs.declared.pen.Fault.the-variants as F
 use Rattle.wire.proofs.Lists.{every-left, every-both, every-drop}
 use Rattle.wire.proofs.Runs.{extent}
 use Rattle.wire.proofs.Blind.{passed-within}
-use Rattle.wire.proofs.Takes.{Takes, run-takes, takes-run, Here, here-append}
+use Rattle.wire.proofs.Takes.{Takes, run-takes, takes-run, here-append}
 use Rattle.wire.proofs.Acts.{and-both, both-and, clean-append, clean-both, bytes-append, settles, settled}
-use Rattle.wire.proofs.Codec.{Codec, Read, Wrote}
+use Rattle.wire.proofs.Codec.{Wrote}
 use Rattle.frame.specs.declared.Written.the-variants as W
-use Rattle.frame.specs.Numbers.{Answer, accepted, refused, number, refusal, shorts}
+use Rattle.frame.specs.Numbers.{Answer, accepted, number, refusal, shorts}
 use Rattle.frame.specs.Kind.{Kind, Lent, Rows, Bound}
-use Rattle.frame.specs.Entry.{no-room, Outcome, leaves, Sound, Need, needs, first, others, lacking, filled, tail, judging, reading, puts, put, trail, whole, writing}
+use Rattle.frame.specs.Entry.{leaves, Sound, Need, needs, first, others, lacking, filled, tail, judging, reading, puts, trail, whole, writing}
 use Rattle.frame.specs.Claims.{Image, Meaning, meaning, Lendable, Writable, Room, Round}
-use Rattle.frame.proofs.Judged.{answers, judged, Ran, ran-well, View, is-read, lacks, is-short, is-long, view, reads-so, lacks-so, Was, was}
+use Rattle.frame.proofs.Judged.{answers, judged, ran-well, View, is-read, lacks, is-short, is-long, view, reads-so, lacks-so, Was, was}
 use Rattle.frame.proofs.Lawful.{top-of, Taken, Lawful}
 use Rattle.frame.proofs.Output.{put-done}
 

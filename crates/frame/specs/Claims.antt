@@ -1,16 +1,15 @@
 -- What the customer was promised of every kind of body, each claim of the entry points themselves (Entry). Proved in proofs/Proofs, of every lawful kind.
-use Prim.Native.Nat.{ℕ, _+_, _-_, _/_, _≤_, _<_}
+use Prim.Native.Nat.{ℕ, _+_, _-_, _≤_, _<_}
 use mathlib.Core.List.{List, [], _∷_, _++_, map}
 use mathlib.Core.Path.{_≡_}
 use mathlib.Core.Logic.{_↔_}
 use lib.ListN.{length, take, drop, getD}
 use Rattle.wire.specs.Lists.{Every, Byte, Column}
 use Rattle.wire.specs.Prog.{Within, Inside}
-use Rattle.wire.specs.declared.rows.Payload.{Payload}
 use Rattle.wire.specs.Act.{image, settle}
 use Rattle.wire.specs.declared.reads.Short.{Short}
 use Rattle.frame.specs.declared.Written.the-variants as W
-use Rattle.frame.specs.Numbers.{Answer, accepted, refused, number, written}
+use Rattle.frame.specs.Numbers.{Answer, accepted, number, written}
 use Rattle.frame.specs.Kind.{Kind, Lent, Rows, Bound}
 use Rattle.frame.specs.Entry.{too-short, too-long, no-room, Outcome, leaves, Sound, Sizes, Need, total, others, room, filled, tail, judging, reading, measuring, tallying, Output, puts, trail, whole, writing, Reads, Writes, Measures, Tallies}
 

@@ -1,6 +1,6 @@
 -- The entry points of a kind: what reading, measuring, tallying and writing answer, and what they leave in the lent memory; then the promises
 -- that contracts cite. Order of judgement, numbers and values are document 01's ("Numbers returned").
-use Prim.Native.Nat.{ℕ, _+_, _-_, _/_, _<_}
+use Prim.Native.Nat.{ℕ, _+_, _-_, _/_}
 use mathlib.Core.List.{List, [], _∷_, _++_, flatten}
 use mathlib.Core.Bool.{true, false}
 use mathlib.Core.Option.{Option, none, some}
@@ -10,7 +10,7 @@ use lib.Seq.{slice}
 use lib.Dec.{leb}
 use Rattle.wire.specs.declared.reads.Short.{Short}
 use Rattle.wire.specs.declared.pen.Fault.the-variants as F
-use Rattle.wire.specs.Prog.{Prog, Out, done, short, run, span}
+use Rattle.wire.specs.Prog.{Out, done, short, run, span}
 use Rattle.wire.specs.declared.rows.Payload.{Payload}
 use Rattle.wire.specs.Act.{Act, demand, copy, Settled, fault, image, settle}
 use Rattle.frame.specs.declared.Refusal.the-variants as R

@@ -1,9 +1,6 @@
 -- A kind of body: the pieces that one has to believe of it. What its entry points answer follows from them (Entry).
 use Prim.Native.Nat.{ℕ}
 use mathlib.Core.List.{List}
-use mathlib.Core.Path.{_≡_}
-use lib.ListN.{length}
-use Rattle.wire.specs.Lists.{Every}
 use Rattle.wire.specs.Prog.{Prog}
 use Rattle.wire.specs.declared.rows.Payload.{Payload}
 use Rattle.wire.specs.Act.{Act}

@@ -1,7 +1,7 @@
 -- The starred bench bodies of document 01 ("Bench bodies") as one list: of each body what reading answers and leaves, and its tally.
 use Prim.Native.Nat.{ℕ}
 use mathlib.Core.List.{List, [], _∷_}
-use mathlib.Core.Bool.{true, false}
+use mathlib.Core.Bool.{true}
 use mathlib.Core.Path.{_≡_}
 use Rattle.wire.specs.Lists.{Every}
 use Rattle.wire.specs.Prog.{needing, span}

@@ -1,7 +1,7 @@
 -- What a list of actions makes: bytes, if none of them is a fault. It does not depend on the place, so lists are put together piece by piece.
 use Prim.Native.Nat.{ℕ, _+_}
 use mathlib.Core.Path.{_≡_, refl, sym, ap, _∙_}
-use mathlib.Core.List.{List, [], _∷_, _++_, append-assoc, append-nil}
+use mathlib.Core.List.{List, [], _∷_, _++_, append-assoc}
 use mathlib.Core.Bool.{Bool, true, false, _&&_, and-eq-true-iff}
 use native.Mathlib.Omega.{arith}
 use lib.ListN.{length}
@@ -96,6 +96,3 @@ settled (copy l ∷ q) n e =
     let f = front l (settle q (n + length l)) e in
     let m = settled q (n + length l) (f .is) in
     record { sound = m .sound; is = f .joins ∙ ap (λ (t : List ℕ). l ++ t) (m .is) }
-
-pub makes-settle : {q : List Act} {b : List ℕ} (n : ℕ) → Makes q b → settle q n ≡ image b
-makes-settle {q} n m = settles q n (m .sound) ∙ ap image (sym (m .is))

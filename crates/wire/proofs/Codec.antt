@@ -1,8 +1,8 @@
 -- Formats built from lawful pieces. A format says what is read (payloads by their places), what that means (payloads by their bytes) and the actions that write
 -- the meaning; its laws tie the three together. A byte of fields, a run, one after the other, a list and an optional part are lawful, and so is what is built of them.
-use Prim.Native.Nat.{ℕ, zero, suc, _+_, _^_, _≤_, _<_}
+use Prim.Native.Nat.{ℕ, zero, suc, _+_, _^_, _<_}
 use mathlib.Core.List.{List, [], _∷_, _++_, append-nil, flatMap, map}
-use mathlib.Core.Bool.{Bool, true, false, _&&_}
+use mathlib.Core.Bool.{Bool, true, false}
 use mathlib.Core.Option.{Option, none, some}
 use mathlib.Core.Path.{_≡_, refl, sym, ap, _∙_, subst}
 use native.Mathlib.Omega.{arith}
@@ -11,9 +11,9 @@ use lib.ListN.{length, length-append, replicate, length-replicate}
 use lib.Seq.{slice, drop-at}
 use Rattle.wire.specs.Lists.{Every, all-nil, all-cons, Byte}
 use Rattle.wire.specs.Bits.{part, Field, field, fit, join, total, split, widths}
-use Rattle.wire.specs.Prog.{Prog, ret, Out, done, short, run, _>>=_, u8, pass, many, span, passed}
+use Rattle.wire.specs.Prog.{Prog, ret, done, run, _>>=_, u8, pass, many, span, passed}
 use Rattle.wire.specs.declared.rows.Payload.{Payload}
-use Rattle.wire.specs.Act.{Act, demand, byte, copy}
+use Rattle.wire.specs.Act.{Act, byte, copy}
 use Rattle.wire.specs.Pen.{clean, bytes}
 use Rattle.wire.proofs.Fields.{joined-below, split-fits, join-split, split-join}
 use Rattle.wire.proofs.Lists.{every-head, every-left, every-right}

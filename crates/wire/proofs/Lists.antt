@@ -2,7 +2,6 @@
 use Prim.Native.Nat.{ℕ}
 use mathlib.Core.List.{List, [], _∷_, _++_}
 use lib.ListN.{take, drop, take-append-drop}
-use lib.Seq.{slice}
 use Rattle.wire.specs.Lists.{Every, all-nil, all-cons}
 
 module _ {A : Type 0} (P : A → Type 0) where
@@ -29,9 +28,6 @@ module _ {A : Type 0} (P : A → Type 0) where
 
   pub every-take : (n : ℕ) (l : List A) → Every P l → Every P (take n l)
   every-take n l h = every-left (take n l) (drop n l) (rw (take-append-drop n l) h)
-
-  pub every-slice : (i k : ℕ) (l : List A) → Every P l → Every P (slice i k l)
-  every-slice i k l h = every-drop i (take k l) (every-take k l h)
 
   -- a list that is written out: one proof for each element
   abbrev pub Each : List A → Type 0

@@ -1,7 +1,7 @@
 -- Loops over a counted list: what code has to show at a row, and around a loop that measures or fills.
 use Prim.Native.Nat.{ℕ, suc, zero, _+_, _-_, _*_, _≤_, _<_}
 use mathlib.Core.Path.{_≡_, refl, ap, _∙_, sym}
-use mathlib.Core.List.{List, [], _∷_, _++_, flatMap}
+use mathlib.Core.List.{List, [], _∷_, flatMap}
 use mathlib.Core.Bool.{true, false}
 use native.Mathlib.Omega.{arith}
 use native.Mathlib.Nat.{mul-suc}
@@ -24,12 +24,6 @@ is-done e = ap isDone e
 pub done-is : {A : Type 0} (o : Out A) → isDone o ≡ true → (a : A) × (n : ℕ) × (o ≡ done a n)
 done-is (done a n) e = (a, n, refl)
 done-is (short n) e = let z : _≡_ {A = ℕ} 0 1 = cc in absurd (omega arith)
-
-pub same-value : {A : Type 0} {a b : A} {m n : ℕ} → done a m ≡ done b n → a ≡ b
-same-value e = cc
-
-pub same-end : {A : Type 0} {a b : A} {m n : ℕ} → done a m ≡ done b n → m ≡ n
-same-end e = cc
 
 end-short : {A : Type 0} (o : Out A) {x : Short} → short x ≡ endOf o → o ≡ short x
 end-short (done l m) e = let z : _≡_ {A = ℕ} 0 1 = cc in absurd (omega arith)

@@ -2,8 +2,8 @@
 -- actions settle to.
 use Prim.Native.Nat.{ℕ, suc, _+_, _-_, _≤_, _<_}
 use mathlib.Core.Path.{_≡_, refl, sym, ap, _∙_}
-use mathlib.Core.List.{List, [], _∷_, _++_, append-assoc, append-nil}
-use mathlib.Core.Bool.{Bool, true, false, _&&_, and-eq-true-iff}
+use mathlib.Core.List.{List, [], _∷_, _++_, append-nil}
+use mathlib.Core.Bool.{Bool, true, false}
 use native.Mathlib.Omega.{arith}
 use native.Mathlib.Nat.{add-zero, zero-add}
 use lib.ListN.{length, set, getD, take, drop, length-append, length-set}
@@ -84,15 +84,6 @@ head {a} {q} h = first (a ∷ []) q h
 pub rest : {a : Act} {q : List Act} {n r : ℕ} {l o : List ℕ}
     → Ready (a ∷ q) n l → length o ≡ length l → Filled (a ∷ []) n l r o → Ready q r o
 rest h s w = onward h s w
-
--- one part after the other
-pub fill-then : {a b : List Act} {n r r′ : ℕ} {l o o′ : List ℕ} → Filled a n l r o → Filled b r o r′ o′ → Filled (a ++ b) n l r′ o′
-fill-then {a} {b} {n} {r} {r′} {l} {o} {o′} v w =
-    let e : n + length (bytes a) + length (bytes b) ≡ n + (length (bytes a) + length (bytes b)) = omega arith in
-    record {
-      place = rw (bytes-append a b, length-append (bytes a) (bytes b)) (w .place ∙ ap (λ (x : ℕ). x + length (bytes b)) (v .place) ∙ e);
-      holds = rw (bytes-append a b, sets-append l n (bytes a) (bytes b), ← v .holds, ← v .place) (w .holds);
-    }
 
 pub fill-none : (n : ℕ) (l : List ℕ) → Filled [] n l n l
 unfolding bytes

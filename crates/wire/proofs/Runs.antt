@@ -1,13 +1,12 @@
 -- Laws of every reading program: one after the other, how far a run reaches, and that more bytes never alter an answer (condition 3).
 -- The run as a derivation, a step for each read, is what keeps the proofs short.
-use Prim.Native.Nat.{ℕ, zero, suc, _+_, _-_, _≤_, _<_}
-use mathlib.Core.List.{List, [], _∷_, _++_}
+use Prim.Native.Nat.{ℕ, _+_, _-_, _≤_, _<_}
+use mathlib.Core.List.{List, _++_}
 use mathlib.Core.Bool.{Bool, true, false}
 use mathlib.Core.Path.{_≡_, refl, sym, ap, _∙_}
 use native.Mathlib.Omega.{arith}
 use lib.ListN.{length, getD, take, drop, length-append}
-use lib.Seq.{slice, getD-take, length-take-le, take-take, take-append-le, take-length, slice-cons, slice-empty}
-use native.Mathlib.Numerals.{add-one}
+use lib.Seq.{slice, length-take-le, take-take, take-append-le, slice-cons}
 use lib.Dec.{leb}
 use borrow.Author.Tests.{leb-true, leb-false, le-leb, lt-leb}
 use Rattle.wire.specs.Prog.{Prog, ret, look, skip, Out, done, short, needing, run, _>>=_, u8}
@@ -95,18 +94,9 @@ module _ {A : Type 0} where
   done-within (looks h d) l = done-within d h
   done-within (skips h d) l = done-within d h
 
-  short-beyond : {p : Prog A} {s : List ℕ} {at : ℕ} {x : Short} → Runs s p at (short x) → length s < x .need
-  short-beyond (looks h d) = short-beyond d
-  short-beyond (blinks h) = h
-  short-beyond (skips h d) = short-beyond d
-  short-beyond (lacks h) = h
-
   pub extent : (p : Prog A) (s : List ℕ) (at : ℕ) {a : A} {k : ℕ} → run p s at ≡ done a k → at ≤ length s → (at ≤ k) × (k ≤ length s)
   unfolding reach
   extent p s at {a} {k} e l = (onward (rw e at (runs p s at)), done-within {a = a} (rw e at (runs p s at)) l)
-
-  pub extent-short : (p : Prog A) (s : List ℕ) (at : ℕ) {x : Short} → run p s at ≡ short x → length s < x .need
-  extent-short p s at e = short-beyond {p = p} (rw e at (runs p s at))
 
 slice-same : (s t : List ℕ) (i e k : ℕ) → e ≤ k → take k t ≡ take k s → slice i e s ≡ slice i e t
 slice-same s t i e k l g = ap (λ (x : List ℕ). drop i x) (sym (take-take e k s l) ∙ ap (λ (x : List ℕ). take e x) (sym g) ∙ take-take e k t l)

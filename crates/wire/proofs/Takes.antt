@@ -1,16 +1,14 @@
 -- What a program takes: the bytes that it reads and passes over, with no body around them. Runs and these bytes determine each other.
-use Prim.Native.Nat.{ℕ, zero, suc, _+_, _-_, _≤_, _<_}
+use Prim.Native.Nat.{ℕ, zero, suc, _+_, _-_, _≤_}
 use mathlib.Core.List.{List, [], _∷_, _++_, append-assoc, append-nil}
-use mathlib.Core.Bool.{Bool, true, false}
 use mathlib.Core.Path.{_≡_, refl, sym, ap, _∙_}
 use native.Mathlib.Omega.{arith}
 use native.Mathlib.Nat.{add-zero, sub-zero, zero-sub, suc-sub-suc, add-sub-cancel-left}
-use lib.ListN.{length, getD, take, drop, length-append, length-drop, take-append-drop, replicate, length-replicate}
-use lib.Seq.{drop-at, slice, take-nil, take-append-seam, slice-empty, length-slice, drop-drop, take-take, drop-append-seam, drop-append-le, take-add, length-take-le}
-use lib.Dec.{leb}
+use lib.ListN.{length, getD, take, drop, length-append, length-drop, take-append-drop}
+use lib.Seq.{slice, take-nil, take-append-seam, slice-empty, length-slice, drop-drop, take-take, drop-append-seam, drop-append-le, length-take-le}
 use borrow.Author.Tests.{le-leb}
-use Rattle.wire.specs.Prog.{Prog, ret, look, skip, Out, done, short, run, _>>=_, u8, pass, bytes, many}
-use Rattle.wire.proofs.Runs.{reach, Runs, ends, looks, skips, runs, runs-are, onward, extent}
+use Rattle.wire.specs.Prog.{Prog, ret, look, skip, done, run, _>>=_, u8, pass, bytes}
+use Rattle.wire.proofs.Runs.{reach, Runs, ends, looks, skips, runs, onward, extent}
 
 -- the program, begun at the position `at`, takes exactly the bytes bs and answers a
 module _ {A : Type 0} where
@@ -52,13 +50,6 @@ here-append pre bs rest = record { begun = simp length-append (omega arith); res
 pub here-is : {s : List ℕ} {at : ℕ} {bs : List ℕ} → Here s at bs → slice at (at + length bs) s ≡ bs
 here-is {s} {at} {bs} h = ap (λ (x : List ℕ). x) (slice-take at (at + length bs) s) ∙ ap (λ (n : ℕ). take n (drop at s)) (add-sub-cancel-left at (length bs))
     ∙ ap (λ (x : List ℕ). take (length bs) x) (h .holds) ∙ take-append-seam bs (h .rest)
-
-pub here-slice : (s : List ℕ) (at k : ℕ) → at ≤ k → k ≤ length s → Here s at (slice at k s)
-here-slice s at k l h = record {
-  begun = omega arith;
-  rest = drop k s;
-  holds = ap (λ (x : List ℕ). drop at x) (sym (take-append-drop k s)) ∙ drop-append-le at (take k s) (drop k s) (rw (length-take-le k s h) l);
-}
 
 -- a run takes the bytes from where it begins to where it ends
 pub takes-run : {A : Type 0} {p : Prog A} {at : ℕ} {a : A} {bs : List ℕ} {s : List ℕ} → Takes p at a bs → Here s at bs → run p s at ≡ done a (at + length bs)
@@ -192,21 +183,3 @@ unfolding pass
 pass-takes {bs = bs} (unseen xs r e₁ e₂ d) =
     let e₃ : length r ≡ 0 = ap length (takes-ret d .1) in
     (sym (takes-ret d .0), omega (arith, ap length e₂ ∙ length-append xs r))
-
-nil-of-length : {A : Type 0} (l : List A) → length l ≡ 0 → l ≡ []
-nil-of-length [] e = refl
-nil-of-length (x ∷ xs) e = absurd (omega arith)
-
--- what is taken is all that decides: one answer for the same bytes, and nothing follows that could be taken too
-pub takes-once : {A : Type 0} {p : Prog A} {at : ℕ} {a b : A} {xs ys : List ℕ} (r : List ℕ) → Takes p at a xs → Takes p at b ys → xs ++ r ≡ ys → (a ≡ b) × (r ≡ [])
-takes-once {A} {at = at} {a} {b} {xs} {ys} r t u e =
-    let z : List ℕ = replicate at 0 in
-    let s : List ℕ = z ++ ys in
-    let l : length z ≡ at = length-replicate at 0 in
-    let g : at ≤ length s = omega (arith, length-append z ys) in
-    let h : Here s at xs = record { begun = g; rest = r; holds = drop-at z ys at l ∙ sym e } in
-    let k : Here s at ys = record { begun = g; rest = []; holds = drop-at z ys at l ∙ sym (append-nil ys) } in
-    let x : done a (at + length xs) ≡ done b (at + length ys) = sym (takes-run t h) ∙ takes-run u k in
-    let m : at + length xs ≡ at + length ys = cc in
-    let n : length r ≡ 0 = omega (arith, sym (length-append xs r) ∙ ap length e) in
-    ((cc), nil-of-length r n)

@@ -1,6 +1,6 @@
 -- The answers of the byte and the run reader as outcomes of the reading language, and the parts of an outcome that contracts speak of.
 use Prim.Native.Nat.{ℕ, _<_}
-use mathlib.Core.List.{List, [], _∷_, _++_}
+use mathlib.Core.List.{List, []}
 use mathlib.Core.Bool.{Bool, true, false}
 use mathlib.Core.Path.{_≡_}
 use Rattle.wire.specs.Prog.{Out, done, short, needing, run, u8}

@@ -1,5 +1,5 @@
 -- `base::measure` meets its contract: what the judgement says.
-use mathlib.Core.Path.{_≡_, ap, sym, _∙_}
+use mathlib.Core.Path.{ap, sym, _∙_}
 use Rattle.frame.specs.Entry.{onto, sizes, needs as needed}
 use Rattle.frame.proofs.Entries.{measures}
 use Rattle.base.specs.Write.{kind}

@@ -1,5 +1,5 @@
 -- `base::read` meets its contract: the judgement, and the trailing run behind k.
-use mathlib.Core.Path.{_≡_, refl, ap, sym, _∙_}
+use mathlib.Core.Path.{refl, ap, sym, _∙_}
 use mathlib.Core.List.{[]}
 use Rattle.frame.specs.Entry.{needs as needed, lacking, filled}
 use Rattle.frame.proofs.Entries.{within, reads-done, reads-refused}

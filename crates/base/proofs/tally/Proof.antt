@@ -1,5 +1,5 @@
 -- `base::tally` meets its contract: the fields of a record that was read fit, so their bits are counted.
-use mathlib.Core.Path.{_≡_, ap, sym, _∙_}
+use mathlib.Core.Path.{ap, sym, _∙_}
 use Rattle.frame.specs.Numbers.{tallied}
 use Rattle.frame.specs.Entry.{onto}
 use Rattle.frame.proofs.Entries.{tallies}

@@ -2,10 +2,6 @@ use Rattle.base.specs.Tally.{tally}
 use borrow.Author.Needs.{needs}
 use Rattle.base.proofs.zero_bits.Statement.{statement}
 use Rattle.base.proofs.zero_bits.Tie as tie
-use Rattle.base.proofs.zero_bits.Reads as reads
-use Rattle.base.proofs.zero_bits.Lts as lts
-use Rattle.wire.proofs.bits.wide.Reads as wide-reads
-use Rattle.wire.proofs.bits.zero_bits.Reads as zero-bits-reads
 
 wide-requires : tie.Need-wide-requires
 wide-requires c κs = search needs

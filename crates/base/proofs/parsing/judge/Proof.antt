@@ -1,6 +1,5 @@
 -- `base::parsing::judge` meets its contract.
-use mathlib.Core.Path.{_≡_, ap, sym, _∙_}
-use native.Mathlib.Omega.{arith}
+use mathlib.Core.Path.{ap, sym, _∙_}
 use Rattle.frame.proofs.Entries.{judges-long, judges}
 use Rattle.base.specs.Write.{kind}
 use Rattle.base.specs.Contract.{parsedOut}

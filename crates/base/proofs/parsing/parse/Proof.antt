@@ -1,11 +1,11 @@
 -- `base::parsing::parse` meets its contract: a place after each read, each built on the one before; a read that is short cuts off the whole.
 use Prim.Native.Nat.{ℕ}
-use mathlib.Core.Path.{_≡_, refl, ap, sym, _∙_}
+use mathlib.Core.Path.{ap}
 use native.Mathlib.Omega.{arith}
 use lib.Dec.{eqb}
 use Rattle.wire.specs.Bits.{part}
-use Rattle.wire.specs.Prog.{Prog, ret, u8, _>>=_, run}
-use Rattle.wire.specs.Reads.{byteOut, byteOf}
+use Rattle.wire.specs.Prog.{Prog, ret, u8, _>>=_}
+use Rattle.wire.specs.Reads.{byteOut}
 use Rattle.wire.proofs.Walk.{From, begun, onward, cut-off, finished}
 use Rattle.base.specs.declared.rows.MpegH3dAudio.{MpegH3dAudio}
 use Rattle.base.specs.Read.{sets, fields, parse}

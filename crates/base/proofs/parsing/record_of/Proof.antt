@@ -2,9 +2,6 @@ use Rattle.base.specs.Read.{fields}
 use borrow.Author.Needs.{needs}
 use Rattle.base.proofs.parsing.record_of.Statement.{statement}
 use Rattle.base.proofs.parsing.record_of.Tie as tie
-use Rattle.base.proofs.parsing.record_of.Reads as reads
-use Rattle.base.proofs.parsing.record_of.Lts as lts
-use Rattle.wire.proofs.bits.part.Reads as part-reads
 
 cast-t5 : tie.Need-cast-t5
 cast-t5 c = search needs

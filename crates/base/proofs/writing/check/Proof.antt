@@ -1,5 +1,5 @@
 -- `base::writing::check` meets its contract: the fields, and the trailing run behind them.
-use mathlib.Core.Path.{_≡_, sym, _∙_}
+use mathlib.Core.Path.{sym, _∙_}
 use native.Mathlib.Omega.{arith}
 use borrow.Author.Tests.{leb-true}
 use Rattle.wire.proofs.Passes.{then, more, passed, refused, run-looked}

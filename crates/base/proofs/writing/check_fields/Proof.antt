@@ -1,6 +1,6 @@
 -- `base::writing::check_fields` meets its contract: the bytes one after the other, behind the range of the sets.
 use mathlib.Core.List.{[], _∷_}
-use mathlib.Core.Path.{_≡_, sym, ap, _∙_}
+use mathlib.Core.Path.{sym, ap, _∙_}
 use Prim.Native.Nat.{ℕ}
 use native.Mathlib.Omega.{arith}
 use lib.Dec.{ltb}

@@ -1,6 +1,6 @@
 -- `base::writing::check_sets` meets its contract, whatever the bytes of the sets are.
 use mathlib.Core.List.{[], _∷_}
-use mathlib.Core.Path.{_≡_, _∙_}
+use mathlib.Core.Path.{_∙_}
 use native.Mathlib.Omega.{arith}
 use Rattle.wire.specs.Bits.{field}
 use Rattle.wire.specs.Act.{byte}

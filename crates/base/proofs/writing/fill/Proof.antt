@@ -1,6 +1,6 @@
 -- `base::writing::fill` meets its contract: the fields, and the trailing run behind them.
 use mathlib.Core.List.{[], _∷_}
-use mathlib.Core.Path.{_≡_, refl}
+use mathlib.Core.Path.{refl}
 use borrow.Author.Tests.{leb-true}
 use Rattle.wire.specs.Act.{copy}
 use Rattle.wire.proofs.Passes.{Filling, fill-start, fill-demand, fill-row, fill-turn, fill-last, demanded, run-room}

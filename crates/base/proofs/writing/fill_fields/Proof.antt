@@ -1,10 +1,9 @@
 -- `base::writing::fill_fields` meets its contract: what is left to store after each byte, each place built on the one before.
 use mathlib.Core.List.{List, [], _∷_}
-use mathlib.Core.Path.{_≡_, refl, sym, _∙_}
+use mathlib.Core.Path.{sym, _∙_}
 use Prim.Native.Nat.{ℕ}
 use Rattle.wire.specs.Bits.{field, join}
 use Rattle.wire.specs.Act.{Act, byte}
-use Rattle.wire.specs.Pen.{Ready}
 use Rattle.wire.proofs.Fields.{fits-cons, join-first}
 use Rattle.wire.proofs.Passes.{Filling, fill-start, fill-demand, fill-byte, fill-last, byte-ready, demanded}
 use Rattle.base.specs.declared.rows.MpegH3dAudio.{MpegH3dAudio}

@@ -1,7 +1,7 @@
 -- `base::writing::fill_sets` meets its contract: the count, then the bytes from the store.
 use Prim.Native.Nat.{_+_, _≤_}
 use mathlib.Core.List.{[], _∷_}
-use mathlib.Core.Path.{_≡_, refl, sym, _∙_}
+use mathlib.Core.Path.{sym}
 use lib.ListN.{length}
 use borrow.Author.Tests.{leb-true}
 use Rattle.wire.specs.Bits.{field, join}

@@ -2,8 +2,7 @@
 use Prim.Native.Nat.{ℕ}
 use mathlib.Core.Path.{_≡_, sym, ap, _∙_}
 use Rattle.frame.specs.Numbers.{Answer, tallied}
-use Rattle.frame.specs.Entry.{Sizes, measuring, tallying}
-use Rattle.base.specs.Write.{kind}
+use Rattle.frame.specs.Entry.{Sizes}
 use Rattle.base.specs.Contract.{measured}
 use Rattle.bench.specs.Line.{judgedLine}
 use borrow.Author.Needs.{needs}

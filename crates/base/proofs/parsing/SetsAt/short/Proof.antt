@@ -1,8 +1,6 @@
 use borrow.Author.Needs.{needs}
 use Rattle.base.proofs.parsing.SetsAt.short.Statement.{statement}
 use Rattle.base.proofs.parsing.SetsAt.short.Tie as tie
-use Rattle.base.proofs.parsing.SetsAt.short.Reads as reads
-use Rattle.base.proofs.parsing.SetsAt.short.Lts as lts
 
 enum-told : tie.Need-enum-told
 enum-told c = search needs

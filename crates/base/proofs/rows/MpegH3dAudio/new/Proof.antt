@@ -1,9 +1,6 @@
 use borrow.Author.Needs.{needs}
 use Rattle.base.proofs.rows.MpegH3dAudio.new.Statement.{statement}
 use Rattle.base.proofs.rows.MpegH3dAudio.new.Tie as tie
-use Rattle.base.proofs.rows.MpegH3dAudio.new.Reads as reads
-use Rattle.base.proofs.rows.MpegH3dAudio.new.Lts as lts
-use Rattle.wire.proofs.bits.ones.Reads as ones-reads
 
 ones-requires : tie.Need-ones-requires
 ones-requires c κs = search needs
