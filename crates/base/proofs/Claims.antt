@@ -31,34 +31,11 @@ use Rattle.base.specs.declared.Measured.{Measured}
 use Rattle.base.specs.declared.Measured.the-variants as M
 use Rattle.base.specs.Rows.{absentSets, listedSets}
 use Rattle.base.specs.Read.{sets, fields, parse}
+use Rattle.base.specs.Bodies.{noSets, noneListed}
 use Rattle.base.specs.Tally.{tally}
 use Rattle.base.specs.Write.{value, kind}
 use Rattle.base.specs.Contract.{read, measured}
 use Rattle.base.proofs.Laws.{lawful}
-
--- 05 BF C6 00: sets present, none listed, every reserved bit set
-abbrev none-listed : MpegH3dAudio
-none-listed = record {
-  «profile_level_indication» = 5;
-  «interactivity_enabled» = true;
-  «compatible_sets» = listedSets (span 4 0);
-  «reserved_flags» = 63;
-  «reserved_layout» = 3;
-  «reference_channel_layout» = 6;
-  trailing = span 4 0;
-}
-
--- 05 C0 3F: no sets, no reserved bit set
-abbrev no-sets : MpegH3dAudio
-no-sets = record {
-  «profile_level_indication» = 5;
-  «interactivity_enabled» = true;
-  «compatible_sets» = absentSets;
-  «reserved_flags» = 0;
-  «reserved_layout» = 0;
-  «reference_channel_layout» = 63;
-  trailing = span 3 0;
-}
 
 samples : Samples kind
 unfolding reading into judging placing run measuring onto sizes tallying kind parse fields sets u8 pass _>>=_ tally ones onesIn needs lacking filled
@@ -66,8 +43,8 @@ samples = record {
   lent = [];
   one = 0x05 ∷ 0xBF ∷ 0xC6 ∷ 0x00 ∷ [];
   other = 0x05 ∷ 0xC0 ∷ 0x3F ∷ [];
-  top = none-listed;
-  top′ = no-sets;
+  top = noneListed;
+  top′ = noSets;
   after = [];
   after′ = [];
   reads = refl;

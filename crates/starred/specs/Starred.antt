@@ -1,15 +1,14 @@
 -- The starred bench bodies of document 01 ("Bench bodies") as one list: of each body what reading answers and leaves, and its tally.
 use Prim.Native.Nat.{ℕ}
 use mathlib.Core.List.{List, [], _∷_}
-use mathlib.Core.Bool.{true}
 use mathlib.Core.Path.{_≡_}
 use Rattle.wire.specs.Lists.{Every}
-use Rattle.wire.specs.Prog.{needing, span}
+use Rattle.wire.specs.Prog.{needing}
 use Rattle.frame.specs.Numbers.{Answer, accepted}
 use Rattle.frame.specs.Kind.{Kind, Lent}
 use Rattle.frame.specs.Entry.{too-short, leaves, reading, tallying}
 use Rattle.base.specs.declared.rows.MpegH3dAudio.{MpegH3dAudio}
-use Rattle.base.specs.Rows.{absentSets, listedSets}
+use Rattle.base.specs.Bodies.{noSets, noneListed}
 use Rattle.base.specs.Write as Base
 
 -- a body of each kind, with what is expected of it
@@ -24,36 +23,12 @@ pub record Answers {Tree Top Value : Type 0} (K : Kind Tree Top Value) (body : L
 abbrev pub Holds : Star → Type 0
 Holds (base body read tally) = Answers Base.kind body [] read [] tally
 
--- no sets, layout 63, k 3
-abbrev no-sets : MpegH3dAudio
-no-sets = record {
-  «profile_level_indication» = 5;
-  «interactivity_enabled» = true;
-  «compatible_sets» = absentSets;
-  «reserved_flags» = 0;
-  «reserved_layout» = 0;
-  «reference_channel_layout» = 63;
-  trailing = span 3 0;
-}
-
--- sets present, none listed, layout 6
-abbrev none-listed : MpegH3dAudio
-none-listed = record {
-  «profile_level_indication» = 5;
-  «interactivity_enabled» = true;
-  «compatible_sets» = listedSets (span 4 0);
-  «reserved_flags» = 63;
-  «reserved_layout» = 3;
-  «reference_channel_layout» = 6;
-  trailing = span 4 0;
-}
-
 abbrev pub starred : List Star
 starred =
     base [] (too-short (needing 1)) (too-short (needing 1))
-    ∷ base (0x05 ∷ 0xC0 ∷ 0x3F ∷ []) (accepted no-sets) (accepted 8)
+    ∷ base (0x05 ∷ 0xC0 ∷ 0x3F ∷ []) (accepted noSets) (accepted 8)
     ∷ base (0x05 ∷ 0x80 ∷ 0x3F ∷ []) (too-short (needing 4)) (too-short (needing 4))
-    ∷ base (0x05 ∷ 0xBF ∷ 0xC6 ∷ 0x00 ∷ []) (accepted none-listed) (accepted 0)
+    ∷ base (0x05 ∷ 0xBF ∷ 0xC6 ∷ 0x00 ∷ []) (accepted noneListed) (accepted 0)
     ∷ []
 
 -- the claim
