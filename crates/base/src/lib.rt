@@ -1,7 +1,7 @@
 // The base body (kind 1; H.222.0 2.6.106, Table 2-121): read, measure, tally and write.
-pub mod parsing;
+mod parsing;
 pub mod rows;
-pub mod writing;
+mod writing;
 
 ghost use mathlib.Core.Path.{_≡_};
 ghost use mathlib.Core.List.{[]};

@@ -1,3 +1,4 @@
+-- `base::zero_bits` meets its contract: the two counts and their sum.
 use Rattle.base.specs.Tally.{tally}
 use borrow.Author.Needs.{needs}
 use Rattle.base.proofs.zero_bits.Statement.{statement}

@@ -24,17 +24,36 @@ left-2 profile b1 = u8 >>= left-3 profile b1
 abbrev left-1 : ℕ → Prog MpegH3dAudio
 left-1 profile = u8 >>= left-2 profile
 
-after-1 : (c : tie.After-known-told) → From parse (c .before .before .before .before .before .args .body .now) 0 (left-1 (c .before .a .given .0 .0)) (c .before .a .given .0 .1 .0)
+-- the way back from the place after a read to the place after the one before, and to the start
+abbrev start-1 : tie.After-known-told → tie.Start
+start-1 c = c .before .before .before .before .before
+
+abbrev back-2 : tie.After-known-told2 → tie.After-known-told
+back-2 c = c .before .before .before .before
+
+abbrev back-3 : tie.After-known-told3 → tie.After-known-told2
+back-3 c = c .before .before .before .before
+
+-- the bytes
+abbrev profile : tie.After-known-told → ℕ
+profile c = c .before .a .given .0 .0
+
+abbrev b1 : tie.After-known-told2 → ℕ
+b1 c = c .before .b .given .0 .0
+
+abbrev b2 : tie.After-known-told3 → ℕ
+b2 c = c .before .c .given .0 .0
+
+after-1 : (c : tie.After-known-told) → From parse (start-1 c .args .body .now) 0 (left-1 (profile c)) (c .before .a .given .0 .1 .0)
 unfolding parse
 after-1 c = onward u8 left-1 (begun parse _ 0 (omega arith)) (c .before .before .before .byte-at .ensures .is) (ap byteOut (c .before .a .given .1))
 
-after-2 : (c : tie.After-known-told2) → From parse (c .before .before .before .before .before .before .before .before .before .args .body .now) 0
-    (left-2 (c .before .before .before .before .before .a .given .0 .0) (c .before .b .given .0 .0)) (c .before .b .given .0 .1 .0)
-after-2 c = onward u8 _ (after-1 (c .before .before .before .before)) (c .before .before .before .byte-at2 .ensures .is) (ap byteOut (c .before .b .given .1))
+after-2 : (c : tie.After-known-told2) → From parse (start-1 (back-2 c) .args .body .now) 0 (left-2 (profile (back-2 c)) (b1 c)) (c .before .b .given .0 .1 .0)
+after-2 c = onward u8 _ (after-1 (back-2 c)) (c .before .before .before .byte-at2 .ensures .is) (ap byteOut (c .before .b .given .1))
 
-after-3 : (c : tie.After-known-told3) → From parse (c .before .before .before .before .before .before .before .before .before .before .before .before .before .args .body .now) 0
-    (left-3 (c .before .before .before .before .before .before .before .before .before .a .given .0 .0) (c .before .before .before .before .before .b .given .0 .0) (c .before .c .given .0 .0)) (c .before .c .given .0 .1 .0)
-after-3 c = onward u8 _ (after-2 (c .before .before .before .before)) (c .before .before .before .byte-at3 .ensures .is) (ap byteOut (c .before .c .given .1))
+after-3 : (c : tie.After-known-told3)
+    → From parse (start-1 (back-2 (back-3 c)) .args .body .now) 0 (left-3 (profile (back-2 (back-3 c))) (b1 (back-3 c)) (b2 c)) (c .before .c .given .0 .1 .0)
+after-3 c = onward u8 _ (after-2 (back-3 c)) (c .before .before .before .byte-at3 .ensures .is) (ap byteOut (c .before .c .given .1))
 
 byte-at-requires : tie.Need-byte-at-requires
 byte-at-requires c κs = search needs
@@ -86,7 +105,7 @@ part-requires : tie.Need-part-requires
 part-requires c κs = search needs
 
 sets-at-requires : tie.Need-sets-at-requires
-sets-at-requires c κs = (after-3 (c .before) .inside, c .before .before .before .before .before .before .before .before .before .before .before .before .before .before .pre)
+sets-at-requires c κs = (after-3 (c .before) .inside, start-1 (back-2 (back-3 (c .before))) .pre)
 
 enum-known-d : tie.Need-enum-known-d
 enum-known-d c = search needs
@@ -102,7 +121,7 @@ returns-4 c =
     cut-off (sets _) _ (after-3 (c .before .before .before .before .before)) (rw (c .before .before .before .before .part .ensures) at (c .before .before .before .sets-at .ensures)) (ap setsOut (c .before .enum-told4 .given .1)) (c .short4 .ensures)
 
 record-of-requires : tie.Need-record-of-requires
-record-of-requires c κs = rw (c .before .before .before .before .before .before .before .before .before .before .before .before .before .before .a .given .1) at (c .before .before .before .before .before .before .before .before .before .before .before .before .before .before .before .before .byte-at .ensures .small)
+record-of-requires c κs = let d = back-2 (back-3 (c .before .before .before .before .before)) in rw (d .before .a .given .1) at (d .before .before .before .byte-at .ensures .small)
 
 returns-5 : tie.Need-returns-5
 returns-5 c =

@@ -1,3 +1,4 @@
+-- `base::parsing::record_of` meets its contract: each field is its part of the byte.
 use Rattle.base.specs.Read.{fields}
 use borrow.Author.Needs.{needs}
 use Rattle.base.proofs.parsing.record_of.Statement.{statement}

@@ -23,8 +23,14 @@ begun : {absent : Bool} (s : List ℕ) (at : ℕ) → absent ≡ false → at �
 unfolding sets
 begun s at e h = record { same = ap (λ (b : Bool). run (sets b) s at) e; inside = h }
 
-counted : (c : tie.After-known-told) → From (sets (c .before .before .before .before .before .before .args .absent)) (c .before .before .before .before .before .before .args .body .now) (c .before .before .before .before .before .before .args .at) (left (c .before .a .given .0 .0)) (c .before .a .given .0 .1 .0)
-counted c = onward u8 _ (begun _ _ (c .before .before .before .before .if1 .left) (c .before .before .before .before .before .before .pre .0)) (c .before .before .before .byte-at .ensures .is) (ap byteOut (c .before .a .given .1))
+abbrev start-1 : tie.After-known-told → tie.Start
+start-1 c = c .before .before .before .before .before .before
+
+abbrev back-2 : tie.After-known-told2 → tie.After-known-told
+back-2 c = c .before .before .before .before
+
+counted : (c : tie.After-known-told) → From (sets (start-1 c .args .absent)) (start-1 c .args .body .now) (start-1 c .args .at) (left (c .before .a .given .0 .0)) (c .before .a .given .0 .1 .0)
+counted c = onward u8 _ (begun _ _ (c .before .before .before .before .if1 .left) (start-1 c .pre .0)) (c .before .before .before .byte-at .ensures .is) (ap byteOut (c .before .a .given .1))
 
 absent-requires : tie.Need-absent-requires
 absent-requires c κs = search needs
@@ -68,9 +74,9 @@ returns-3 c = cut-off (pass _) _ (counted (c .before .before .before .before)) (
 
 cast-t16 : tie.Need-cast-t16
 cast-t16 c =
-    let f = counted (c .before .before .before .before) in
+    let f = counted (back-2 c) in
     let q = pass-takes (run-takes (pass _) _ _ (sym (c .before .before .before .run-at .ensures) ∙ ap runOut (c .before .b .given .1)) (f .inside)) .0 in
-    record { fits = omega (arith, q, f .inside, c .before .before .before .before .before .before .before .before .before .before .pre .1) }
+    record { fits = omega (arith, q, f .inside, start-1 (back-2 c) .pre .1) }
 
 listed-requires : tie.Need-listed-requires
 listed-requires c κs = search needs

@@ -10,10 +10,13 @@ use borrow.Author.Needs.{needs}
 use Rattle.base.proofs.writing.fill.Statement.{statement}
 use Rattle.base.proofs.writing.fill.Tie as tie
 
-fields : (c : tie.After-slice-known2) → Filling (whole kind (c .before .before .before .before .before .before .args .m) [] (c .before .before .before .before .before .before .args .store .now)) (copy (trail kind (c .before .before .before .before .before .before .args .m) (c .before .before .before .before .before .before .args .store .now)) ∷ []) 0 (c .before .before .before .before .before .before .args .out .now)
+abbrev start-1 : tie.After-slice-known2 → tie.Start
+start-1 c = c .before .before .before .before .before .before
+
+fields : (c : tie.After-slice-known2) → Filling (whole kind (start-1 c .args .m) [] (start-1 c .args .store .now)) (copy (trail kind (start-1 c .args .m) (start-1 c .args .store .now)) ∷ []) 0 (start-1 c .args .out .now)
     (c .before .before .fill-fields .result) (c .before .before .fill-fields .last .1 .1 .0)
 unfolding whole kind
-fields c = fill-turn (fill-demand (fill-start (c .before .before .before .before .before .before .pre))) refl (c .before .before .fill-fields .kept .1 .1 .0) (c .before .before .fill-fields .ensures)
+fields c = fill-turn (fill-demand (fill-start (start-1 c .pre))) refl (c .before .before .fill-fields .kept .1 .1 .0) (c .before .before .fill-fields .ensures)
 
 fill-fields-requires : tie.Need-fill-fields-requires
 unfolding whole kind
@@ -27,7 +30,7 @@ cast-copy-2 c = search needs
 
 copy-requires : tie.Need-copy-requires
 unfolding whole kind
-copy-requires c κs = let h = leb-true _ _ (demanded (c .before .before .before .before .before .before .before .pre)) in (h, run-room _ _ _ h (fields (c .before) .ready))
+copy-requires c κs = let h = leb-true _ _ (demanded (start-1 (c .before) .pre)) in (h, run-room _ _ _ h (fields (c .before) .ready))
 
 same-length : tie.Need-same-length
 same-length c = search needs

@@ -22,25 +22,45 @@ left-2 m store = byte (layoutByte m) ∷ left-3 m store
 abbrev left-1 : MpegH3dAudio → List ℕ → List Act
 left-1 m store = byte (flagsByte m) ∷ left-2 m store
 
-start : (c : tie.After-put-arg) → Filling (acts (c .before .before .before .before .args .m) [] (c .before .before .before .before .args .store .now)) (byte (field 8 (c .before .before .before .before .args .m .«profile_level_indication») ∷ []) ∷ left-1 (c .before .before .before .before .args .m) (c .before .before .before .before .args .store .now)) 0 (c .before .before .before .before .args .out .now) 0 (c .before .before .before .before .args .out .now)
+abbrev left-0 : MpegH3dAudio → List ℕ → List Act
+left-0 m store = byte (field 8 (m .«profile_level_indication») ∷ []) ∷ left-1 m store
+
+-- the way back from the place after a byte to the one before, and to the start
+abbrev start-0 : tie.After-put-arg → tie.Start
+start-0 c = c .before .before .before .before
+
+abbrev back-1 : tie.After-slice-known2 → tie.After-put-arg
+back-1 c = c .before .before .before .before
+
+abbrev back-2 : tie.After-slice-known3 → tie.After-slice-known2
+back-2 c = c .before .before .before .before .before
+
+abbrev back-3 : tie.After-slice-known4 → tie.After-slice-known3
+back-3 c = c .before .before .before .before .before
+
+-- from a start: what is still to store at n of o
+abbrev Left : tie.Start → (MpegH3dAudio → List ℕ → List Act) → ℕ → List ℕ → Type 0
+Left c left n o = Filling (acts (c .args .m) [] (c .args .store .now)) (left (c .args .m) (c .args .store .now)) 0 (c .args .out .now) n o
+
+after-0 : (c : tie.After-put-arg) → Left (start-0 c) left-0 0 (start-0 c .args .out .now)
 unfolding acts
-start c = fill-demand (fill-start (c .before .before .before .before .pre))
+after-0 c = fill-demand (fill-start (start-0 c .pre))
 
-after-1 : (c : tie.After-slice-known2) → Filling (acts (c .before .before .before .before .before .before .before .before .args .m) [] (c .before .before .before .before .before .before .before .before .args .store .now)) (left-1 (c .before .before .before .before .before .before .before .before .args .m) (c .before .before .before .before .before .before .before .before .args .store .now)) 0 (c .before .before .before .before .before .before .before .before .args .out .now) (c .before .before .put .result) (c .before .before .put .last .0)
+after-1 : (c : tie.After-slice-known2) → Left (start-0 (back-1 c)) left-1 (c .before .before .put .result) (c .before .before .put .last .0)
 unfolding join
-after-1 c = fill-byte (start (c .before .before .before .before)) (c .before .before .before .wide .ensures ∙ sym (join-first 8 _ [])) (c .before .before .put .ensures)
+after-1 c = fill-byte (after-0 (back-1 c)) (c .before .before .before .wide .ensures ∙ sym (join-first 8 _ [])) (c .before .before .put .ensures)
 
-after-2 : (c : tie.After-slice-known3) → Filling (acts (c .before .before .before .before .before .before .before .before .before .before .before .before .before .args .m) [] (c .before .before .before .before .before .before .before .before .before .before .before .before .before .args .store .now)) (left-2 (c .before .before .before .before .before .before .before .before .before .before .before .before .before .args .m) (c .before .before .before .before .before .before .before .before .before .before .before .before .before .args .store .now)) 0 (c .before .before .before .before .before .before .before .before .before .before .before .before .before .args .out .now) (c .before .before .put2 .result) (c .before .before .put2 .last .0)
-after-2 c = fill-byte (after-1 (c .before .before .before .before .before)) (c .before .before .before .flags-byte .ensures .is) (c .before .before .put2 .ensures)
+after-2 : (c : tie.After-slice-known3) → Left (start-0 (back-1 (back-2 c))) left-2 (c .before .before .put2 .result) (c .before .before .put2 .last .0)
+after-2 c = fill-byte (after-1 (back-2 c)) (c .before .before .before .flags-byte .ensures .is) (c .before .before .put2 .ensures)
 
-after-3 : (c : tie.After-slice-known4) → Filling (acts (c .before .before .before .before .before .before .before .before .before .before .before .before .before .before .before .before .before .before .args .m) [] (c .before .before .before .before .before .before .before .before .before .before .before .before .before .before .before .before .before .before .args .store .now)) (left-3 (c .before .before .before .before .before .before .before .before .before .before .before .before .before .before .before .before .before .before .args .m) (c .before .before .before .before .before .before .before .before .before .before .before .before .before .before .before .before .before .before .args .store .now)) 0 (c .before .before .before .before .before .before .before .before .before .before .before .before .before .before .before .before .before .before .args .out .now) (c .before .before .put3 .result) (c .before .before .put3 .last .0)
-after-3 c = fill-byte (after-2 (c .before .before .before .before .before)) (c .before .before .before .layout-byte .ensures .is) (c .before .before .put3 .ensures)
+after-3 : (c : tie.After-slice-known4) → Left (start-0 (back-1 (back-2 (back-3 c)))) left-3 (c .before .before .put3 .result) (c .before .before .put3 .last .0)
+after-3 c = fill-byte (after-2 (back-3 c)) (c .before .before .before .layout-byte .ensures .is) (c .before .before .put3 .ensures)
 
 wide-requires : tie.Need-wide-requires
 wide-requires c κs = search needs
 
 put-requires : tie.Need-put-requires
-put-requires c κs = let r = byte-ready (start (c .before) .ready) in (rw (c .wide .ensures) (fits-cons 8 _ [] (r .0) .0), r .1)
+put-requires c κs = let r = byte-ready (after-0 (c .before) .ready) in (rw (c .wide .ensures) (fits-cons 8 _ [] (r .0) .0), r .1)
 
 flags-byte-requires : tie.Need-flags-byte-requires
 flags-byte-requires c κs = byte-ready (after-1 (c .before) .ready) .0
@@ -56,7 +76,7 @@ put-requires-3 c κs = (c .layout-byte .ensures .small, byte-ready (after-2 (c .
 
 fill-sets-requires : tie.Need-fill-sets-requires
 unfolding acts
-fill-sets-requires c κs = (demanded (c .before .before .before .before .before .before .before .before .before .before .before .before .before .before .before .before .before .before .before .pre), after-3 (c .before) .ready)
+fill-sets-requires c κs = (demanded (start-0 (back-1 (back-2 (back-3 (c .before)))) .pre), after-3 (c .before) .ready)
 
 same-length : tie.Need-same-length
 same-length c = search needs

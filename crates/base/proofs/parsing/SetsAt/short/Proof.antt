@@ -1,3 +1,4 @@
+-- `SetsAt::short` meets its contract.
 use borrow.Author.Needs.{needs}
 use Rattle.base.proofs.parsing.SetsAt.short.Statement.{statement}
 use Rattle.base.proofs.parsing.SetsAt.short.Tie as tie

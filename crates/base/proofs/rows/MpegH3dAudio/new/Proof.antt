@@ -1,3 +1,4 @@
+-- `MpegH3dAudio::new` meets its contract: six ones are 63, two are 3.
 use borrow.Author.Needs.{needs}
 use Rattle.base.proofs.rows.MpegH3dAudio.new.Statement.{statement}
 use Rattle.base.proofs.rows.MpegH3dAudio.new.Tie as tie
