@@ -15,7 +15,7 @@ use Rattle.wire.specs.declared.pen.Fault.{Fault}
 use Rattle.wire.specs.declared.pen.Fault.the-variants as F
 use Rattle.wire.specs.declared.pen.Pen.{Pen}
 use Rattle.wire.specs.declared.pen.Pen.the-variants.{At, Stop}
-use Rattle.wire.proofs.Steps.{sets-turn, sets-end, sets-append}
+use Rattle.wire.proofs.Steps.{sets-turn, sets-end, sets-append, front-stored}
 use Rattle.wire.proofs.Acts.{and-both, bytes-append, clean-both}
 
 -- ---- the check pass
@@ -284,6 +284,4 @@ module _ {q : List Act} {k : ℕ} {p : Pen} (w : Checked q k (At 0) p) where
 -- and leaves the bytes at the front, and the output as it was behind them
 pub filled-front : {q : List Act} {out out′ : List ℕ} {r : ℕ} → Filled q 0 out r out′ → length (bytes q) ≤ length out
     → out′ ≡ bytes q ++ drop (length (bytes q)) out
-filled-front {q} {out} v h =
-    let z : 0 + length (bytes q) ≡ length (bytes q) = zero-add (length (bytes q)) in
-    v .holds ∙ sets-eq (bytes q) out 0 (omega arith) ∙ rw z
+filled-front {q} {out} v h = v .holds ∙ front-stored out (bytes q) h

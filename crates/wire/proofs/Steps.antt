@@ -1,16 +1,16 @@
 -- Laws of single steps of the code: a table's whole rows, a turn of a loop that stores a list element by element, and the two outcomes of
 -- each read.
 use Prim.Native.Nat.{ℕ, suc, _+_, _*_, _/_, _≤_, _<_}
-use mathlib.Core.Path.{_≡_, refl}
+use mathlib.Core.Path.{_≡_, refl, _∙_}
 use mathlib.Core.List.{List, [], _∷_, _++_}
 use mathlib.Core.Bool.{Bool, true, false}
 use native.Mathlib.Omega.{arith}
-use native.Mathlib.Nat.{add-zero, le-div-iff-mul-le}
+use native.Mathlib.Nat.{add-zero, zero-add, le-div-iff-mul-le}
 use native.Mathlib.Numerals.{add-one}
 use borrow.Author.Tests.{leb-true, leb-false, le-leb, lt-leb}
 use lib.Dec.{leb}
 use lib.ListN.{length, getD, set, drop, drop-of-length-le}
-use lib.Seq.{sets, slice-cons, drop-cons}
+use lib.Seq.{sets, sets-eq, slice-cons, drop-cons}
 use Rattle.wire.specs.Prog.{done, short, needing, run, u8, pass}
 
 -- ---- a table of l columns has r whole rows of k columns
@@ -43,6 +43,10 @@ sets-append t k [] ys = rw add-zero
 sets-append t k (x ∷ xs) ys =
     let e : k + suc (length xs) ≡ suc k + length xs = omega arith in
     rw e (sets-append (set t k x) (suc k) xs ys)
+
+-- stored at the front: a table's rows or an image, and the rest as it was
+pub front-stored : (t r : List ℕ) → length r ≤ length t → sets t 0 r ≡ r ++ drop (length r) t
+front-stored t r h = let z : 0 + length r ≡ length r = zero-add (length r) in sets-eq r t 0 (omega arith) ∙ rw z
 
 -- ---- reads: a byte, and a run that is passed over
 
