@@ -24,8 +24,7 @@ cast-result c = search needs
 
 returns : tie.Need-returns
 unfolding tally
-returns c =
-    cc
+returns c = rw (c .before .before .zero-bits .ensures, c .zero-bits2 .ensures, c .before .before .before .wide .ensures, c .before .wide2 .ensures)
 
 pub zero-bits-spec : {M : Type 1} → statement M
 zero-bits-spec =

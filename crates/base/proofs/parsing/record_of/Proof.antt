@@ -30,8 +30,7 @@ cast-t13 c = search needs
 
 returns : tie.Need-returns
 unfolding fields
-returns c =
-    cc
+returns c = rw (c .before .before .before .part .ensures, c .before .before .part2 .ensures, c .before .part3 .ensures, c .part4 .ensures)
 
 pub record-of-spec : {M : Type 1} → statement M
 record-of-spec =

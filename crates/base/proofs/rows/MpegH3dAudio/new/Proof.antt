@@ -10,8 +10,7 @@ ones-requires-2 : tie.Need-ones-requires-2
 ones-requires-2 c κs = search needs
 
 returns : tie.Need-returns
-returns c =
-    cc
+returns c = rw (c .before .ones .ensures, c .ones2 .ensures)
 
 pub new-spec : {M : Type 1} → statement M
 new-spec = tie.close (tie.spec ones-requires ones-requires-2 returns)
