@@ -10,10 +10,11 @@ use lib.Dec.{eqb}
 use Rattle.wire.specs.Bits.{part, bit, Field, field, split, total, widths}
 use Rattle.wire.specs.Prog.{ret, look, u8, pass, _>>=_, span}
 use Rattle.wire.specs.Act.{Act, byte, copy}
+use Rattle.wire.specs.declared.rows.Payload.{Payload}
 use Rattle.wire.proofs.Fields.{bit-of, bit-back}
 use Rattle.wire.proofs.Runs.{bind-assoc}
 use Rattle.wire.proofs.Takes.{Takes, map-takes}
-use Rattle.wire.proofs.Codec.{Codec, one-byte, number, two, payload, both, steer, then-read, then-means, then-spans, Then-fits, then-acts, opt, opt-read, opt-means, opt-acts, Opt-fits, opt-spans, seen-as}
+use Rattle.wire.proofs.Codec.{Codec, one-byte, number, two, sized, sized-read, sized-acts, sized-fits, both, steer, then-read, then-means, then-spans, Then-fits, then-acts, opt, opt-read, opt-means, opt-acts, Opt-fits, opt-spans, seen-as}
 use Rattle.base.specs.declared.rows.CompatibleSets.{CompatibleSets}
 use Rattle.base.specs.declared.rows.MpegH3dAudio.{MpegH3dAudio}
 use Rattle.base.specs.Rows.{absentSets, listedSets}
@@ -48,11 +49,6 @@ flags : Codec Flags Flags
 unfolding total widths
 flags = one-byte (1 ∷ 1 ∷ 6 ∷ []) refl flagsOf flagsFields (λ x. refl) (λ b h. flags-taken b) (λ b x h e. flags-found b x e)
 
--- a count, and so many bytes
-listing : Codec (ℕ × ℕ) (ℕ × List ℕ)
-unfolding number one-byte
-listing = steer number (λ n. n) (λ n. n) (λ s n. refl) payload
-
 -- the three bytes
 abbrev Head : Type 0
 Head = ℕ × (Flags × (ℕ × ℕ))
@@ -63,15 +59,15 @@ head = both number (both flags (two 2 6 refl))
 abbrev absent : Head → Bool
 absent h = h .1 .0 .1
 
-pieces : Codec (Head × Option (ℕ × ℕ)) (Head × Option (ℕ × List ℕ))
+pieces : Codec (Head × Option Payload) (Head × Option (List ℕ))
 unfolding both steer then-means number two flags one-byte
-pieces = steer head absent absent (λ s h. refl) (λ a. opt listing (not a))
+pieces = steer head absent absent (λ s h. refl) (λ a. opt sized (not a))
 
 -- ---- as the record and as the Rust's struct
 
-abbrev pub placed : Option (ℕ × ℕ) → CompatibleSets
+abbrev pub placed : Option Payload → CompatibleSets
 placed none = absentSets
-placed (some x) = listedSets (span (x .1) (x .0))
+placed (some p) = listedSets p
 
 abbrev withSets : Head → CompatibleSets → MpegH3dAudio
 withSets h s = record {
@@ -84,42 +80,34 @@ withSets h s = record {
   trailing = span 0 0;
 }
 
-abbrev recordOf : Head × Option (ℕ × ℕ) → MpegH3dAudio
+abbrev recordOf : Head × Option Payload → MpegH3dAudio
 recordOf v = withSets (v .0) (placed (v .1))
-
-abbrev bytesOf : Option (ℕ × List ℕ) → Option (List ℕ)
-bytesOf none = none
-bytesOf (some x) = some (x .1)
-
-abbrev counted : Option (List ℕ) → Option (ℕ × List ℕ)
-counted none = none
-counted (some l) = some (length l, l)
 
 abbrev pub isNone : Option (List ℕ) → Bool
 isNone none = true
 isNone (some l) = false
 
-abbrev structOf : Head × Option (ℕ × List ℕ) → Value
+abbrev structOf : Head × Option (List ℕ) → Value
 structOf c = record {
   «profile_level_indication» = c .0 .0;
   «interactivity_enabled» = c .0 .1 .0 .0;
-  «compatible_sets» = bytesOf (c .1);
+  «compatible_sets» = c .1;
   «reserved_flags» = c .0 .1 .0 .2;
   «reserved_layout» = c .0 .1 .1 .0;
   «reference_channel_layout» = c .0 .1 .1 .1;
 }
 
-abbrev ofStruct : Value → Head × Option (ℕ × List ℕ)
-ofStruct d = ((d .«profile_level_indication», ((d .«interactivity_enabled», isNone (d .«compatible_sets»), d .«reserved_flags»), (d .«reserved_layout», d .«reference_channel_layout»))), counted (d .«compatible_sets»))
+abbrev ofStruct : Value → Head × Option (List ℕ)
+ofStruct d = ((d .«profile_level_indication», ((d .«interactivity_enabled», isNone (d .«compatible_sets»), d .«reserved_flags»), (d .«reserved_layout», d .«reference_channel_layout»))), d .«compatible_sets»)
 
 -- the flag steers the sets as the Rust reads them
-sets-same : {B : Type 0} (a : Bool) (g : CompatibleSets → B) → opt-read listing (not a) >>= (λ o. ret (g (placed o))) ≡ sets a >>= λ s. ret (g s)
-unfolding opt-read sets listing steer then-read number one-byte payload pass u8 _>>=_
+sets-same : {B : Type 0} (a : Bool) (g : CompatibleSets → B) → opt-read sized (not a) >>= (λ o. ret (g (placed o))) ≡ sets a >>= λ s. ret (g s)
+unfolding opt-read sets sized seen-as sized-read pass u8 _>>=_
 sets-same true g = refl
 sets-same false g = refl
 
-after-head : (h : Head) → (opt-read listing (not (absent h)) >>= λ o. ret (h, o)) >>= (λ v. ret (recordOf v)) ≡ sets (absent h) >>= λ s. ret (withSets h s)
-after-head h = bind-assoc (opt-read listing (not (absent h))) (λ o. ret (h, o)) (λ v. ret (recordOf v)) ∙ unfold _>>=_ in sets-same (absent h) (withSets h)
+after-head : (h : Head) → (opt-read sized (not (absent h)) >>= λ o. ret (h, o)) >>= (λ v. ret (recordOf v)) ≡ sets (absent h) >>= λ s. ret (withSets h s)
+after-head h = bind-assoc (opt-read sized (not (absent h))) (λ o. ret (h, o)) (λ v. ret (recordOf v)) ∙ unfold _>>=_ in sets-same (absent h) (withSets h)
 
 same-program : pieces .read >>= (λ v. ret (recordOf v)) ≡ parse
 unfolding parse fields pieces steer then-read both number two flags one-byte opt u8 _>>=_
@@ -127,45 +115,43 @@ same-program = λ i. look 1 (λ l. look 1 (λ l′. look 1 (λ l″. after-head 
 
 -- ---- payloads and meanings
 
-spans-same : (h : Head) (o : Option (ℕ × ℕ)) → pieces .spans (h, o) ≡ payloads (recordOf (h, o))
-unfolding pieces steer then-spans both number two flags one-byte opt opt-spans listing payload payloads
+spans-same : (h : Head) (o : Option Payload) → pieces .spans (h, o) ≡ payloads (recordOf (h, o))
+unfolding pieces steer then-spans both number two flags one-byte opt opt-spans sized seen-as payloads
 spans-same h none = refl
 spans-same h (some x) = refl
 
-means-same : (s : List ℕ) (h : Head) (o : Option (ℕ × ℕ)) → value (recordOf (h, o)) [] s ≡ structOf (pieces .means s (h, o))
-unfolding pieces steer then-means both number two flags one-byte opt opt-means listing payload value
+means-same : (s : List ℕ) (h : Head) (o : Option Payload) → value (recordOf (h, o)) [] s ≡ structOf (pieces .means s (h, o))
+unfolding pieces steer then-means both number two flags one-byte opt opt-means sized seen-as value
 means-same s h none = refl
 means-same s h (some x) = refl
 
-there-back : (o : Option (List ℕ)) → bytesOf (counted o) ≡ o
-there-back none = refl
-there-back (some l) = refl
+-- the flag is that of the sets
+flag-back : (a : Bool) (o : Option (List ℕ)) → Opt-fits sized (not a) o → isNone o ≡ a
+unfolding Opt-fits
+flag-back true none f = refl
+flag-back false none f = absurd f
+flag-back true (some l) f = absurd f
+flag-back false (some l) f = refl
 
--- the flag and the count are those of the sets
-back-there : (a : Bool) (o : Option (ℕ × List ℕ)) → Opt-fits listing (not a) o → (isNone (bytesOf o) ≡ a) × (counted (bytesOf o) ≡ o)
-unfolding Opt-fits listing steer Then-fits number one-byte payload
-back-there true none f = (refl, refl)
-back-there false none f = absurd f
-back-there true (some x) f = absurd f
-back-there false (some x) f = (refl, λ i. some (f .1 i, x .1))
-
-back-head : (c : Head × Option (ℕ × List ℕ)) → pieces .Fits c → ofStruct (structOf c) ≡ c
+head-back : (c : Head × Option (List ℕ)) → pieces .Fits c → ofStruct (structOf c) ≡ c
 unfolding pieces steer Then-fits opt
-back-head c f =
-    let q = back-there (absent (c .0)) (c .1) (f .1) in
-    λ i. ((c .0 .0, ((c .0 .1 .0 .0, q .0 i, c .0 .1 .0 .2), c .0 .1 .1)), q .1 i)
+head-back c f = λ i. ((c .0 .0, ((c .0 .1 .0 .0, flag-back (absent (c .0)) (c .1) (f .1) i, c .0 .1 .0 .2), c .0 .1 .1)), c .1)
 
 pub format : Codec MpegH3dAudio Value
-format = seen-as pieces recordOf parse same-program payloads (λ v. spans-same (v .0) (v .1)) (λ s m. value m [] s) structOf ofStruct (λ s v. means-same s (v .0) (v .1))
-    (λ d i. record {
-      «profile_level_indication» = d .«profile_level_indication»;
-      «interactivity_enabled» = d .«interactivity_enabled»;
-      «compatible_sets» = there-back (d .«compatible_sets») i;
-      «reserved_flags» = d .«reserved_flags»;
-      «reserved_layout» = d .«reserved_layout»;
-      «reference_channel_layout» = d .«reference_channel_layout»;
-    })
-    (λ c f e. back-head c f)
+format =
+    seen-as
+    pieces
+    recordOf
+    parse
+    same-program
+    payloads
+    (λ v. spans-same (v .0) (v .1))
+    (λ s m. value m [] s)
+    structOf
+    ofStruct
+    (λ s v. means-same s (v .0) (v .1))
+    (λ d. refl)
+    (λ c f e. head-back c f)
 
 -- ---- what it comes to
 
@@ -173,10 +159,10 @@ abbrev pub listingActs : Option (List ℕ) → List Act
 listingActs none = []
 listingActs (some l) = byte (field 8 (length l) ∷ []) ∷ copy l ∷ []
 
-listing-acts : (o : Option (List ℕ)) → opt-acts listing (counted o) ≡ listingActs o
-unfolding opt-acts listing steer then-acts number one-byte payload
+listing-acts : (o : Option (List ℕ)) → opt-acts sized o ≡ listingActs o
+unfolding opt-acts
 listing-acts none = refl
-listing-acts (some l) = refl
+listing-acts (some l) = sized-acts l
 
 -- the three bytes, and what follows
 abbrev pub headActs : Value → List Act → List Act
@@ -191,10 +177,10 @@ unfolding format seen-as pieces steer then-acts both number two flags one-byte o
 format-acts d = ap (headActs d) (listing-acts (d .«compatible_sets»))
 
 -- every meaning fits
-listing-fits : (o : Option (List ℕ)) → Opt-fits listing (not (isNone o)) (counted o)
-unfolding Opt-fits listing steer Then-fits number one-byte payload
+listing-fits : (o : Option (List ℕ)) → Opt-fits sized (not (isNone o)) o
+unfolding Opt-fits
 listing-fits none = tt
-listing-fits (some l) = (tt, refl)
+listing-fits (some l) = sized-fits l
 
 pub format-fits : (d : Value) → format .Fits d
 unfolding format seen-as pieces steer Then-fits both number two flags one-byte opt
@@ -213,5 +199,5 @@ unfolding format seen-as
 format-spans m = refl
 
 -- the sets of a record that was read
-pub record-from : {at : ℕ} {m : MpegH3dAudio} {bs : List ℕ} → Takes parse at m bs → (o : Option (ℕ × ℕ)) × (placed o ≡ m .«compatible_sets»)
+pub record-from : {at : ℕ} {m : MpegH3dAudio} {bs : List ℕ} → Takes parse at m bs → (o : Option Payload) × (placed o ≡ m .«compatible_sets»)
 record-from t = let u = map-takes (pieces .read) recordOf (rw (← same-program) at t) in (u .0 .1, ap (λ (m : MpegH3dAudio). m .«compatible_sets») (u .1))

@@ -57,7 +57,7 @@ stands : (c : Bool) (p : Payload) (s : List ℕ) → Every (Within s) (pick c (p
 stands true p s h = le-leb _ _ (every-head (Within s) h)
 stands false p s h = refl
 
-short : (o : Option (ℕ × ℕ)) (s : List ℕ) → Every (Within s) (pick (placed o .present) (placed o .indications ∷ []) []) → length s < 65536
+short : (o : Option Payload) (s : List ℕ) → Every (Within s) (pick (placed o .present) (placed o .indications ∷ []) []) → length s < 65536
     → (placed o .indications .offset < 65536) × (placed o .indications .length < 65536)
 short none s h l = (omega arith, omega arith)
 short (some x) s h l = let w = every-head (Within s) h in (omega arith, omega arith)
@@ -85,7 +85,7 @@ fitting d e =
       layout = omega (arith, fits-cons 6 _ _ (l .1) .0);
     }
 
-holds : (m : MpegH3dAudio) (s : List ℕ) (k n : ℕ) → Every (Within s) (payloads m) → (o : Option (ℕ × ℕ)) × (placed o ≡ m .«compatible_sets») → Fitting (value m [] s) → k + n ≤ length s → length s < 65536
+holds : (m : MpegH3dAudio) (s : List ℕ) (k n : ℕ) → Every (Within s) (payloads m) → (o : Option Payload) × (placed o ≡ m .«compatible_sets») → Fitting (value m [] s) → k + n ≤ length s → length s < 65536
     → Every (λ (x : Bound). x .it < x .below) (bounds (retrail m (span k n)))
 unfolding bounds payloads value
 holds m s k n h (o, e) f t l =

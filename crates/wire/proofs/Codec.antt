@@ -362,3 +362,31 @@ module _ {A B C D : Type 0} (m : Codec A C) (f : A → B) (program : Prog B) (re
 
   unfoldable pub seen-as : Codec B D
   seen-as = record { read = program; means = mean; acts = λ d. m .acts (from d); Fits = λ d. m .Fits (from d); forth = as-forth; back = as-back; spans = places; skipped = as-skipped }
+
+-- ---- a count byte and so many bytes, by their place: what a payload with its length is
+
+unfoldable pub listed : Codec (ℕ × ℕ) (ℕ × List ℕ)
+unfolding number one-byte
+listed = steer number (λ n. n) (λ n. n) (λ s n. refl) payload
+
+unfoldable pub sized-read : Prog Payload
+sized-read = do
+  n ← u8
+  p ← pass n
+  ret (span p n)
+
+pub sized-same : listed .read >>= (λ v. ret (span (v .1) (v .0))) ≡ sized-read
+unfolding sized-read listed steer then-read number one-byte payload pass u8 _>>=_
+sized-same = refl
+
+unfoldable pub sized : Codec Payload (List ℕ)
+unfolding listed steer then-means then-spans Then-fits number one-byte payload
+sized = seen-as listed (λ v. span (v .1) (v .0)) sized-read sized-same (λ p. p ∷ []) (λ v. refl) (λ s p. slice (p .offset) (p .offset + p .length) s) (λ c. c .1) (λ l. (length l, l)) (λ s v. refl) (λ l. refl) (λ c f e i. (f .1 i, c .1))
+
+pub sized-acts : (l : List ℕ) → sized .acts l ≡ byte (field 8 (length l) ∷ []) ∷ copy l ∷ []
+unfolding sized seen-as listed steer then-acts number one-byte payload
+sized-acts l = refl
+
+pub sized-fits : (l : List ℕ) → sized .Fits l
+unfolding sized seen-as listed steer Then-fits number one-byte payload
+sized-fits l = (tt, refl)
