@@ -18,7 +18,7 @@ use Rattle.wire.specs.declared.rows.Payload.{Payload}
 use Rattle.wire.proofs.Lists.{every-head}
 use Rattle.wire.proofs.Acts.{and-both}
 use Rattle.wire.proofs.Fields.{fits-cons}
-use Rattle.frame.specs.Kind.{Bound, Lent}
+use Rattle.frame.specs.Kind.{Held, Lent}
 use Rattle.frame.specs.Entry.{needs, total, filled}
 use Rattle.frame.proofs.Lawful.{Lawful}
 use Rattle.base.specs.declared.rows.MpegH3dAudio.{MpegH3dAudio}
@@ -86,7 +86,7 @@ fitting d e =
     }
 
 holds : (m : MpegH3dAudio) (s : List ℕ) (k n : ℕ) → Every (Within s) (payloads m) → (o : Option Payload) × (placed o ≡ m .«compatible_sets») → Fitting (value m [] s) → k + n ≤ length s → length s < 65536
-    → Every (λ (x : Bound). x .it < x .below) (bounds (retrail m (span k n)))
+    → Every Held (bounds (retrail m (span k n)))
 unfolding bounds payloads value
 holds m s k n h (o, e) f t l =
     let w : Every (Within s) (pick (placed o .present) (placed o .indications ∷ []) []) = rw e h in

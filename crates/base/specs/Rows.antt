@@ -4,7 +4,7 @@ use mathlib.Core.List.{List, [], _∷_}
 use mathlib.Core.Bool.{true, false}
 use Rattle.wire.specs.Prog.{span}
 use Rattle.wire.specs.declared.rows.Payload.{Payload}
-use Rattle.frame.specs.Kind.{Bound}
+use Rattle.frame.specs.Kind.{Bound, bounded}
 use Rattle.base.specs.declared.rows.CompatibleSets.{CompatibleSets}
 use Rattle.base.specs.declared.rows.MpegH3dAudio.{MpegH3dAudio}
 
@@ -25,10 +25,7 @@ retrail m r = record {
   trailing = r;
 }
 
-abbrev pub below : ℕ → ℕ → Bound
-below n x = record { it = x; below = n }
-
 unfoldable pub bounds : MpegH3dAudio → List Bound
 bounds m =
-    below 256 (m .«profile_level_indication») ∷ below 65536 (m .«compatible_sets» .indications .offset) ∷ below 65536 (m .«compatible_sets» .indications .length)
-    ∷ below 256 (m .«reserved_flags») ∷ below 256 (m .«reserved_layout») ∷ below 256 (m .«reference_channel_layout») ∷ below 65536 (m .trailing .offset) ∷ below 65536 (m .trailing .length) ∷ []
+    bounded 256 (m .«profile_level_indication») ∷ bounded 65536 (m .«compatible_sets» .indications .offset) ∷ bounded 65536 (m .«compatible_sets» .indications .length)
+    ∷ bounded 256 (m .«reserved_flags») ∷ bounded 256 (m .«reserved_layout») ∷ bounded 256 (m .«reference_channel_layout») ∷ bounded 65536 (m .trailing .offset) ∷ bounded 65536 (m .trailing .length) ∷ []

@@ -12,7 +12,7 @@ use Rattle.wire.specs.Pen.{clean, bytes}
 use Rattle.wire.proofs.Takes.{Takes}
 use Rattle.wire.proofs.Codec.{Codec}
 use Rattle.frame.specs.Numbers.{accepted}
-use Rattle.frame.specs.Kind.{Kind, Lent, Rows, Bound}
+use Rattle.frame.specs.Kind.{Kind, Lent, Rows, Held}
 use Rattle.frame.specs.Entry.{leaves, needs, total, lacking, filled, Sizes, reading, measuring, tallying}
 
 -- every row has as many columns as its table
@@ -46,7 +46,7 @@ module _ {Tree Top Value : Type 0} (K : Kind Tree Top Value) where
     -- what stands in the record and the tables means what was read, and is what the code's types can hold
     pub laid : (t : Tree) (bs rest : List ℕ) (lent : Lent) → Takes (K .program) 0 t bs → lacking (needs (K .tables t)) lent ≡ none
         → K .value (top-of t bs rest) (filled (K .tables t) lent) (bs ++ rest) ≡ format .means (bs ++ rest) t
-    pub held : (t : Tree) (bs rest : List ℕ) → Taken format t bs rest → length (bs ++ rest) < 65536 → Every (λ (x : Bound). x .it < x .below) (K .bounds (top-of t bs rest))
+    pub held : (t : Tree) (bs rest : List ℕ) → Taken format t bs rest → length (bs ++ rest) < 65536 → Every Held (K .bounds (top-of t bs rest))
     pub columns : (t : Tree) (bs rest : List ℕ) → Taken format t bs rest → length (bs ++ rest) < 65536 → Every (λ (r : Rows). Every (Every Column) (r .rows)) (K .tables t)
     -- what was read is written without a fault
     pub ready : (t : Tree) (bs rest : List ℕ) (lent : Lent) → Taken format t bs rest → lacking (needs (K .tables t)) lent ≡ none

@@ -23,7 +23,7 @@ use Rattle.wire.proofs.Acts.{and-both, both-and, clean-append, clean-both, byte
 use Rattle.wire.proofs.Codec.{Wrote}
 use Rattle.frame.specs.declared.Written.the-variants as W
 use Rattle.frame.specs.Numbers.{Answer, accepted, number, refusal, shorts}
-use Rattle.frame.specs.Kind.{Kind, Lent, Rows, Bound}
+use Rattle.frame.specs.Kind.{Kind, Lent, Rows, Held}
 use Rattle.frame.specs.Entry.{leaves, Sound, Need, needs, first, others, lacking, filled, tail, judging, reading, puts, trail, whole, writing}
 use Rattle.frame.specs.Claims.{Image, Meaning, meaning, Lendable, Writable, Room, Round}
 use Rattle.frame.proofs.Judged.{answers, judged, ran-well, View, is-read, lacks, is-short, is-long, view, reads-so, lacks-so, Was, was}
@@ -219,7 +219,7 @@ module _ {Tree Top Value : Type 0} (K : Kind Tree Top Value) where
 
     -- ---- acceptance
 
-    typed-so : (body : List ℕ) (t : Tree) (k : ℕ) (p : Parted body t k) → Every Byte (p .front) → length body ≤ 65535 → Every (λ (x : Bound). x .it < x .below) (K .bounds (K .top t (tail k body)))
+    typed-so : (body : List ℕ) (t : Tree) (k : ℕ) (p : Parted body t k) → Every Byte (p .front) → length body ≤ 65535 → Every Held (K .bounds (K .top t (tail k body)))
     typed-so body t k p b h =
         let h′ : length (p .front ++ p .rest) < 65536 = omega (arith, ap length (p .joins)) in
         rw (p .joins, p .long, the-tail (p .front) (p .rest)) (L .held t (p .front) (p .rest) (taken t (p .front) (p .rest) (p .takes) b) h′)

@@ -10,7 +10,7 @@ use Rattle.wire.specs.Act.{image, settle}
 use Rattle.wire.specs.declared.reads.Short.{Short}
 use Rattle.frame.specs.declared.Written.the-variants as W
 use Rattle.frame.specs.Numbers.{Answer, accepted, number, written}
-use Rattle.frame.specs.Kind.{Kind, Lent, Rows, Bound}
+use Rattle.frame.specs.Kind.{Kind, Lent, Rows, Held}
 use Rattle.frame.specs.Entry.{too-short, too-long, no-room, Outcome, leaves, Sound, Sizes, Need, total, others, room, filled, tail, judging, reading, measuring, tallying, Output, puts, trail, whole, writing, Reads, Writes, Measures, Tallies}
 
 -- of the needs, the lowest that its lent table does not meet: its number, and the rows it needs
@@ -53,7 +53,7 @@ module _ {Tree Top Value : Type 0} (K : Kind Tree Top Value) where
     pub top : Top
     pub tables : Lent
     pub store : List ℕ
-    pub typed : Every (λ (x : Bound). x .it < x .below) (K .bounds top)
+    pub typed : Every Held (K .bounds top)
     pub lendable : Lendable tables
     pub bytes : Every Byte store
     pub written : Image top tables store body
