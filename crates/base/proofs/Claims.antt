@@ -1,6 +1,6 @@
 -- What is claimed of the base body: every claim of every kind (frame, specs/Claims), and the few that matter most spelled out for its record.
 use Prim.Native.Nat.{ℕ, _-_, _≤_, _<_}
-use mathlib.Core.Path.{_≡_, refl, sym, ap, _∙_}
+use mathlib.Core.Path.{_≡_, refl, sym, ap, subst, _∙_}
 use mathlib.Core.List.{List, [], _∷_, _++_}
 use mathlib.Core.Bool.{Bool, true, false, not}
 use native.Mathlib.Omega.{arith}
@@ -9,7 +9,7 @@ use lib.Dec.{lit<, eqb}
 use lib.Count.{ones, onesIn}
 use Rattle.wire.specs.Lists.{Every, all-nil, all-cons, Byte}
 use Rattle.wire.specs.Bits.{part}
-use Rattle.wire.specs.Prog.{done, run, u8, pass, _>>=_, span}
+use Rattle.wire.specs.Prog.{done, run, u8, pass, _>>=_, span, Within}
 use Rattle.wire.specs.declared.reads.Short.{Short}
 use Rattle.wire.proofs.Runs.{run-split, run-ret, u8-done}
 use Rattle.frame.specs.declared.Tallied.{Tallied}
@@ -33,7 +33,7 @@ use Rattle.base.specs.Rows.{absentSets, listedSets}
 use Rattle.base.specs.Read.{sets, fields, parse}
 use Rattle.base.specs.Bodies.{noSets, noneListed}
 use Rattle.base.specs.Tally.{tally}
-use Rattle.base.specs.Write.{value, kind}
+use Rattle.base.specs.Write.{value, payloads, kind}
 use Rattle.base.specs.Contract.{read, measured}
 use Rattle.base.proofs.Laws.{lawful}
 
@@ -86,6 +86,13 @@ one-body body body′ m m′ b b′ e e′ v t = claims .round .apart body body�
 pub stands : (body more : List ℕ) (x : Short) → reading kind body [] ≡ leaves (too-short x) [] → length (body ++ more) < x .need → length (body ++ more) ≤ 65535
     → reading kind (body ++ more) [] ≡ leaves (too-short x) []
 stands body more x e l h = claims .more-bytes .short-stands body more [] x e l h
+
+-- the trailing run and the sets of a record that was read stand in the body
+pub inside : (body : List ℕ) (m : MpegH3dAudio) → reading kind body [] ≡ leaves (accepted m) [] → Every (Within body) (m .trailing ∷ payloads m)
+unfolding kind payloads
+inside body m e =
+    let (t, q, a, h) = claims .bounded .payloads-inside body [] m [] e in
+    subst (λ (x : MpegH3dAudio). Every (Within body) (m .trailing ∷ payloads x)) q h
 
 -- bit 0x40 of byte 1 is set exactly if there are no sets
 sets-flag : (a : Bool) (s : List ℕ) (at : ℕ) {x : CompatibleSets} {k : ℕ} → run (sets a) s at ≡ done x k → x .present ≡ not a

@@ -26,9 +26,6 @@ module _ {A : Type 0} (P : A → Type 0) where
   pub every-drop : (n : ℕ) (l : List A) → Every P l → Every P (drop n l)
   every-drop n l h = every-right (take n l) (drop n l) (rw (take-append-drop n l) h)
 
-  pub every-take : (n : ℕ) (l : List A) → Every P l → Every P (take n l)
-  every-take n l h = every-left (take n l) (drop n l) (rw (take-append-drop n l) h)
-
   -- a list that is written out: one proof for each element
   abbrev pub Each : List A → Type 0
   Each [] = Unit {0}
