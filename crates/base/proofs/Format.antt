@@ -14,7 +14,7 @@ use Rattle.wire.specs.declared.rows.Payload.{Payload}
 use Rattle.wire.proofs.Fields.{bit-of, bit-back}
 use Rattle.wire.proofs.Runs.{bind-assoc}
 use Rattle.wire.proofs.Takes.{Takes, map-takes}
-use Rattle.wire.proofs.Codec.{Codec, one-byte, number, two, sized, sized-read, sized-acts, sized-fits, both, steer, then-read, then-means, then-spans, Then-fits, then-acts, opt, opt-read, opt-means, opt-acts, Opt-fits, opt-spans, seen-as}
+use Rattle.wire.proofs.Codec.{Codec, one-byte, number, two, sized, sized-read, sized-acts, sized-fits, both, steer, then-read, then-means, then-spans, Then-fits, then-acts, opt, opt-read, opt-means, opt-acts, Opt-fits, opt-spans, seen-as, As-fits}
 use Rattle.base.specs.declared.rows.CompatibleSets.{CompatibleSets}
 use Rattle.base.specs.declared.rows.MpegH3dAudio.{MpegH3dAudio}
 use Rattle.base.specs.Rows.{absentSets, listedSets}
@@ -150,7 +150,6 @@ format =
     structOf
     ofStruct
     (λ s v. means-same s (v .0) (v .1))
-    (λ d. refl)
     (λ c f e. head-back c f)
 
 -- ---- what it comes to
@@ -183,8 +182,8 @@ listing-fits none = tt
 listing-fits (some l) = sized-fits l
 
 pub format-fits : (d : Value) → format .Fits d
-unfolding format seen-as pieces steer Then-fits both number two flags one-byte opt
-format-fits d = ((tt, (tt, tt)), listing-fits (d .«compatible_sets»))
+unfolding format seen-as As-fits pieces steer Then-fits both number two flags one-byte opt
+format-fits d = (((tt, (tt, tt)), listing-fits (d .«compatible_sets»)), refl)
 
 pub format-reads : format .read ≡ parse
 unfolding format seen-as

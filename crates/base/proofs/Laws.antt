@@ -112,7 +112,5 @@ lawful = record {
   held = λ t bs rest d l. holds t (bs ++ rest) (length bs) (length rest) (d .inside) (record-from (d .takes)) (fitting _ (rw (format-means (bs ++ rest) t) at (d .sound))) (omega (arith, length-append bs rest)) l;
   columns = λ t bs rest d l. all-nil;
   ready = λ t bs rest lent d f. clean-same (retrail t (span (length bs) (length rest))) _ (bs ++ rest) (stands (t .«compatible_sets» .present) (t .«compatible_sets» .indications) (bs ++ rest) (d .inside)) ∙ ap (λ (v : Value). clean (format .acts v)) (sym (format-means (bs ++ rest) t)) ∙ d .sound;
-  fits = λ top lent store e. format-fits (value top lent store);
-  sound = λ top lent store e. sym (clean-same top lent store (clean-inside top lent store e)) ∙ e;
-  same = λ top lent store e. bytes-same top lent store (clean-inside top lent store e);
+  spells = λ top lent store e. let i = clean-inside top lent store e in record { fits = format-fits (value top lent store); sound = sym (clean-same top lent store i) ∙ e; same = bytes-same top lent store i };
 }

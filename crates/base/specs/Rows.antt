@@ -1,5 +1,4 @@
 -- The top record of the base body: its compatible sets, its trailing run, and the bounds that its types set.
-use Prim.Native.Nat.{ℕ}
 use mathlib.Core.List.{List, [], _∷_}
 use mathlib.Core.Bool.{true, false}
 use Rattle.wire.specs.Prog.{span}

@@ -1,12 +1,13 @@
 -- What the code of an entry point cites at its returns: an outcome of the program, a judgement or a checked pen is the promise.
 use Prim.Native.Nat.{ℕ, _+_, _≤_, _<_}
 use mathlib.Core.List.{List, _++_}
-use mathlib.Core.Option.{none}
-use mathlib.Core.Path.{_≡_, sym, ap, _∙_}
+use mathlib.Core.Option.{none, some}
+use mathlib.Core.Path.{_≡_, refl, sym, ap, subst, _∙_}
 use native.Mathlib.Omega.{arith}
 use lib.ListN.{length, drop}
 use borrow.Author.Tests.{le-leb}
-use Rattle.wire.specs.Prog.{Out, run}
+use Rattle.wire.specs.Prog.{Out, done, run, span}
+use Rattle.wire.specs.declared.rows.Payload.{Payload}
 use Rattle.wire.specs.Pen.{Checked, Filled, bytes}
 use Rattle.wire.specs.declared.pen.Pen.{Pen}
 use Rattle.wire.specs.declared.pen.Pen.the-variants.{At, Stop}
@@ -15,8 +16,8 @@ use Rattle.wire.proofs.Passes.{imaged, stopped-at, filled-front}
 use Rattle.frame.specs.declared.Written.the-variants as W
 use Rattle.frame.specs.Numbers.{Numbered, Answer, accepted, refused, written}
 use Rattle.frame.specs.Kind.{Kind, Lent}
-use Rattle.frame.specs.Entry.{too-long, onto, ran, Sound, needs, lacking, filled, tail, judging, sizes, measuring, tallying, put, puts, whole, writing, Reads, Measures, Tallies, Writes}
-use Rattle.frame.proofs.Judged.{ran-well, reads-so, refused-so}
+use Rattle.frame.specs.Entry.{too-long, no-room, onto, ran, Sound, Need, Sight, needs, lacking, filled, tail, judging, sizes, sight, Seen, Fills, measuring, tallying, put, puts, whole, writing, Reads, Measures, Tallies, Writes}
+use Rattle.frame.proofs.Judged.{judged, ran-well, reads-so, lacks-so, refused-so, onto-sound, onto-refused, refused-onto}
 use Rattle.frame.proofs.More.{judge-long, end-within}
 use Rattle.frame.proofs.Output.{put-done, put-short, put-long}
 
@@ -53,6 +54,66 @@ module _ {Tree Top Value : Type 0} (K : Kind Tree Top Value) where
   pub tallies : (body : List ℕ) {j : Answer (Sound Tree)} → j ≡ judging K body → Tallies K body (onto (λ s. K .zeros (s .tree)) j)
   unfolding tallying
   tallies body e = record { promised = ap (onto (λ (s : Sound Tree). K .zeros (s .tree))) e }
+
+  -- ---- the same where code knows a sound body only by sight: its record with no trailing run, what its tables need, and k
+
+  pub sights : (body : List ℕ) (t : Tree) (k : ℕ) → length body ≤ 65535 → run (K .program) body 0 ≡ done t k → accepted (sight K (record { tree = t; before = k })) ≡ onto (sight K) (judging K body)
+  unfolding onto
+  sights body t k h e = sym (ap (onto (sight K)) (judged K body t k h e))
+
+  pub sights-refused : (body : List ℕ) {x : Numbered} → refused x ≡ judging K body → refused x ≡ onto (sight K) (judging K body)
+  sights-refused body {x} e = sym (refused-onto K (sight K) body x (sym e))
+
+  unsighted : (body : List ℕ) {x : Numbered} → refused x ≡ onto (sight K) (judging K body) → refused x ≡ judging K body
+  unsighted body {x} e = sym (onto-refused K (sight K) body x (sym e))
+
+  pub reads-unseen : (body : List ℕ) (lent : Lent) {x : Numbered} → refused x ≡ onto (sight K) (judging K body) → Reads K body lent (refused x) lent
+  reads-unseen body lent e = reads-refused body lent (unsighted body e)
+
+  then-onto : {A B C : Type 0} (f : B → C) (g : A → B) (a : Answer A) → onto f (onto g a) ≡ onto (λ x. f (g x)) a
+  unfolding onto
+  then-onto f g (accepted a) = refl
+  then-onto f g (refused x) = refl
+
+  pub measures-seen : (body : List ℕ) {j : Answer (Sight Top)} → j ≡ onto (sight K) (judging K body) → Measures K body (onto (λ v. v .sizes) j)
+  unfolding measuring sight
+  measures-seen body e = record { promised = ap (onto (λ (v : Sight Top). v .sizes)) e ∙ then-onto (λ v. v .sizes) (sight K) (judging K body) }
+
+  -- a tally that the record alone decides
+  pub tallies-seen : (f : Top → ℕ) → ((t : Tree) → f (K .top t (span 0 0)) ≡ K .zeros t) → (body : List ℕ) {j : Answer (Sight Top)} → j ≡ onto (sight K) (judging K body) → Tallies K body (onto (λ v. f (v .top)) j)
+  unfolding tallying sight
+  tallies-seen f q body e = record {
+    promised = ap (onto (λ (v : Sight Top). f (v .top))) e ∙ then-onto (λ v. f (v .top)) (sight K) (judging K body) ∙ ap (λ (g : Sound Tree → ℕ). onto g (judging K body)) (λ i s. q (s .tree) i);
+  }
+
+  module _ (body : List ℕ) {v : Sight Top} (e : accepted v ≡ onto (sight K) (judging K body)) where
+    the-sound : (s : Sound Tree) × (judging K body ≡ accepted s) × (sight K s ≡ v)
+    the-sound = onto-sound K (sight K) body v (sym e)
+
+    pub seen : Seen K body (v .top)
+    unfolding sight
+    seen = let (s, j, q) = the-sound in record { sound = s; judges = j; is = ap (λ (v : Sight Top). v .top) q }
+
+    pub within-seen : Within body (v .sizes .before)
+    unfolding sight sizes
+    within-seen = let (s, j, q) = the-sound in subst (λ (v : Sight Top). Within body (v .sizes .before)) q (within body (sym j))
+
+    pub reads-lacking : (lent : Lent) (n : Need) → lacking (v .sizes .tables) lent ≡ some n → Reads K body lent (no-room (n .number) (n .rows)) lent
+    unfolding sight sizes
+    reads-lacking lent n f =
+        let (s, j, q) = the-sound in
+        record { promised = sym (lacks-so K body lent s n j (ap (λ (v : Sight Top). lacking (v .sizes .tables) lent) q ∙ f)) }
+
+    -- the record gets its trailing run, and the tables are filled
+    pub reads-filled : ((t : Tree) (r p : Payload) → K .retrail (K .top t r) p ≡ K .top t p) → (lent after : Lent) → lacking (v .sizes .tables) lent ≡ none → Fills K body lent after
+        → Reads K body lent (accepted (K .retrail (v .top) (tail (v .sizes .before) body))) after
+    unfolding sight sizes
+    reads-filled retrailed lent after f g =
+        let (s, j, q) = the-sound in
+        let d = reads-done body lent (sym j) (ap (λ (v : Sight Top). lacking (v .sizes .tables) lent) q ∙ f) in
+        let r : K .retrail (v .top) (tail (v .sizes .before) body) ≡ K .top (s .tree) (tail (s .before) body) =
+        sym (ap (λ (v : Sight Top). K .retrail (v .top) (tail (v .sizes .before) body)) q) ∙ retrailed (s .tree) (span 0 0) (tail (s .before) body) in
+        rw (r, g .fills s j) d
 
   -- ---- writing: the pen after the check pass
 

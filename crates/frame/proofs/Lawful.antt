@@ -8,9 +8,9 @@ use lib.ListN.{length}
 use Rattle.wire.specs.Lists.{Every, Byte, Column}
 use Rattle.wire.specs.Prog.{span, Within}
 use Rattle.wire.specs.declared.rows.Payload.{Payload}
-use Rattle.wire.specs.Pen.{clean, bytes}
+use Rattle.wire.specs.Pen.{clean}
 use Rattle.wire.proofs.Takes.{Takes}
-use Rattle.wire.proofs.Codec.{Codec}
+use Rattle.wire.proofs.Codec.{Codec, Spells}
 use Rattle.frame.specs.Numbers.{accepted}
 use Rattle.frame.specs.Kind.{Kind, Lent, Rows, Held}
 use Rattle.frame.specs.Entry.{leaves, needs, total, lacking, filled, Sizes, reading, measuring, tallying}
@@ -29,6 +29,7 @@ module _ {Tree Top Value : Type 0} (K : Kind Tree Top Value) where
     pub takes : Takes (K .program) 0 t bs
     pub small : Every Byte bs
     pub inside : Every (Within (bs ++ rest)) (K .payloads t)
+    pub fits : format .Fits (format .means (bs ++ rest) t)
     pub sound : clean (format .acts (format .means (bs ++ rest) t)) ≡ true
 
   pub record Lawful : Type 1 where
@@ -52,9 +53,7 @@ module _ {Tree Top Value : Type 0} (K : Kind Tree Top Value) where
     pub ready : (t : Tree) (bs rest : List ℕ) (lent : Lent) → Taken format t bs rest → lacking (needs (K .tables t)) lent ≡ none
         → clean (K .acts (top-of t bs rest) (filled (K .tables t) lent) (bs ++ rest)) ≡ true
     -- actions without a fault are those of the meaning
-    pub fits : (top : Top) (lent : Lent) (store : List ℕ) → clean (K .acts top lent store) ≡ true → format .Fits (K .value top lent store)
-    pub sound : (top : Top) (lent : Lent) (store : List ℕ) → clean (K .acts top lent store) ≡ true → clean (format .acts (K .value top lent store)) ≡ true
-    pub same : (top : Top) (lent : Lent) (store : List ℕ) → clean (K .acts top lent store) ≡ true → bytes (K .acts top lent store) ≡ bytes (format .acts (K .value top lent store))
+    pub spells : (top : Top) (lent : Lent) (store : List ℕ) → clean (K .acts top lent store) ≡ true → Spells format (K .acts top lent store) (K .value top lent store)
 
   -- two bodies that are read, and differ in everything; and an output that is not the first
   pub record Samples : Type 0 where

@@ -131,7 +131,7 @@ module _ {Tree Top Value : Type 0} (K : Kind Tree Top Value) where
         rw (passes (bs ++ rest) t _ r) at (passed-within (K .program) (bs ++ rest) 0 r)
 
     taken : (t : Tree) (bs rest : List ℕ) → Takes (K .program) 0 t bs → Every Byte bs → Taken K (L .format) t bs rest
-    taken t bs rest d b = record { takes = d; small = b; inside = payloads-inside t bs rest d; sound = wrote t bs rest d b .makes .sound }
+    taken t bs rest d b = let w = wrote t bs rest d b in record { takes = d; small = b; inside = payloads-inside t bs rest d; fits = w .fits; sound = w .makes .sound }
 
     rewritten : (t : Tree) (bs rest : List ℕ) (lent : Lent) → Takes (K .program) 0 t bs → Every Byte bs → lacking (needs (K .tables t)) lent ≡ none
         → Rewritten (top-of K t bs rest) (filled (K .tables t) lent) (bs ++ rest)
@@ -146,7 +146,7 @@ module _ {Tree Top Value : Type 0} (K : Kind Tree Top Value) where
         let i : bs ++ rest ≡ bytes (L .format .acts (K .value top after (bs ++ rest))) ++ trail K top (bs ++ rest) = λ j. e j ++ sym (trail-of t bs rest) j in
         record {
           image-is = whole-image top after (bs ++ rest) (bs ++ rest) (trail-within t bs rest)
-              (record { sound = c; joins = i ∙ ap (λ (l : List ℕ). l ++ trail K top (bs ++ rest)) (sym (L .same top after (bs ++ rest) c)) });
+              (record { sound = c; joins = i ∙ ap (λ (l : List ℕ). l ++ trail K top (bs ++ rest)) (sym (L .spells top after (bs ++ rest) c .same)) });
           bytes-are = i;
         }
 
@@ -168,7 +168,7 @@ module _ {Tree Top Value : Type 0} (K : Kind Tree Top Value) where
     unfolding image-of
     written-bytes top lent store b e =
         let w = wholly top lent store b e in
-        w .joins ∙ ap (λ (l : List ℕ). l ++ trail K top store) (L .same top lent store (w .sound))
+        w .joins ∙ ap (λ (l : List ℕ). l ++ trail K top store) (L .spells top lent store (w .sound) .same)
 
     record Back (b : List ℕ) (v : Value) (rest : List ℕ) : Type 0 where
       tree : Tree
@@ -183,7 +183,8 @@ module _ {Tree Top Value : Type 0} (K : Kind Tree Top Value) where
         let w = wholly top lent store b e in
         let v = K .value top lent store in
         let bs = bytes (L .format .acts v) in
-        let r = L .format .forth v (L .fits top lent store (w .sound)) (L .sound top lent store (w .sound)) 0 in
+        let x = L .spells top lent store (w .sound) in
+        let r = L .format .forth v (x .fits) (x .sound) 0 in
         let j = written-bytes top lent store b e in
         record { tree = r .value; front = bs; joins = j; takes = rw (L .reads) at (r .takes); means = r .meant b (rw j (here-append [] bs (trail K top store))) }
 

@@ -1,7 +1,7 @@
 -- Formats built from lawful pieces. A format says what is read (payloads by their places), what that means (payloads by their bytes) and the actions that write
 -- the meaning; its laws tie the three together. A byte of fields, a run, one after the other, a list and an optional part are lawful, and so is what is built of them.
 use Prim.Native.Nat.{ℕ, zero, suc, _+_, _^_, _<_}
-use mathlib.Core.List.{List, [], _∷_, _++_, append-nil, flatMap, map}
+use mathlib.Core.List.{List, [], _∷_, _++_, append-nil, flatMap, flatten, map}
 use mathlib.Core.Bool.{Bool, true, false}
 use mathlib.Core.Option.{Option, none, some}
 use mathlib.Core.Path.{_≡_, refl, sym, ap, _∙_, subst}
@@ -9,18 +9,18 @@ use native.Mathlib.Omega.{arith}
 use native.Mathlib.Nat.{add-zero}
 use lib.ListN.{length, length-append, replicate, length-replicate}
 use lib.Seq.{slice, drop-at}
-use Rattle.wire.specs.Lists.{Every, all-nil, all-cons, Byte}
+use Rattle.wire.specs.Lists.{Every, all-nil, all-cons, each, Byte}
 use Rattle.wire.specs.Bits.{part, Field, field, fit, join, total, split, widths}
 use Rattle.wire.specs.Prog.{Prog, ret, done, run, _>>=_, u8, pass, many, span, passed}
 use Rattle.wire.specs.declared.rows.Payload.{Payload}
-use Rattle.wire.specs.Act.{Act, byte, copy}
+use Rattle.wire.specs.Act.{Act, byte, copy, rows}
 use Rattle.wire.specs.Pen.{clean, bytes}
 use Rattle.wire.proofs.Fields.{joined-below, split-fits, join-split, split-join}
 use Rattle.wire.proofs.Lists.{every-head, every-left, every-right}
 use Rattle.wire.proofs.Runs.{run-split, run-ret}
 use Rattle.wire.proofs.Blind.{passed-bind, passed-map, passed-u8, passed-pass}
 use Rattle.wire.proofs.Takes.{Takes, nothing, takes-bind, takes-split, takes-ret, takes-map, map-takes, takes-u8, u8-takes, takes-pass, pass-takes, Here, here-left, here-right, here-is}
-use Rattle.wire.proofs.Acts.{and-both, both-and, Makes, makes-both, clean-both, bytes-append}
+use Rattle.wire.proofs.Acts.{and-both, both-and, Makes, makes-both, clean-append, clean-both, bytes-append}
 
 -- the program, begun at `at`, takes bs, and what it answers means c in every body that has bs there
 pub record Read {A C : Type 0} (p : Prog A) (means : List ℕ → A → C) (at : ℕ) (c : C) (bs : List ℕ) : Type 0 where
@@ -217,12 +217,11 @@ module _ {A C : Type 0} (m : Codec A C) where
   unfoldable pub Counted : ℕ → List C → Type 0
   Counted n cs = (length cs ≡ n) × Every (m .Fits) cs
 
-  unfoldable pub list-acts : List C → List Act
-  list-acts [] = []
-  list-acts (c ∷ cs) = m .acts c ++ list-acts cs
+  abbrev pub list-acts : List C → List Act
+  list-acts cs = flatMap (m .acts) cs
 
   pub list-forth : (cs : List C) → Every (m .Fits) cs → clean (list-acts cs) ≡ true → (at : ℕ) → Read (many (length cs) (m .read)) (λ s l. map (m .means s) l) at cs (bytes (list-acts cs))
-  unfolding many list-acts bytes
+  unfolding many flatMap bytes
   list-forth [] f e at = record { value = []; takes = nothing; meant = λ s h. refl }
   list-forth (c ∷ cs) (all-cons h f) e at =
       let g = clean-both (m .acts c) (list-acts cs) e in
@@ -235,12 +234,12 @@ module _ {A C : Type 0} (m : Codec A C) where
       })
 
   list-nil : (s : List ℕ) {bs : List ℕ} → bs ≡ [] → Wrote (Counted 0) list-acts (map (m .means s) []) bs
-  unfolding Counted list-acts clean bytes
+  unfolding Counted flatMap clean bytes
   list-nil s e = record { fits = (refl, all-nil); makes = record { sound = refl; is = e } }
 
   list-cons : (n : ℕ) (s : List ℕ) (x : A) (l : List A) (bs front back : List ℕ) → bs ≡ front ++ back → Wrote (m .Fits) (m .acts) (m .means s x) front
       → Wrote (Counted n) list-acts (map (m .means s) l) back → Wrote (Counted (suc n)) list-acts (map (m .means s) (x ∷ l)) bs
-  unfolding Counted list-acts
+  unfolding Counted flatMap
   list-cons n s x l bs front back j a b = rw j (record { fits = (ap suc (b .fits .0), all-cons (a .fits) (b .fits .1)); makes = makes-both (a .makes) (b .makes) })
 
   pub list-back : (n : ℕ) (s : List ℕ) (at : ℕ) (l : List A) (bs : List ℕ) → Takes (many n (m .read)) at l bs → Every Byte bs → Here s at bs → Wrote (Counted n) list-acts (map (m .means s) l) bs
@@ -277,6 +276,36 @@ module _ {A C : Type 0} (m : Codec A C) where
     spans = flatMap (m .spans);
     skipped = list-skipped n;
   }
+
+-- ---- actions that meet no fault, and are then those of a meaning
+
+pub record Spells {A C : Type 0} (m : Codec A C) (q : List Act) (c : C) : Type 0 where
+  pub fits : m .Fits c
+  pub sound : clean (m .acts c) ≡ true
+  pub same : bytes q ≡ bytes (m .acts c)
+
+module _ {A C : Type 0} (m : Codec A C) where
+  -- rows one by one: f are the actions of a row, v what it means
+  pub spells-rows : (f : ℕ → List Act) (v : ℕ → C) → ((i : ℕ) → clean (f i) ≡ true → Spells m (f i) (v i)) → (i k : ℕ) → clean (rows f i k) ≡ true → Spells (list m k) (rows f i k) (each v i k)
+  unfolding list Counted rows each flatten flatMap
+  spells-rows f v h i zero e = record { fits = (refl, all-nil); sound = e; same = refl }
+  spells-rows f v h i (suc k) e =
+      let g = clean-both (f i) (rows f (i + 1) k) e in
+      let a = h i (g .0) in
+      let b = spells-rows f v h (i + 1) k (g .1) in
+      record {
+        fits = (ap suc (b .fits .0), all-cons (a .fits) (b .fits .1));
+        sound = clean-append (m .acts (v i)) (flatMap (m .acts) (each v (i + 1) k)) ∙ both-and (a .sound) (b .sound);
+        same = bytes-append (f i) (rows f (i + 1) k) ∙ (λ j. a .same j ++ b .same j) ∙ sym (bytes-append (m .acts (v i)) (flatMap (m .acts) (each v (i + 1) k)));
+      }
+
+  -- and back: a list without a fault, written by actions that add none
+  pub clean-rows : (q : C → List Act) → ((c : C) → m .Fits c → clean (m .acts c) ≡ true → clean (q c) ≡ true) → (l : List C) → Every (m .Fits) l → clean (list-acts m l) ≡ true → clean (flatMap q l) ≡ true
+  unfolding flatMap clean
+  clean-rows q h [] all-nil e = refl
+  clean-rows q h (c ∷ l) (all-cons f r) e =
+      let g = clean-both (m .acts c) (list-acts m l) e in
+      clean-append (q c) (flatMap q l) ∙ both-and (h c f (g .0)) (clean-rows q h l r (g .1))
 
 -- ---- a part that a flag steers
 
@@ -337,22 +366,26 @@ module _ {A C : Type 0} (m : Codec A C) where
   unfoldable pub opt : Bool → Codec (Option A) (Option C)
   opt b = record { read = opt-read b; means = opt-means; acts = opt-acts; Fits = Opt-fits b; forth = opt-forth b; back = opt-back b; spans = opt-spans; skipped = opt-skipped b }
 
--- ---- the same format under another type of value and of meaning, read by an equal program
+-- ---- the same format under another type of value and of meaning, read by an equal program; a meaning fits if it is one that is read
 
 module _ {A B C D : Type 0} (m : Codec A C) (f : A → B) (program : Prog B) (reads : m .read >>= (λ x. ret (f x)) ≡ program) (places : B → List Payload) (placed : (a : A) → m .spans a ≡ places (f a))
-    (mean : List ℕ → B → D) (to : C → D) (from : D → C) (same : (s : List ℕ) (a : A) → mean s (f a) ≡ to (m .means s a))
-    (to-from : (d : D) → to (from d) ≡ d) (from-to : (c : C) → m .Fits c → clean (m .acts c) ≡ true → from (to c) ≡ c) where
-  pub as-forth : (d : D) → m .Fits (from d) → clean (m .acts (from d)) ≡ true → (at : ℕ) → Read program mean at d (bytes (m .acts (from d)))
-  as-forth d g e at =
-      let r = m .forth (from d) g e at in
-      rw (← reads) (record { value = f (r .value); takes = takes-map f (r .takes); meant = λ s h. same s (r .value) ∙ ap to (r .meant s h) ∙ to-from d })
+    (mean : List ℕ → B → D) (to : C → D) (from : D → C) (same : (s : List ℕ) (a : A) → mean s (f a) ≡ to (m .means s a)) (from-to : (c : C) → m .Fits c → clean (m .acts c) ≡ true → from (to c) ≡ c) where
+  unfoldable pub As-fits : D → Type 0
+  As-fits d = m .Fits (from d) × (to (from d) ≡ d)
 
-  pub as-back : (s : List ℕ) (at : ℕ) (b : B) (bs : List ℕ) → Takes program at b bs → Every Byte bs → Here s at bs → Wrote (λ d. m .Fits (from d)) (λ d. m .acts (from d)) (mean s b) bs
+  pub as-forth : (d : D) → As-fits d → clean (m .acts (from d)) ≡ true → (at : ℕ) → Read program mean at d (bytes (m .acts (from d)))
+  unfolding As-fits
+  as-forth d g e at =
+      let r = m .forth (from d) (g .0) e at in
+      rw (← reads) (record { value = f (r .value); takes = takes-map f (r .takes); meant = λ s h. same s (r .value) ∙ ap to (r .meant s h) ∙ g .1 })
+
+  pub as-back : (s : List ℕ) (at : ℕ) (b : B) (bs : List ℕ) → Takes program at b bs → Every Byte bs → Here s at bs → Wrote As-fits (λ d. m .acts (from d)) (mean s b) bs
+  unfolding As-fits
   as-back s at b bs t h i =
       let u = map-takes (m .read) f (rw (← reads) at t) in
       let x = m .back s at (u .0) bs (u .2) h i in
       let q : from (mean s (f (u .0))) ≡ m .means s (u .0) = ap from (same s (u .0)) ∙ from-to (m .means s (u .0)) (x .fits) (x .makes .sound) in
-      let k : Wrote (λ d. m .Fits (from d)) (λ d. m .acts (from d)) (mean s (f (u .0))) bs = record { fits = rw q (x .fits); makes = rw q (x .makes) } in
+      let k : Wrote As-fits (λ d. m .acts (from d)) (mean s (f (u .0))) bs = record { fits = (rw q (x .fits), ap to q ∙ sym (same s (u .0))); makes = rw q (x .makes) } in
       rw (u .1) at k
 
   pub as-skipped : (s : List ℕ) (at : ℕ) (b : B) (k : ℕ) → run program s at ≡ done b k → passed program s at ≡ places b
@@ -361,7 +394,7 @@ module _ {A B C D : Type 0} (m : Codec A C) (f : A → B) (program : Prog B) (re
       rw (← reads) (passed-map (m .read) f s at (u .first) ∙ m .skipped s at (u .value) (u .middle) (u .first) ∙ placed (u .value) ∙ ap places (run-ret _ _ _ (u .second) .0))
 
   unfoldable pub seen-as : Codec B D
-  seen-as = record { read = program; means = mean; acts = λ d. m .acts (from d); Fits = λ d. m .Fits (from d); forth = as-forth; back = as-back; spans = places; skipped = as-skipped }
+  seen-as = record { read = program; means = mean; acts = λ d. m .acts (from d); Fits = As-fits; forth = as-forth; back = as-back; spans = places; skipped = as-skipped }
 
 -- ---- a count byte and so many bytes, by their place: what a payload with its length is
 
@@ -381,12 +414,12 @@ sized-same = refl
 
 unfoldable pub sized : Codec Payload (List ℕ)
 unfolding listed steer then-means then-spans Then-fits number one-byte payload
-sized = seen-as listed (λ v. span (v .1) (v .0)) sized-read sized-same (λ p. p ∷ []) (λ v. refl) (λ s p. slice (p .offset) (p .offset + p .length) s) (λ c. c .1) (λ l. (length l, l)) (λ s v. refl) (λ l. refl) (λ c f e i. (f .1 i, c .1))
+sized = seen-as listed (λ v. span (v .1) (v .0)) sized-read sized-same (λ p. p ∷ []) (λ v. refl) (λ s p. slice (p .offset) (p .offset + p .length) s) (λ c. c .1) (λ l. (length l, l)) (λ s v. refl) (λ c f e i. (f .1 i, c .1))
 
 pub sized-acts : (l : List ℕ) → sized .acts l ≡ byte (field 8 (length l) ∷ []) ∷ copy l ∷ []
 unfolding sized seen-as listed steer then-acts number one-byte payload
 sized-acts l = refl
 
 pub sized-fits : (l : List ℕ) → sized .Fits l
-unfolding sized seen-as listed steer Then-fits number one-byte payload
-sized-fits l = (tt, refl)
+unfolding sized seen-as As-fits listed steer Then-fits number one-byte payload
+sized-fits l = ((tt, refl), refl)

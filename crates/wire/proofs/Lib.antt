@@ -8,4 +8,5 @@ pub mod Walk
 pub mod Loops
 pub mod Acts
 pub mod Passes
+pub mod Tables
 pub mod Codec

@@ -14,33 +14,6 @@ use Rattle.wire.proofs.Runs.{andThen, run-bind}
 use Rattle.wire.proofs.Walk.{step, halt, ends, undo}
 use Rattle.wire.proofs.Steps.{sets-append}
 
-pub end-done : {A : Type 0} (o : Out (List A)) {n : ℕ} → done tt n ≡ endOf o → o ≡ done (rowsOf o) n
-end-done (done l m) e = cc
-end-done (short m) e = let z : _≡_ {A = ℕ} 0 1 = cc in absurd (omega arith)
-
-pub is-done : {A : Type 0} {o : Out A} {a : A} {n : ℕ} → o ≡ done a n → isDone o ≡ true
-is-done e = ap isDone e
-
-pub done-is : {A : Type 0} (o : Out A) → isDone o ≡ true → (a : A) × (n : ℕ) × (o ≡ done a n)
-done-is (done a n) e = (a, n, refl)
-done-is (short n) e = let z : _≡_ {A = ℕ} 0 1 = cc in absurd (omega arith)
-
-end-short : {A : Type 0} (o : Out A) {x : Short} → short x ≡ endOf o → o ≡ short x
-end-short (done l m) e = let z : _≡_ {A = ℕ} 0 1 = cc in absurd (omega arith)
-end-short (short m) e = cc
-
--- the same three for a list that was only measured
-pub step-end : {A B : Type 0} (p : Prog (List A)) (f : List A → Prog B) (s : List ℕ) (at : ℕ) {n : ℕ} {o : Out (Unit {0})} → o ≡ endOf (run p s at) → o ≡ done tt n → run (p >>= f) s at ≡ run (f (rowsOf (run p s at))) s n
-step-end p f s at e d = step p f s at refl (end-done (run p s at) (sym d ∙ e))
-
-pub halt-end : {A B : Type 0} (p : Prog (List A)) (f : List A → Prog B) (s : List ℕ) (at : ℕ) {x y : Short} {o : Out (Unit {0})} → o ≡ endOf (run p s at) → o ≡ short x → y ≡ shortOf o → run (p >>= f) s at ≡ short y
-halt-end p f s at e d h =
-    let q = end-short (run p s at) (sym d ∙ e) in
-    halt p f s at refl q (h ∙ ap shortOf d ∙ sym (ap shortOf q))
-
-pub ends-end : {A : Type 0} (p : Prog (List A)) (s : List ℕ) (at : ℕ) {n : ℕ} {o : Out (Unit {0})} → at ≤ length s → o ≡ endOf (run p s at) → o ≡ done tt n → n ≤ length s
-ends-end p s at h e d = ends p s at h refl (end-done (run p s at) (sym d ∙ e))
-
 -- a row before those of a run
 abbrev pub consTo : {A : Type 0} → A → Out (List A) → Out (List A)
 consTo a (done l n) = done (a ∷ l) n

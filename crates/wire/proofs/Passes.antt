@@ -2,12 +2,13 @@
 -- actions settle to.
 use Prim.Native.Nat.{ℕ, suc, _+_, _-_, _≤_, _<_}
 use mathlib.Core.Path.{_≡_, refl, sym, ap, _∙_}
-use mathlib.Core.List.{List, [], _∷_, _++_, append-nil}
+use mathlib.Core.List.{List, [], _∷_, _++_, append-nil, flatten}
 use mathlib.Core.Bool.{Bool, true, false}
 use native.Mathlib.Omega.{arith}
-use native.Mathlib.Nat.{add-zero, zero-add}
+use native.Mathlib.Nat.{add-zero}
 use lib.ListN.{length, set, getD, take, drop, length-append, length-set}
-use lib.Seq.{sets, sets-eq, slice, length-slice, getD-drop, getD-take}
+use lib.Seq.{sets, slice, length-slice, getD-drop, getD-take}
+use Rattle.wire.specs.Lists.{each}
 use Rattle.wire.specs.Bits.{Field, fit, join}
 use Rattle.wire.specs.Act.{Act, demand, byte, copy, pick, rows, Settled, fault, image, ahead, settle}
 use Rattle.wire.specs.Pen.{look, glance, looks, reach, Checked, CheckedRun, clean, bytes, Ready, Filled}
@@ -146,11 +147,11 @@ module _ (f k : ℕ) (s : List ℕ) (h : f + k ≤ length s) where
 -- ---- a loop over rows
 
 pub rows-turn : (f : ℕ → List Act) (i n : ℕ) → i < n → rows f i (n - i) ≡ f i ++ rows f (i + 1) (n - (i + 1))
-unfolding rows
+unfolding rows each flatten
 rows-turn f i n h = let e : n - i ≡ suc (n - (i + 1)) = omega arith in rw e
 
 pub rows-end : (f : ℕ → List Act) (i n : ℕ) → n ≤ i → rows f i (n - i) ≡ []
-unfolding rows
+unfolding rows each flatten
 rows-end f i n h = let e : n - i ≡ 0 = omega arith in rw e
 
 -- within a loop: all the actions, from where it began, come to what is left of them, from here

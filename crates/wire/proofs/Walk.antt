@@ -6,7 +6,7 @@ use native.Mathlib.Omega.{arith}
 use lib.ListN.{length}
 use Rattle.wire.specs.declared.reads.Short.{Short}
 use Rattle.wire.specs.Prog.{Prog, ret, Out, done, short, run, _>>=_}
-use Rattle.wire.specs.Reads.{shortOf}
+use Rattle.wire.specs.Reads.{shortOf, mapOut}
 use Rattle.wire.proofs.Runs.{andThen, run-bind, extent}
 
 never : {A X : Type 0} {x : Short} {n : ℕ} {a : A} → short x ≡ done a n → X
@@ -55,3 +55,17 @@ module _ {A B : Type 0} (p : Prog A) {whole : Prog B} {s : List ℕ} {start at :
 
 pub finished : {A : Type 0} {whole : Prog A} {s : List ℕ} {start at : ℕ} {a b : A} → From whole s start (ret a) at → b ≡ a → done b at ≡ run whole s start
 finished {s = s} {at = at} {a} w e = sym (w .same ∙ run-ret a s at ∙ ap (λ x. done x at) (sym e))
+
+-- ---- code that knows only g of what was read
+
+pub as-done : {A C : Type 0} (g : A → C) (o : Out A) {c : C} {n : ℕ} → mapOut g o ≡ done c n → (a : A) × (o ≡ done a n) × (g a ≡ c)
+as-done g (done a m) {n = n} e = let z : m ≡ n = cc e in (a, ap (done a) z, (cc e))
+as-done g (short x) e = never e
+
+pub as-short : {A C : Type 0} (g : A → C) (o : Out A) {x : Short} → mapOut g o ≡ short x → o ≡ short x
+as-short g (done a m) e = never (sym e)
+as-short g (short y) {x} e = let z : y ≡ x = cc e in ap short z
+
+pub cut-off-as : {A B C : Type 0} (p : Prog A) (g : A → C) {whole : Prog B} {s : List ℕ} {start at : ℕ} (f : A → Prog B) → From whole s start (p >>= f) at
+    → {o : Out C} {x y : Short} → o ≡ mapOut g (run p s at) → o ≡ short x → y ≡ shortOf o → short y ≡ run whole s start
+cut-off-as p g {s = s} {at = at} f w {o} {x} e d h = cut-off p f w refl (as-short g (run p s at) (sym e ∙ d)) (h ∙ ap shortOf d ∙ sym (ap shortOf (as-short g (run p s at) (sym e ∙ d))))

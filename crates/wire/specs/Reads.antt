@@ -1,4 +1,4 @@
--- The answers of the byte and the run reader as outcomes of the reading language, and the parts of an outcome that contracts speak of.
+-- The answers of the byte, the run and a list's measuring reader as outcomes of the reading language, and the parts of an outcome that contracts speak of.
 use Prim.Native.Nat.{ℕ, _<_}
 use mathlib.Core.List.{List, []}
 use mathlib.Core.Bool.{Bool, true, false}
@@ -9,6 +9,8 @@ use Rattle.wire.specs.declared.reads.Byte.{Byte}
 use Rattle.wire.specs.declared.reads.Byte.the-variants as B
 use Rattle.wire.specs.declared.reads.Run.{Run}
 use Rattle.wire.specs.declared.reads.Run.the-variants as R
+use Rattle.wire.specs.declared.reads.Ends.{Ends}
+use Rattle.wire.specs.declared.reads.Ends.the-variants as E
 
 abbrev pub byteOut : Byte → Out ℕ
 byteOut (B.Got b n) = done b n
@@ -17,6 +19,10 @@ byteOut (B.Short s) = short s
 abbrev pub runOut : Run → Out ℕ
 runOut (R.Got p n) = done p n
 runOut (R.Short s) = short s
+
+abbrev pub endsOut : Ends → Out (Unit {0})
+endsOut (E.At n) = done tt n
+endsOut (E.Short s) = short s
 
 -- the byte that was read, 0 where there is none
 abbrev pub byteOf : Byte → ℕ
@@ -32,10 +38,13 @@ abbrev pub shortOf : {A : Type 0} → Out A → Short
 shortOf (done a n) = needing 0
 shortOf (short s) = s
 
--- only where it ends
+-- what code knows of an answer, where that is not all of it; only where it ends
+abbrev pub mapOut : {A B : Type 0} → (A → B) → Out A → Out B
+mapOut f (done a n) = done (f a) n
+mapOut f (short s) = short s
+
 abbrev pub endOf : {A : Type 0} → Out A → Out (Unit {0})
-endOf (done a n) = done tt n
-endOf (short s) = short s
+endOf o = mapOut (λ a. tt) o
 
 abbrev pub isDone : {A : Type 0} → Out A → Bool
 isDone (done a n) = true

@@ -4,7 +4,7 @@ ghost use mathlib.Core.Bool.{true};
 ghost use mathlib.Core.List.{[], _∷_};
 ghost use Prim.Native.Nat.{_+_, _*_, _-_, _^_, _<_, _≤_};
 ghost use lib.Dec.{ltb};
-ghost use Rattle.wire.specs.Bits.{part, bit, field, fit, zeros, Packed};
+ghost use Rattle.wire.specs.Bits.{part, bit, isFlag, field, fit, zeros, Packed};
 
 // All ones: what a reserved run of n bits holds unless told otherwise.
 pub fn ones(n: u32) -> u8
@@ -26,6 +26,13 @@ pub fn flag(b: bool) -> u16
     ensures { λ r. ⌜ r ≡ bit b ⌝ }
 {
     if b { 1 } else { 0 }
+}
+
+// Whether a column holds a flag: 0 or 1.
+pub fn is_flag(v: u16) -> bool
+    ensures { λ r. ⌜ r ≡ isFlag v ⌝ }
+{
+    v <= 1
 }
 
 // The field of `width` bits that stands above the lowest `low` bits of a byte.

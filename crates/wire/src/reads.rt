@@ -3,7 +3,7 @@ ghost use mathlib.Core.Path.{_≡_};
 ghost use Prim.Native.Nat.{_+_, _<_, _≤_, _^_};
 ghost use lib.ListN.{length};
 ghost use Rattle.wire.specs.Prog.{run, u8, pass};
-ghost use Rattle.wire.specs.Reads.{ByteRead, byteOut, runOut, shortOf};
+ghost use Rattle.wire.specs.Reads.{ByteRead, byteOut, runOut, endsOut, shortOf};
 
 // A read that ends past the body (number 1): `need` is the position where it would end.
 pub struct Short {
@@ -19,6 +19,12 @@ pub enum Byte {
 // Where a run begins and the next position, or the refusal.
 pub enum Run {
     Got(usize, usize),
+    Short(Short),
+}
+
+// Where a list of rows ends, or the refusal.
+pub enum Ends {
+    At(usize),
     Short(Short),
 }
 
@@ -65,6 +71,18 @@ impl Run {
         match self {
             Run::Got(_, _) => Short { need: 0 },
             Run::Short(s) => s,
+        }
+    }
+}
+
+impl Ends {
+    // The refusal, for a caller that has no end.
+    pub fn short(self) -> Short
+        ensures { λ r. ⌜ r ≡ shortOf (endsOut self) ⌝ }
+    {
+        match self {
+            Ends::At(_) => Short { need: 0 },
+            Ends::Short(s) => s,
         }
     }
 }
