@@ -6,10 +6,11 @@ use native.Mathlib.Omega.{arith}
 use lib.ListN.{length, getD, take, drop, length-drop}
 use lib.Seq.{take-all}
 use borrow.Author.Tests.{eq-eqb, ne-eqb, le-leb, lt-leb}
-use Rattle.frame.specs.Numbers.{numbered}
-use Rattle.frame.specs.Entry.{measuring, tallying}
-use Rattle.base.specs.Write as Base
-use Rattle.bench.specs.Line.{refusedLine, judgedLine, bodyLine, kindLine, lineOf}
+use Rattle.frame.specs.Numbers.{Answer, numbered}
+use Rattle.frame.specs.Kind.{Kind}
+use Rattle.frame.specs.Entry.{Sizes, measuring, tallying}
+use Rattle.bench.specs.declared.line.Line.{Line}
+use Rattle.bench.specs.Line.{refusedLine, tooLongLine, judgedLine, bodyLine, baseLine, multiStreamLine, kindLine, lineOf}
 
 pub nothing : (s : List ℕ) → length s ≡ 0 → lineOf s ≡ refusedLine (numbered 11 (0 ∷ []))
 unfolding lineOf kindLine
@@ -21,29 +22,43 @@ unfolding lineOf
 parted [] h = absurd (omega arith)
 parted (x ∷ s) h = refl
 
-other-kind : (k : ℕ) (body : List ℕ) → (k ≡ 1 → ⊥) → kindLine k body ≡ refusedLine (numbered 11 (k ∷ []))
-unfolding kindLine
-other-kind k body n = rw (ne-eqb k 1 n, kindLine) refl
+-- ---- the kinds
 
-first-kind : (k : ℕ) (body : List ℕ) → k ≡ 1 → kindLine k body ≡ bodyLine Base.kind body
+is-1 : (k : ℕ) (body : List ℕ) → k ≡ 1 → kindLine k body ≡ baseLine body
 unfolding kindLine
-first-kind k body e = rw (eq-eqb k 1 e, kindLine) refl
+is-1 k body e = rw (eq-eqb k 1 e, kindLine) refl
 
+is-4 : (k : ℕ) (body : List ℕ) → (k ≡ 1 → ⊥) → k ≡ 4 → kindLine k body ≡ multiStreamLine body
+unfolding kindLine
+is-4 k body n e = rw (ne-eqb k 1 n, eq-eqb k 4 e, kindLine) refl
+
+is-other : (k : ℕ) (body : List ℕ) → (k ≡ 1 → ⊥) → (k ≡ 4 → ⊥) → kindLine k body ≡ refusedLine (numbered 11 (k ∷ []))
+unfolding kindLine
+is-other k body n m = rw (ne-eqb k 1 n, ne-eqb k 4 m, kindLine) refl
+
+-- the body is lent as the part of the input behind the kind byte
 module _ (s : List ℕ) {k : ℕ} (h : 0 < length s) (e : k ≡ getD s 0 0) where
-  by-kind : lineOf s ≡ kindLine k (drop 1 s)
-  by-kind = parted s h ∙ ap (λ (x : ℕ). kindLine x (drop 1 s)) (sym e)
+  by-kind : (line : Line) (f : List ℕ → Line) → kindLine k (drop 1 s) ≡ f (drop 1 s) → line ≡ f (take (length s - 1) (drop 1 s)) → line ≡ lineOf s
+  by-kind line f q r =
+      let t = take-all (length s - 1) (drop 1 s) (omega (arith, length-drop 1 s)) in
+      r ∙ ap f t ∙ sym q ∙ ap (λ (x : ℕ). kindLine x (drop 1 s)) e ∙ sym (parted s h)
 
-  pub unknown : (k ≡ 1 → ⊥) → lineOf s ≡ refusedLine (numbered 11 (k ∷ []))
-  unknown n = by-kind ∙ other-kind k (drop 1 s) n
+  pub as-base : {line : Line} → k ≡ 1 → line ≡ baseLine (take (length s - 1) (drop 1 s)) → line ≡ lineOf s
+  as-base {line} q r = by-kind line baseLine (is-1 k (drop 1 s) q) r
 
-  pub too-long : k ≡ 1 → 4096 < length s - 1 → lineOf s ≡ refusedLine (numbered 2 (4097 ∷ []))
+  pub as-multi-stream : {line : Line} → (k ≡ 1 → ⊥) → k ≡ 4 → line ≡ multiStreamLine (take (length s - 1) (drop 1 s)) → line ≡ lineOf s
+  as-multi-stream {line} n q r = by-kind line multiStreamLine (is-4 k (drop 1 s) n q) r
+
+  pub unknown : {line : Line} → (k ≡ 1 → ⊥) → (k ≡ 4 → ⊥) → line ≡ refusedLine (numbered 11 (k ∷ [])) → line ≡ lineOf s
+  unknown {line} n m r = by-kind line (λ body. refusedLine (numbered 11 (k ∷ []))) (is-other k (drop 1 s) n m) r
+
+-- ---- a body
+
+module _ {Tree Top Value : Type 0} (K : Kind Tree Top Value) (body : List ℕ) where
+  pub too-long : 4096 < length body → tooLongLine ≡ bodyLine K body
   unfolding bodyLine
-  too-long one l = let m : 4096 < length (drop 1 s) = rw (length-drop 1 s) l in by-kind ∙ first-kind k (drop 1 s) one ∙ rw (lt-leb _ _ m, bodyLine) refl
+  too-long h = rw (lt-leb _ _ h, bodyLine) refl
 
-  -- the body is lent as the part of the input behind the kind byte
-  pub base-body : k ≡ 1 → length s - 1 ≤ 4096 → lineOf s ≡ judgedLine (measuring Base.kind (take (length s - 1) (drop 1 s))) (tallying Base.kind (take (length s - 1) (drop 1 s)))
+  pub judged : {z : Answer Sizes} {t : Answer ℕ} → length body ≤ 4096 → z ≡ measuring K body → t ≡ tallying K body → judgedLine z t ≡ bodyLine K body
   unfolding bodyLine
-  base-body one l =
-      let m : length (drop 1 s) ≤ 4096 = rw (length-drop 1 s) l in
-      let q = take-all (length s - 1) (drop 1 s) (omega (arith, length-drop 1 s)) in
-      by-kind ∙ first-kind k (drop 1 s) one ∙ rw (le-leb _ _ m, bodyLine, q) refl
+  judged h e f = (λ i. judgedLine (e i) (f i)) ∙ sym (rw (le-leb _ _ h, bodyLine) refl)

@@ -8,24 +8,44 @@ use Rattle.frame.specs.Numbers.{Numbered, numbered, Answer, accepted, refused}
 use Rattle.frame.specs.Kind.{Kind}
 use Rattle.frame.specs.Entry.{Sizes, measuring, tallying}
 use Rattle.base.specs.Write as Base
+use Rattle.multi_stream.specs.Write as MultiStream
 use Rattle.bench.specs.declared.line.Line.{Line}
 
 -- k and tally are 0 on refusal
 abbrev pub refusedLine : Numbered → Line
 refusedLine x = record { number = x .number; first = getD (x .values) 0 0; k = 0; tally = 0 }
 
+-- of a body that was measured
+abbrev pub talliedLine : ℕ → Answer ℕ → Line
+talliedLine k (accepted n) = record { number = 0; first = 0; k = k; tally = n }
+talliedLine k (refused x) = refusedLine x
+
 abbrev pub judgedLine : Answer Sizes → Answer ℕ → Line
-judgedLine (accepted z) (accepted n) = record { number = 0; first = 0; k = z .before; tally = n }
-judgedLine (accepted z) (refused x) = refusedLine x
+judgedLine (accepted z) t = talliedLine (z .before) t
 judgedLine (refused x) t = refusedLine x
 
 -- the program takes at most 4,096 body bytes; a longer body counts as one of 4,097
-unfoldable pub bodyLine : {Tree Top Value : Type 0} → Kind Tree Top Value → List ℕ → Line
-bodyLine K body = elim (leb (length body) 4096) [ true ↦ judgedLine (measuring K body) (tallying K body) | false ↦ refusedLine (numbered 2 (4097 ∷ [])) ]
+abbrev pub tooLongLine : Line
+tooLongLine = refusedLine (numbered 2 (4097 ∷ []))
 
--- the kinds that exist: 1 base
+unfoldable pub bodyLine : {Tree Top Value : Type 0} → Kind Tree Top Value → List ℕ → Line
+bodyLine K body = elim (leb (length body) 4096) [ true ↦ judgedLine (measuring K body) (tallying K body) | false ↦ tooLongLine ]
+
+abbrev pub baseLine : List ℕ → Line
+baseLine body = bodyLine Base.kind body
+
+abbrev pub multiStreamLine : List ℕ → Line
+multiStreamLine body = bodyLine MultiStream.kind body
+
+-- the kinds that exist: 1 base, 4 multi-stream
 unfoldable pub kindLine : ℕ → List ℕ → Line
-kindLine k body = elim (eqb k 1) [ true ↦ bodyLine Base.kind body | false ↦ refusedLine (numbered 11 (k ∷ [])) ]
+kindLine k body = elim (eqb k 1) [
+  | true ↦ baseLine body
+  | false ↦ elim (eqb k 4) [
+    | true ↦ multiStreamLine body
+    | false ↦ refusedLine (numbered 11 (k ∷ []))
+  ]
+]
 
 -- empty input is kind 0
 unfoldable pub lineOf : List ℕ → Line

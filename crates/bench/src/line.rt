@@ -1,10 +1,7 @@
 // The four numbers that the bench program prints (document 01, "The bench program"), decided from its input: one kind byte, then the body.
 ghost use mathlib.Core.Path.{_≡_};
-ghost use Rattle.frame.specs.Numbers.{refusal};
-ghost use Rattle.frame.specs.Entry.{measuring, tallying};
-ghost use Rattle.base.specs.Write.{kind};
-ghost use Rattle.bench.specs.Line.{lineOf, judgedLine, refusedLine};
-use base::Measured;
+ghost use Rattle.frame.specs.Numbers.{refusal, tallied};
+ghost use Rattle.bench.specs.Line.{lineOf, baseLine, multiStreamLine, talliedLine, refusedLine, tooLongLine};
 use frame::Refusal;
 use frame::Tallied;
 
@@ -16,7 +13,7 @@ pub struct Line {
     pub tally: usize,
 }
 
-// The kind is judged first; a body over 4,096 bytes counts as one of 4,097.
+// The kind is judged first.
 pub fn decide(input: &[u8]) -> Line
     ensures { λ r. ⌜ r ≡ lineOf (now (input .entry)) ⌝ }
 {
@@ -24,31 +21,61 @@ pub fn decide(input: &[u8]) -> Line
         return refused(11, 0);
     }
     let kind = wire::bits::wide(input[0]);
-    if kind != 1 {
-        return refused(11, kind as usize);
+    if kind == 1 {
+        return base_line(&input[1..]);
     }
-    if 4096 < input.len() - 1 {
-        return refused(2, 4097);
+    if kind == 4 {
+        return multi_stream_line(&input[1..]);
     }
-    base_line(&input[1..])
+    refused(11, kind as usize)
 }
 
-// The base body: what measuring and tallying say.
+// ---- a body of each kind: what measuring and tallying say; one over 4,096 bytes counts as one of 4,097
+
 fn base_line(body: &[u8]) -> Line
-    ensures { λ r. ⌜ r ≡ judgedLine (measuring kind (now (body .entry))) (tallying kind (now (body .entry))) ⌝ }
+    ensures { λ r. ⌜ r ≡ baseLine (now (body .entry)) ⌝ }
 {
+    if 4096 < body.len() {
+        return too_long();
+    }
     let m = base::measure(body);
     let t = base::tally(body);
     match m {
-        Measured::Refused(r) => refusal_line(r),
-        Measured::Done(s) => match t {
-            Tallied::Refused(r) => refusal_line(r),
-            Tallied::Done(n) => Line {
-                number: 0,
-                first: 0,
-                k: s.k,
-                tally: n,
-            },
+        base::Measured::Refused(r) => refusal_line(r),
+        base::Measured::Done(s) => tallied_line(s.k, t),
+    }
+}
+
+fn multi_stream_line(body: &[u8]) -> Line
+    ensures { λ r. ⌜ r ≡ multiStreamLine (now (body .entry)) ⌝ }
+{
+    if 4096 < body.len() {
+        return too_long();
+    }
+    let m = multi_stream::measure(body);
+    let t = multi_stream::tally(body);
+    match m {
+        multi_stream::Measured::Refused(r) => refusal_line(r),
+        multi_stream::Measured::Done(s) => tallied_line(s.k, t),
+    }
+}
+
+fn too_long() -> Line
+    ensures { λ r. ⌜ r ≡ tooLongLine ⌝ }
+{
+    refused(2, 4097)
+}
+
+fn tallied_line(k: usize, t: Tallied) -> Line
+    ensures { λ r. ⌜ r ≡ talliedLine k (tallied t) ⌝ }
+{
+    match t {
+        Tallied::Refused(r) => refusal_line(r),
+        Tallied::Done(n) => Line {
+            number: 0,
+            first: 0,
+            k,
+            tally: n,
         },
     }
 }

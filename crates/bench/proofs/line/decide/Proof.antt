@@ -1,7 +1,7 @@
 -- `bench::line::decide` meets its contract: each test of the code is one of the definition.
 use mathlib.Core.Path.{sym, _∙_}
 use native.Mathlib.Omega.{arith}
-use Rattle.bench.proofs.Decided.{nothing, unknown, too-long, base-body}
+use Rattle.bench.proofs.Decided.{nothing, as-base, as-multi-stream, unknown}
 use borrow.Author.Needs.{needs}
 use Rattle.bench.proofs.line.decide.Statement.{statement}
 use Rattle.bench.proofs.line.decide.Tie as tie
@@ -10,31 +10,14 @@ refused-requires : tie.Need-refused-requires
 refused-requires c κs = search needs
 
 returns : tie.Need-returns
-returns c = c .refused .ensures ∙ sym (nothing _ (c .before .if1 .taken))
+returns c =
+    c .refused .ensures ∙ sym (nothing _ (c .before .if1 .taken))
 
 shared-slice-read-wide : tie.Need-shared-slice-read-wide
 shared-slice-read-wide c = search needs
 
 wide-requires : tie.Need-wide-requires
 wide-requires c κs = search needs
-
-cast-refused : tie.Need-cast-refused
-cast-refused c = search needs
-
-refused-requires-2 : tie.Need-refused-requires-2
-refused-requires-2 c κs = search needs
-
-returns-2 : tie.Need-returns-2
-returns-2 c = c .refused2 .ensures ∙ sym (unknown _ (omega arith) (c .before .before .wide .ensures) (c .before .if2 .taken))
-
-sub-if3 : tie.Need-sub-if3
-sub-if3 c = search needs
-
-refused-requires-3 : tie.Need-refused-requires-3
-refused-requires-3 c κs = search needs
-
-returns-3 : tie.Need-returns-3
-returns-3 c = c .refused3 .ensures ∙ sym (too-long _ (omega arith) (c .before .before .before .wide .ensures) (c .before .before .if2 .left) (c .before .if3 .taken))
 
 sub-base-line : tie.Need-sub-base-line
 sub-base-line c = search needs
@@ -48,8 +31,35 @@ part-base-line-end c = search needs
 base-line-requires : tie.Need-base-line-requires
 base-line-requires c κs = search needs
 
+returns-2 : tie.Need-returns-2
+returns-2 c =
+    as-base _ (omega arith) (c .before .before .before .wide .ensures) (c .before .before .if2 .taken) (c .base-line .ensures)
+
+sub-multi-stream-line : tie.Need-sub-multi-stream-line
+sub-multi-stream-line c = search needs
+
+part-multi-stream-line-start : tie.Need-part-multi-stream-line-start
+part-multi-stream-line-start c = search needs
+
+part-multi-stream-line-end : tie.Need-part-multi-stream-line-end
+part-multi-stream-line-end c = search needs
+
+multi-stream-line-requires : tie.Need-multi-stream-line-requires
+multi-stream-line-requires c κs = search needs
+
+returns-3 : tie.Need-returns-3
+returns-3 c =
+    as-multi-stream _ (omega arith) (c .before .before .before .before .wide .ensures) (c .before .before .before .if2 .left) (c .before .before .if3 .taken) (c .multi-stream-line .ensures)
+
+cast-refused : tie.Need-cast-refused
+cast-refused c = search needs
+
+refused-requires-2 : tie.Need-refused-requires-2
+refused-requires-2 c κs = search needs
+
 returns-4 : tie.Need-returns-4
-returns-4 c = c .base-line .ensures ∙ sym (base-body _ (omega arith) (c .before .before .before .before .wide .ensures) (c .before .before .before .if2 .left) (c .before .before .if3 .left))
+returns-4 c =
+    unknown _ (omega arith) (c .before .before .before .wide .ensures) (c .before .before .if2 .left) (c .before .if3 .left) (c .refused2 .ensures)
 
 pub decide-spec : {M : Type 1} → statement M
 decide-spec =
@@ -59,14 +69,16 @@ decide-spec =
     returns
     shared-slice-read-wide
     wide-requires
-    cast-refused
-    refused-requires-2
-    returns-2
-    sub-if3
-    refused-requires-3
-    returns-3
     sub-base-line
     part-base-line-start
     part-base-line-end
     base-line-requires
+    returns-2
+    sub-multi-stream-line
+    part-multi-stream-line-start
+    part-multi-stream-line-end
+    multi-stream-line-requires
+    returns-3
+    cast-refused
+    refused-requires-2
     returns-4)

@@ -1,0 +1,181 @@
+-- A row of table 8: its actions are those of its format, what is read of it is written without a fault, and its columns fit.
+use Prim.Native.Nat.{ℕ, _+_, _≤_, _<_}
+use mathlib.Core.List.{List, [], _∷_}
+use mathlib.Core.Bool.{Bool, true, false, not}
+use mathlib.Core.Option.{none, some}
+use mathlib.Core.Path.{_≡_, refl, sym, ap, subst, _∙_}
+use native.Mathlib.Omega.{arith}
+use lib.ListN.{length, length-append}
+use lib.Dec.{leb, eqb}
+use borrow.Author.Tests.{leb-true, le-leb, eqb-true, eqb-false, eq-eqb, ne-eqb, not-true, not-false}
+use Rattle.wire.specs.Lists.{Every, all-nil, all-cons, Column}
+use Rattle.wire.specs.Bits.{part, field, fit}
+use Rattle.wire.specs.Prog.{u8}
+use Rattle.wire.specs.Act.{Act, byte, when, pick}
+use Rattle.wire.specs.Pen.{clean, bytes}
+use Rattle.wire.proofs.Fields.{fits-cons}
+use Rattle.wire.proofs.Acts.{and-both, both-and}
+use Rattle.wire.proofs.Takes.{Takes, takes-split, takes-ret, map-takes, u8-takes}
+use Rattle.wire.proofs.Codec.{Spells}
+use Rattle.frame.specs.Entry.{first}
+use Rattle.multi_stream.specs.declared.rows.Auxiliary.{Auxiliary}
+use Rattle.multi_stream.specs.declared.rows.MultiStreamGroup.{MultiStreamGroup}
+use Rattle.multi_stream.specs.Rows.{absentAuxiliary, row}
+use Rattle.multi_stream.specs.Read.{auxiliary, group}
+use Rattle.multi_stream.specs.Write.{locationFlag, flags, placedOnce, groupByte, locationByte, auxiliaryActs, groupActs, acts, meant, value}
+use Rattle.multi_stream.proofs.Format.{placed, location, groups, groups-acts, groups-fit, fitting}
+
+-- ---- a row
+
+-- what no fault says of a row
+record Sound (g : MultiStreamGroup) : Type 0 where
+  main-flag : g .«is_in_main_stream» ≤ 1
+  part-flag : g .auxiliary .present ≤ 1
+  once : g .«is_in_main_stream» ≡ g .auxiliary .present → ⊥
+  fits : fit (groupByte g) ≡ true
+  rest : clean (auxiliaryActs (g .auxiliary)) ≡ true
+
+sound : (g : MultiStreamGroup) → clean (groupActs g) ≡ true → Sound g
+unfolding groupActs clean
+sound g e =
+    let (f, e₁) = and-both (flags g) _ e in
+    let (p, e₂) = and-both (placedOnce g) _ e₁ in
+    let (b, r) = and-both (fit (groupByte g)) _ e₂ in
+    let (m, q) = and-both (leb (g .«is_in_main_stream») 1) _ f in
+    let (a, t) = and-both (leb (g .auxiliary .present) 1) _ q in
+    record { main-flag = leb-true _ _ m; part-flag = leb-true _ _ a; once = eqb-false _ _ (not-true _ p); fits = b; rest = r }
+
+-- the location as writing reads it
+record Meant (a b : Auxiliary) : Type 0 where
+  acts : auxiliaryActs b ≡ auxiliaryActs a
+  there : eqb (b .present) 1 ≡ eqb (a .present) 1
+  read : placed (location b) ≡ b
+
+meant-so : (a : Auxiliary) → Meant a (pick (eqb (a .present) 1) a absentAuxiliary)
+unfolding auxiliaryActs
+meant-so a = go (eqb (a .present) 1) refl
+  where
+    go : (b : Bool) → eqb (a .present) 1 ≡ b → Meant a (pick b a absentAuxiliary)
+    go true e = record { acts = refl; there = refl; read = rw e (λ i. record { present = sym (eqb-true (a .present) 1 e) i; location = a .location }) }
+    go false e = record { acts = rw e refl; there = sym e; read = refl }
+
+once : (m p : ℕ) → m ≤ 1 → p ≤ 1 → (m ≡ p → ⊥) → not (eqb m 1) ≡ eqb p 1
+once m p hm hp n = go (eqb p 1) refl
+  where
+    go : (b : Bool) → eqb p 1 ≡ b → not (eqb m 1) ≡ b
+    go true e = let q : p ≡ 1 = eqb-true p 1 e in ap not (ne-eqb m 1 (λ z. n (z ∙ sym q)))
+    go false e = let q = eqb-false p 1 e in let z : m ≡ 1 = omega (arith, hm, hp, n, q) in ap not (eq-eqb m 1 z)
+
+pub row-spells : (g : MultiStreamGroup) → clean (groupActs g) ≡ true → Spells groups (groupActs g) (meant g)
+unfolding groupActs clean bytes
+row-spells g e =
+    let s = sound g e in
+    let m = meant-so (g .auxiliary) in
+    record {
+      fits = groups-fit (meant g) (record { once = once _ _ (s .main-flag) (s .part-flag) (s .once) ∙ sym (m .there); read = m .read });
+      sound = ap clean (groups-acts (meant g)) ∙ both-and (s .fits) (ap clean (m .acts) ∙ s .rest);
+      same = sym (ap bytes (groups-acts (meant g)) ∙ ap (λ (q : List Act). bytes (byte (groupByte g) ∷ q)) (m .acts));
+    }
+
+-- ---- a row that was read
+
+-- what is known of its columns
+pub record Small (g : MultiStreamGroup) : Type 0 where
+  id : g .«group_id» .0 < 128
+  main-flag : g .«is_in_main_stream» ≤ 1
+  part-flag : g .auxiliary .present ≤ 1
+  once : g .«is_in_main_stream» ≡ g .auxiliary .present → ⊥
+  ts : g .auxiliary .location .«is_in_ts» ≤ 1
+  stream : g .auxiliary .location .«auxiliary_stream_id» < 128
+
+record Part (m : ℕ) (a : Auxiliary) : Type 0 where
+  part-flag : a .present ≤ 1
+  once : m ≡ a .present → ⊥
+  ts : a .location .«is_in_ts» ≤ 1
+  stream : a .location .«auxiliary_stream_id» < 128
+
+small-part : (m : ℕ) (a : Auxiliary) → m ≤ 1 → not (eqb m 1) ≡ eqb (a .present) 1 → placed (location a) ≡ a → clean (auxiliaryActs a) ≡ true → Part m a
+unfolding auxiliaryActs clean
+small-part m a h o r e = go (eqb (a .present) 1) refl
+  where
+    go : (b : Bool) → eqb (a .present) 1 ≡ b → Part m a
+    go true q =
+        let p : a .present ≡ 1 = eqb-true (a .present) 1 q in
+        let c : clean (when true (byte (locationByte (a .location)) ∷ [])) ≡ true = rw q at e in
+        let f = fits-cons 1 (a .location .«is_in_ts») (field 7 (a .location .«auxiliary_stream_id») ∷ []) (and-both (fit (locationByte (a .location))) true c .0) in
+        let n = eqb-false m 1 (not-true (eqb m 1) (o ∙ q)) in
+        record { part-flag = omega (arith, p); once = λ z. n (z ∙ p); ts = omega (arith, f .0); stream = fits-cons 7 (a .location .«auxiliary_stream_id») [] (f .1) .0 }
+    go false q =
+        let z : absentAuxiliary ≡ a = sym (ap (λ (b : Bool). placed (pick b (some (a .location .«is_in_ts», a .location .«auxiliary_stream_id»)) none)) q) ∙ r in
+        let n = eqb-true m 1 (not-false (eqb m 1) (o ∙ q)) in
+        let p = ap (λ (a : Auxiliary). a .present) z in
+        let t = ap (λ (a : Auxiliary). a .location .«is_in_ts») z in
+        let i = ap (λ (a : Auxiliary). a .location .«auxiliary_stream_id») z in
+        record { part-flag = omega (arith, p); once = λ w. absurd (omega (arith, n, p, w)); ts = omega (arith, t); stream = omega (arith, i) }
+
+pub small : (g : MultiStreamGroup) → groups .Fits g → clean (groups .acts g) ≡ true → Small g
+unfolding clean
+small g f e =
+    let w = fitting g f in
+    let c : clean (byte (groupByte g) ∷ auxiliaryActs (g .auxiliary)) ≡ true = ap clean (sym (groups-acts g)) ∙ e in
+    let (b, r) = and-both (fit (groupByte g)) _ c in
+    let x = fits-cons 7 (g .«group_id» .0) (field 1 (g .«is_in_main_stream») ∷ []) b in
+    let y = fits-cons 1 (g .«is_in_main_stream») [] (x .1) in
+    let m : g .«is_in_main_stream» ≤ 1 = omega (arith, y .0) in
+    let p = small-part (g .«is_in_main_stream») (g .auxiliary) m (w .once) (w .read) r in
+    record { id = x .0; main-flag = m; part-flag = p .part-flag; once = p .once; ts = p .ts; stream = p .stream }
+
+location-flag : (a : Auxiliary) → a .location .«is_in_ts» ≤ 1 → locationFlag a ≡ true
+location-flag a h = go (eqb (a .present) 1)
+  where
+    go : (b : Bool) → pick b (leb (a .location .«is_in_ts») 1) true ≡ true
+    go true = le-leb _ _ h
+    go false = refl
+
+-- it is written without a fault
+pub row-ready : (g : MultiStreamGroup) → groups .Fits g → clean (groups .acts g) ≡ true → clean (groupActs g) ≡ true
+unfolding groupActs clean
+row-ready g f e =
+    let s = small g f e in
+    let c : clean (byte (groupByte g) ∷ auxiliaryActs (g .auxiliary)) ≡ true = ap clean (sym (groups-acts g)) ∙ e in
+    both-and (both-and (le-leb _ _ (s .main-flag)) (both-and (le-leb _ _ (s .part-flag)) (location-flag (g .auxiliary) (s .ts)))) (both-and (ap not (ne-eqb _ _ (s .once))) c)
+
+pub row-columns : (g : MultiStreamGroup) → Small g → Every Column (row g)
+row-columns g s =
+    let m = s .main-flag in
+    let p = s .part-flag in
+    let t = s .ts in
+    let i = s .id in
+    let a = s .stream in
+    let c₀ : g .«group_id» .0 < 65536 = omega arith in
+    let c₁ : g .«is_in_main_stream» < 65536 = omega arith in
+    let c₂ : g .auxiliary .present < 65536 = omega arith in
+    let c₃ : g .auxiliary .location .«is_in_ts» < 65536 = omega arith in
+    let c₄ : g .auxiliary .location .«auxiliary_stream_id» < 65536 = omega arith in
+    all-cons c₀ (all-cons c₁ (all-cons c₂ (all-cons c₃ (all-cons c₄ all-nil))))
+
+-- ---- a row that is taken
+
+-- a group is in the main stream, or has a location, and not both
+abbrev pub Once : MultiStreamGroup → Type 0
+Once g = g .«is_in_main_stream» + g .auxiliary .present ≡ 1
+
+flag-once : (n : ℕ) → n < 2 → (b : Bool) → eqb n 1 ≡ b → {at : ℕ} {a : Auxiliary} {bs : List ℕ} → Takes (auxiliary b) at a bs → n + a .present ≡ 1
+unfolding auxiliary
+flag-once n h true e t = omega (arith, eqb-true n 1 e, ap (λ (a : Auxiliary). a .present) (takes-ret t .0))
+flag-once n h false e t =
+    let (x, q, d) = map-takes u8 _ t in
+    let z = eqb-false n 1 e in
+    omega (arith, h, z, ap (λ (a : Auxiliary). a .present) q)
+
+pub group-once : (at : ℕ) (g : MultiStreamGroup) (bs : List ℕ) → Takes group at g bs → Once g
+unfolding group
+group-once at g bs t =
+    let u = takes-split u8 _ t in
+    let (a, q, d) = map-takes (auxiliary _) _ (u .second) in
+    let n : part 0 1 (u .value) + a .present ≡ 1 = flag-once (part 0 1 (u .value)) (omega arith) _ refl d in
+    subst Once q n
+
+pub group-byte : (at : ℕ) (g : MultiStreamGroup) (bs : List ℕ) → Takes group at g bs → 1 ≤ length bs
+unfolding group
+group-byte at g bs t = let u = takes-split u8 _ t in omega (arith, ap length (u .joined) ∙ length-append (u .front) (u .back), ap length (u8-takes (u .first)))

@@ -1,0 +1,29 @@
+-- `multi_stream::parsing::fill` meets its contract: the groups of the body that was judged.
+use native.Mathlib.Omega.{arith}
+use Rattle.multi_stream.proofs.Sighted.{fillable, filled-there, filled-aside}
+use borrow.Author.Needs.{needs}
+use Rattle.multi_stream.proofs.parsing.fill.Statement.{statement}
+use Rattle.multi_stream.proofs.parsing.fill.Tie as tie
+
+cast-fill-groups : tie.Need-cast-fill-groups
+cast-fill-groups c = search needs
+
+fill-groups-requires : tie.Need-fill-groups-requires
+fill-groups-requires c κs =
+    let f = fillable _ _ (c .before .before .before .before .before .pre .0) (c .before .if1 .taken) in
+    (f .inside, f .sound, omega (arith, c .before .before .before .before .before .pre .1))
+
+same-length : tie.Need-same-length
+same-length c = search needs
+
+returns : tie.Need-returns
+returns c =
+    filled-there _ _ (c .before .before .before .before .before .before .before .before .pre .0) (c .before .before .before .before .if1 .taken) _ _ (c .before .before .before .before .before .before .before .before .pre .1) (c .before .before .fill-groups .ensures)
+
+returns-2 : tie.Need-returns-2
+returns-2 c =
+    filled-aside _ _ (c .before .before .before .before .pre .0) (c .if1 .left) _
+
+pub fill-spec : {M : Type 1} → statement M
+fill-spec =
+    tie.close (tie.spec cast-fill-groups fill-groups-requires same-length returns returns-2)

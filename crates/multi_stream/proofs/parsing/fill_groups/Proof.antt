@@ -1,0 +1,87 @@
+-- `multi_stream::parsing::fill_groups` meets its contract: what is still to store from here is what was to store from the start.
+use mathlib.Core.Path.{refl, ap}
+use Rattle.wire.proofs.Loops.{Filling, fill-next, fill-end, no-cut}
+use Rattle.multi_stream.specs.Rows.{row}
+use Rattle.multi_stream.specs.Read.{group}
+use Rattle.multi_stream.specs.Contract.{groupOut}
+use borrow.Author.Needs.{needs}
+use Rattle.multi_stream.proofs.parsing.fill_groups.Statement.{statement}
+use Rattle.multi_stream.proofs.parsing.fill_groups.Tie as tie
+
+abbrev Inv-loop : tie.InvT-loop
+Inv-loop body at count groups₀ pos₀ left₀ to₀ groups pos left to = Filling group row 5 body at count groups₀ 0 groups pos left to
+
+abbrev μ-loop : tie.MeasureT-loop
+μ-loop body at count groups₀ pos₀ left₀ to₀ groups pos left to = left
+
+loop-holds : tie.Need-loop-holds Inv-loop μ-loop
+loop-holds c =
+    record { inside = c .before .before .pre .0; long = refl; place = refl; sound = c .before .before .pre .1; end = refl; stored = refl }
+
+group-at-requires : tie.Need-group-at-requires Inv-loop μ-loop
+group-at-requires c κs =
+    c .before .loop .inv .inside
+
+enum-known-a : tie.Need-enum-known-a Inv-loop μ-loop
+enum-known-a c = search needs
+
+enum-told : tie.Need-enum-told Inv-loop μ-loop
+enum-told c = search needs
+
+same-length : tie.Need-same-length Inv-loop μ-loop
+same-length c = search needs
+
+returns : tie.Need-returns Inv-loop μ-loop
+returns c =
+    no-cut group _ _ _ (c .before .before .before .loop-test .taken) (c .before .before .group-at .ensures) (ap groupOut (c .enum-told .given .1)) (c .before .before .before .before .loop .inv .sound)
+
+columns-requires : tie.Need-columns-requires Inv-loop μ-loop
+columns-requires c κs = search needs
+
+slice-aggregate-put-row : tie.Need-slice-aggregate-put-row Inv-loop μ-loop
+slice-aggregate-put-row c = search needs
+
+put-row-requires : tie.Need-put-row-requires Inv-loop μ-loop
+put-row-requires c κs = search needs
+
+sub-left : tie.Need-sub-left Inv-loop μ-loop
+sub-left c = search needs
+
+add-to : tie.Need-add-to Inv-loop μ-loop
+add-to c = search needs
+
+loop-less : tie.Need-loop-less Inv-loop μ-loop
+loop-less c = search needs
+
+loop-again : tie.Need-loop-again Inv-loop μ-loop
+loop-again c =
+    fill-next group row 5 _ _ _ _ 0 _ _ _ _ (c .before .before .before .before .before .before .before .before .before .before .before .loop .inv) (c .before .before .before .before .before .before .before .before .before .before .loop-test .taken) (c .before .before .before .before .before .before .before .before .before .group-at .ensures) (ap groupOut (c .before .before .before .before .before .before .before .a .given .1)) refl (c .before .before .before .before .before .columns .ensures) (c .before .before .put-row .ensures)
+
+same-length-2 : tie.Need-same-length-2 Inv-loop μ-loop
+same-length-2 c = search needs
+
+returns-2 : tie.Need-returns-2 Inv-loop μ-loop
+returns-2 c =
+    fill-end group row 5 _ _ _ _ 0 _ _ _ _ (c .before .loop .inv) (c .loop-test .left) .1
+
+pub fill-groups-spec : {M : Type 1} → statement M
+fill-groups-spec =
+    tie.close
+    (tie.spec
+    Inv-loop
+    μ-loop
+    loop-holds
+    group-at-requires
+    enum-known-a
+    enum-told
+    same-length
+    returns
+    columns-requires
+    slice-aggregate-put-row
+    put-row-requires
+    sub-left
+    add-to
+    loop-less
+    loop-again
+    same-length-2
+    returns-2)

@@ -1,0 +1,120 @@
+// The multi-stream body (kind 4; H.222.0 2.6.114, Table 2-125): read, measure, tally and write. Its groups are the rows of table 8.
+mod parsing;
+pub mod rows;
+mod writing;
+
+ghost use mathlib.Core.Path.{_≡_};
+ghost use mathlib.Core.List.{[], _∷_};
+ghost use Prim.Native.Nat.{_<_};
+ghost use Rattle.frame.specs.Numbers.{tallied, written};
+ghost use Rattle.frame.specs.Entry.{Reads, Measures, Tallies, Writes};
+ghost use Rattle.multi_stream.specs.Tally.{mainTally};
+ghost use Rattle.multi_stream.specs.Write.{kind};
+ghost use Rattle.multi_stream.specs.Contract.{read, measured};
+use frame::Refusal;
+use frame::Tallied;
+use frame::Written;
+use parsing::Judged;
+use rows::GROUP_COLUMNS;
+use rows::MainStream;
+use rows::MpegH3dAudioMultiStream;
+use wire::bits;
+use wire::pen::Pen;
+use wire::rows::has_rows;
+
+// What reading answers: the top record, its trailing run included.
+pub enum Reading {
+    Done(MpegH3dAudioMultiStream),
+    Refused(Refusal),
+}
+
+// What a body needs: the rows of table 8, and k, the bytes before the trailing run.
+pub struct Sizes {
+    pub groups: usize,
+    pub k: usize,
+}
+
+pub enum Measured {
+    Done(Sizes),
+    Refused(Refusal),
+}
+
+// The record of a body, its groups in table 8; or 2, or 1, or 3. The table is touched when all of the body is known to be sound.
+pub fn read(body: &[u8], groups: &mut [u16]) -> Reading
+    ensures { λ r. ⌜ Reads kind (now (body .entry)) (now (groups .entry) ∷ []) (read r) (now (groups .exit) ∷ []) ⌝ }
+{
+    let j = parsing::judge(body);
+    match j {
+        Judged::Refused(r) => Reading::Refused(r),
+        Judged::Sound(m, k) => {
+            let rows = m.main.part.groups as usize;
+            if has_rows(groups, GROUP_COLUMNS, rows) {
+                parsing::fill(body, m, groups);
+                let mut done = m;
+                done.trailing = wire::rows::trailing_run(k, body.len());
+                Reading::Done(done)
+            } else {
+                Reading::Refused(Refusal::NoRoom(8, rows))
+            }
+        }
+    }
+}
+
+// What the body needs, or 2, or 1.
+pub fn measure(body: &[u8]) -> Measured
+    ensures { λ r. ⌜ Measures kind (now (body .entry)) (measured r) ⌝ }
+{
+    let j = parsing::judge(body);
+    match j {
+        Judged::Sound(m, k) => Measured::Done(Sizes {
+            groups: m.main.part.groups as usize,
+            k,
+        }),
+        Judged::Refused(r) => Measured::Refused(r),
+    }
+}
+
+// The reserved bits at 0, or 2, or 1.
+pub fn tally(body: &[u8]) -> Tallied
+    ensures { λ r. ⌜ Tallies kind (now (body .entry)) (tallied r) ⌝ }
+{
+    let j = parsing::judge(body);
+    match j {
+        Judged::Sound(m, _) => Tallied::Done(zero_bits(m.main)),
+        Judged::Refused(r) => Tallied::Refused(r),
+    }
+}
+
+// The reserved bits at 0 of a main part whose fields fit; none where there is no main part.
+fn zero_bits(main: MainStream) -> usize
+    requires { ⌜ (main .part .«reserved_aux» < 2) × (main .part .«reserved_groups» < 2) ⌝ }
+    ensures { λ r. ⌜ r ≡ mainTally main ⌝ }
+{
+    if main.present {
+        let aux = bits::zero_bits(bits::wide(main.part.reserved_aux), 1);
+        let groups = bits::zero_bits(bits::wide(main.part.reserved_groups), 1);
+        (aux + groups) as usize
+    } else {
+        0
+    }
+}
+
+// Writes the value at the front of the output, its groups taken from table 8 and its trailing run from the store: first the faults, then 10, then 4.
+pub fn write(m: MpegH3dAudioMultiStream, groups: &[u16], store: &[u8], out: &mut [u8]) -> Written
+    ensures { λ r. ⌜ Writes kind m (now (groups .entry) ∷ []) (now (store .entry)) (now (out .entry)) (written r) (now (out .exit)) ⌝ }
+{
+    let p = writing::check(m, groups, store);
+    match p {
+        Pen::Stop(fault, place) => Written::Wrong(fault, place),
+        Pen::At(n) => {
+            if 65535 < n {
+                return Written::TooLong(n);
+            }
+            if out.len() < n {
+                return Written::NoRoom(n);
+            }
+            writing::fill(m, groups, store, out);
+            Written::Done(n)
+        }
+    }
+}
