@@ -1,5 +1,6 @@
 // Lines of numbers on standard output.
 use frame::Refusal;
+use frame::Tallied;
 use frame::Written;
 use wire::pen::Fault;
 
@@ -51,5 +52,36 @@ fn fault_number(fault: Fault) -> usize {
         Fault::Empty => 7,
         Fault::Scope => 8,
         Fault::Auxiliary => 9,
+    }
+}
+
+pub fn tallied(t: Tallied) {
+    match t {
+        Tallied::Done(n) => pair(0, n),
+        Tallied::Refused(r) => refusal(r),
+    }
+}
+
+fn size(column: u16) -> usize {
+    column as usize
+}
+
+// How many columns a table has, and the columns.
+pub fn columns(table: &[u16]) {
+    number(table.len());
+    let mut i: usize = 0;
+    while i < table.len() {
+        then(size(table[i]));
+        i += 1;
+    }
+    end();
+}
+
+// Whether the output begins with the body: 1 or 0.
+pub fn same_front(out: &[u8], body: &[u8]) {
+    let n = body.len();
+    if n <= out.len() {
+        number(check::same(&out[0..n], body) as usize);
+        end();
     }
 }
