@@ -9,7 +9,7 @@ ghost use Rattle.wire.specs.Act.{rows};
 ghost use Rattle.wire.specs.Pen.{reach, Checked, Ready, Filled};
 ghost use Rattle.wire.specs.declared.pen.Pen.the-variants.{At};
 ghost use Rattle.frame.specs.Entry.{whole};
-ghost use Rattle.multi_stream.specs.Write.{flags, locationFlag, auxiliaryActs, groupActs, rowActs, inside, streamByte, auxByte, groupsByte, mainActs, acts, kind};
+ghost use Rattle.multi_stream.specs.Write.{flags, locationFlag, placedOnce, auxiliaryActs, groupActs, rowActs, inside, streamByte, auxByte, groupsByte, mainActs, acts, kind};
 use super::rows::Auxiliary;
 use super::rows::GROUP_COLUMNS;
 use super::rows::MainStream;
@@ -47,6 +47,13 @@ fn location_flag_holds(a: Auxiliary) -> bool
     }
 }
 
+// Whether the location is there exactly outside the main stream.
+fn placed_once(g: MultiStreamGroup) -> bool
+    ensures { λ r. ⌜ r ≡ placedOnce g ⌝ }
+{
+    g.is_in_main_stream != g.auxiliary.present
+}
+
 fn check_auxiliary(p: Pen, a: Auxiliary) -> Pen
     requires { ⌜ reach p < 2 ^ 32 ⌝ }
     ensures { λ r. ⌜ Checked (auxiliaryActs a) 1 p r ⌝ }
@@ -64,11 +71,10 @@ fn check_group(n: usize, g: MultiStreamGroup) -> Pen
     requires { ⌜ n < 2 ^ 31 ⌝ }
     ensures { λ r. ⌜ Checked (groupActs g) 2 (At n) r ⌝ }
 {
-    let a = g.auxiliary;
     let p1 = pen::demand(Pen::At(n), Fault::Field, flags_hold(g));
-    let p2 = pen::demand(p1, Fault::Auxiliary, g.is_in_main_stream != a.present);
+    let p2 = pen::demand(p1, Fault::Auxiliary, placed_once(g));
     let p3 = pen::byte(p2, fits2(g.group_id.0, 7, g.is_in_main_stream, 1));
-    check_auxiliary(p3, a)
+    check_auxiliary(p3, g.auxiliary)
 }
 
 // The rows of table 8 from the first; the first fault ends it.
