@@ -30,7 +30,7 @@ use Rattle.multi_stream.specs.declared.Reading.{Reading}
 use Rattle.multi_stream.specs.declared.Reading.the-variants as R
 use Rattle.multi_stream.specs.declared.Measured.{Measured}
 use Rattle.multi_stream.specs.declared.Measured.the-variants as M
-use Rattle.multi_stream.specs.Rows.{row, groupOf, Main, counted, groupsOf, tables}
+use Rattle.multi_stream.specs.Rows.{groupColumns, row, groupOf, Main, counted, groupsOf, tables}
 use Rattle.multi_stream.specs.Read.{auxiliary, group, main, parse}
 use Rattle.multi_stream.specs.Bodies.{twoGroups, twoRows, noGroups}
 use Rattle.multi_stream.specs.Tally.{mainTally}
@@ -91,7 +91,7 @@ nothing : {ns : List Need} {lent : Lent} {t r : ℕ} → Lowest ns lent t r → 
 nothing (this h) e = let z : _≡_ {A = ℕ} 0 1 = cc e in omega arith
 nothing (later h d) e = let z : _≡_ {A = ℕ} 0 1 = cc e in omega arith
 
-low : (n : ℕ) (groups : List ℕ) {t r : ℕ} → Lowest (needed n) (groups ∷ []) t r → (t ≡ 8) × (r ≡ n) × (length groups / 5 < n)
+low : (n : ℕ) (groups : List ℕ) {t r : ℕ} → Lowest (needed n) (groups ∷ []) t r → (t ≡ 8) × (r ≡ n) × (length groups / groupColumns < n)
 unfolding room first
 low n groups (this h) = (refl, refl, h)
 low n groups (later h d) = absurd (nothing d refl)
@@ -101,24 +101,24 @@ unfolding sizes kind tables needs
 sized-so body z e = let (s, j, q) = was-measured kind body z e in (length (map row (groupsOf (s .tree .main))), sym (subst (λ (z : Sizes). sized (length (map row (groupsOf (s .tree .main)))) (z .before) ≡ z) q refl))
 
 pub lacks-room : (body groups : List ℕ) (t r : ℕ)
-    → (reading kind body (groups ∷ []) ≡ leaves (no-room t r) (groups ∷ [])) ↔ ((t ≡ 8) × (k : ℕ) × (measuring kind body ≡ accepted (sized r k)) × (length groups / 5 < r))
+    → (reading kind body (groups ∷ []) ≡ leaves (no-room t r) (groups ∷ [])) ↔ ((t ≡ 8) × (k : ℕ) × (measuring kind body ≡ accepted (sized r k)) × (length groups / groupColumns < r))
 unfolding room first
 lacks-room body groups t r = (forth, back)
   where
-    forth : reading kind body (groups ∷ []) ≡ leaves (no-room t r) (groups ∷ []) → (t ≡ 8) × (k : ℕ) × (measuring kind body ≡ accepted (sized r k)) × (length groups / 5 < r)
+    forth : reading kind body (groups ∷ []) ≡ leaves (no-room t r) (groups ∷ []) → (t ≡ 8) × (k : ℕ) × (measuring kind body ≡ accepted (sized r k)) × (length groups / groupColumns < r)
     forth h =
         let (z, e, l) = claims .more-room .no-room body (groups ∷ []) t r .0 h in
         let (n, q) = sized-so body z e in
         let (a, b, c) = low n groups (subst (λ (z : Sizes). Lowest (z .tables) (groups ∷ []) t r) q l) in
-        (a, z .before, e ∙ ap accepted (q ∙ ap (λ (n : ℕ). sized n (z .before)) (sym b)), subst (λ (n : ℕ). length groups / 5 < n) (sym b) c)
+        (a, z .before, e ∙ ap accepted (q ∙ ap (λ (n : ℕ). sized n (z .before)) (sym b)), subst (λ (n : ℕ). length groups / groupColumns < n) (sym b) c)
 
-    back : (t ≡ 8) × (k : ℕ) × (measuring kind body ≡ accepted (sized r k)) × (length groups / 5 < r) → reading kind body (groups ∷ []) ≡ leaves (no-room t r) (groups ∷ [])
+    back : (t ≡ 8) × (k : ℕ) × (measuring kind body ≡ accepted (sized r k)) × (length groups / groupColumns < r) → reading kind body (groups ∷ []) ≡ leaves (no-room t r) (groups ∷ [])
     back (a, k, e, c) = claims .more-room .no-room body (groups ∷ []) t r .1 (sized r k, e, subst (λ (t : ℕ). Lowest (needed r) (groups ∷ []) t r) (sym a) (this c))
 
 -- of a table that was read: its rows are the groups, each either in the main stream or with a location, and the rest keeps its content
 pub record Read (groups groups′ : List ℕ) (count : ℕ) : Type 0 where
   pub once : Every Once (each (groupAt groups′) 0 count)
-  pub kept : drop (count * 5) groups′ ≡ drop (count * 5) groups
+  pub kept : drop (count * groupColumns) groups′ ≡ drop (count * groupColumns) groups
 
 behind-kept : (a t : List ℕ) {n : ℕ} → length a ≡ n → drop n (a ++ drop (length a) t) ≡ drop n t
 behind-kept a t e = rw (← e) (drop-append-seam a (drop (length a) t))
@@ -128,7 +128,7 @@ unfolding each flatten
 read-part groups none g = record { once = all-nil; kept = refl }
 read-part groups (some m) g = record {
   once = rw (rows-in (m .groups) _) (g .once);
-  kept = behind-kept (flatten (map row (m .groups))) groups (laid-length 5 groupOf row (λ g. refl) row-found (m .groups));
+  kept = behind-kept (flatten (map row (m .groups))) groups (laid-length groupColumns groupOf row (λ g. refl) row-found (m .groups));
 }
 
 pub read-table : (body groups groups′ : List ℕ) (m : MpegH3dAudioMultiStream) → reading kind body (groups ∷ []) ≡ leaves (accepted m) (groups′ ∷ []) → Read groups groups′ (m .main .part .groups)

@@ -24,7 +24,7 @@ use Rattle.frame.proofs.Lawful.{Taken, Lawful}
 use Rattle.multi_stream.specs.declared.rows.MultiStreamGroup.{MultiStreamGroup}
 use Rattle.multi_stream.specs.declared.rows.MultiStreamMain.{MultiStreamMain}
 use Rattle.multi_stream.specs.declared.rows.MpegH3dAudioMultiStream.{MpegH3dAudioMultiStream}
-use Rattle.multi_stream.specs.Rows.{row, groupOf, bounds, Main, MultiStream, counted, groupsOf, top, tables}
+use Rattle.multi_stream.specs.Rows.{groupColumns, row, groupOf, bounds, Main, MultiStream, counted, groupsOf, top, tables}
 use Rattle.multi_stream.specs.Read.{group, mainOf, main, parse}
 use Rattle.multi_stream.specs.Write.{groupActs, groupAt, inside, auxByte, groupsByte, rowActs, mainActs, acts, meant, mainValue, value, kind}
 use Rattle.multi_stream.proofs.Format.{placed, groups, group-meant, format, isSome, partListed, mainListed, format-acts, format-fits, fits-format, format-reads, format-means, format-spans}
@@ -112,7 +112,7 @@ unfolding filled tables first
 filled-is t lent = refl
 
 pub rows-in : (l : List MultiStreamGroup) (behind : List ℕ) → each (groupAt (flatten (map row l) ++ behind)) 0 (length l) ≡ l
-rows-in l behind = rows-found 5 groupOf row (λ g. refl) row-found l behind
+rows-in l behind = rows-found groupColumns groupOf row (λ g. refl) row-found l behind
 
 -- the record and the table mean the tree
 main-laid : (o : Option Main) (lent : Lent) → Every (λ g. meant g ≡ g) (groupsOf o) → pick (counted o .present) (some (mainValue (counted o .part) (table o lent))) none ≡ o
@@ -140,7 +140,7 @@ main-ready id (some m) lent f e =
     let (f₁, e₁) = and-both (fit (field 1 (m .«reserved_aux») ∷ field 7 (m .«num_auxiliary_streams») ∷ [])) _ e₀ in
     let (f₂, e₂) = and-both (fit (field 1 (m .«reserved_groups») ∷ field 7 (length l) ∷ [])) _ e₁ in
     let c : clean (rows (rowActs t) 0 (length l)) ≡ true = ap clean (rows-each groupActs (groupAt t) 0 (length l) ∙ ap (flatMap groupActs) (rows-in l _)) ∙ clean-rows groups groupActs row-ready l f e₂ in
-    let n : length l ≤ length t / 5 = omega (arith, laid-length 5 groupOf row (λ g. refl) row-found l, length-append (flatten (map row l)) (drop (length (flatten (map row l))) (first lent))) in
+    let n : length l ≤ length t / groupColumns = omega (arith, laid-length groupColumns groupOf row (λ g. refl) row-found l, length-append (flatten (map row l)) (drop (length (flatten (map row l))) (first lent))) in
     both-and (le-leb _ _ n) (both-and f₀ (both-and f₁ (both-and f₂ c)))
 
 ready : (t : MultiStream) (r : Payload) (lent : Lent) (store : List ℕ) → format .Fits t → clean (format .acts t) ≡ true → clean (acts (top t r) (filled (tables t) lent) store) ≡ true
@@ -209,7 +209,7 @@ lawful = record {
   reads = format-reads;
   placed = format-spans;
   all-there = λ t. refl;
-  shaped = λ t. all-cons (every-shaped 5 groupOf row (λ g. refl) row-found (groupsOf (t .main))) all-nil;
+  shaped = λ t. all-cons (every-shaped groupColumns groupOf row (λ g. refl) row-found (groupsOf (t .main))) all-nil;
   bounded = λ t bs d. omega (arith, taken t bs d .few, length-map (groupsOf (t .main)) row);
   laid = λ t bs rest lent d f. laid t bs _ lent (bs ++ rest) d ∙ sym (format-means (bs ++ rest) t);
   held = λ t bs rest d l. let n = length-append bs rest in held t (length bs) (length rest) (read-so t bs rest d) (omega (arith, n, l)) (omega (arith, n, l));

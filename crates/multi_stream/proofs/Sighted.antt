@@ -18,7 +18,7 @@ use Rattle.frame.proofs.Judged.{ran-well}
 use Rattle.multi_stream.specs.declared.rows.MultiStreamGroup.{MultiStreamGroup}
 use Rattle.multi_stream.specs.declared.rows.MainStream.{MainStream}
 use Rattle.multi_stream.specs.declared.rows.MpegH3dAudioMultiStream.{MpegH3dAudioMultiStream}
-use Rattle.multi_stream.specs.Rows.{row, groupOf, Main, MultiStream, counted, groupsOf, top, tables}
+use Rattle.multi_stream.specs.Rows.{groupColumns, row, groupOf, Main, MultiStream, counted, groupsOf, top, tables}
 use Rattle.multi_stream.specs.Read.{group, parse}
 use Rattle.multi_stream.specs.Write.{kind}
 use Rattle.multi_stream.specs.Contract.{needed, sized}
@@ -35,11 +35,11 @@ unfolding sight sizes kind tables needs
 sight-is t k = λ i. record { top = top t (span 0 0); sizes = sized (rows-counted (t .main) i) k }
 
 -- table 8 has the rows that it needs, or not
-pub has-room : (t : List ℕ) (n : ℕ) → leb n (length t / 5) ≡ true → lacking (needed n) (t ∷ []) ≡ none
+pub has-room : (t : List ℕ) (n : ℕ) → leb n (length t / groupColumns) ≡ true → lacking (needed n) (t ∷ []) ≡ none
 unfolding lacking room first others
 has-room t n e = rw (e, lacking) refl
 
-pub lacks-room : (t : List ℕ) (n : ℕ) → leb n (length t / 5) ≡ false → lacking (needed n) (t ∷ []) ≡ some (record { number = 8; columns = 5; rows = n })
+pub lacks-room : (t : List ℕ) (n : ℕ) → leb n (length t / groupColumns) ≡ false → lacking (needed n) (t ∷ []) ≡ some (record { number = 8; columns = groupColumns; rows = n })
 unfolding lacking room first others
 lacks-room t n e = rw (e, lacking) refl
 
@@ -96,15 +96,15 @@ module _ (body : List ℕ) (m : MpegH3dAudioMultiStream) (w : Seen kind body m) 
   unfolding filled tables first others
   table-of o q t = ap (λ (o : Option Main). (flatten (map row (groupsOf o)) ++ drop (length (flatten (map row (groupsOf o)))) t) ∷ []) q
 
-  pub filled-there : m .main .present ≡ true → (t after : List ℕ) → m .main .part .groups ≤ length t / 5 → after ≡ sets t 0 (flatMap row (Rows-of body (m .main .part .groups)))
+  pub filled-there : m .main .present ≡ true → (t after : List ℕ) → m .main .part .groups ≤ length t / groupColumns → after ≡ sets t 0 (flatMap row (Rows-of body (m .main .part .groups)))
       → Fills kind body (t ∷ []) (after ∷ [])
   filled-there p t after h e =
       let (x, q, n) = there (w .sound .tree .main) main-is p in
       let g = groups-run body x ran q in
       let r : Rows-of body (m .main .part .groups) ≡ x .groups = rows-are body n (g .reads) in
-      let l : length (x .groups) * 5 ≤ length t = omega (arith, n, h) in
+      let l : length (x .groups) * groupColumns ≤ length t = omega (arith, n, h) in
       let f : after ≡ flatten (map row (x .groups)) ++ drop (length (flatten (map row (x .groups)))) t =
-      e ∙ ap (λ (l : List MultiStreamGroup). sets t 0 (flatMap row l)) r ∙ rows-stored 5 groupOf row (λ g. refl) row-found (x .groups) t l in
+      e ∙ ap (λ (l : List MultiStreamGroup). sets t 0 (flatMap row l)) r ∙ rows-stored groupColumns groupOf row (λ g. refl) row-found (x .groups) t l in
       fills-so (t ∷ []) (after ∷ []) (ap (λ (a : List ℕ). a ∷ []) f ∙ sym (table-of (some x) q t))
 
   pub filled-aside : m .main .present ≡ false → (t : List ℕ) → Fills kind body (t ∷ []) (t ∷ [])

@@ -10,6 +10,7 @@ use Rattle.multi_stream.specs.declared.rows.MultiStreamGroup.{MultiStrea
 use Rattle.multi_stream.specs.declared.rows.MultiStreamMain.{MultiStreamMain}
 use Rattle.multi_stream.specs.declared.rows.MainStream.{MainStream}
 use Rattle.multi_stream.specs.declared.rows.MpegH3dAudioMultiStream.{MpegH3dAudioMultiStream}
+use Rattle.multi_stream.specs.Rows.{groupColumns}
 use Rattle.multi_stream.specs.declared.parsing.GroupAt.{GroupAt}
 use Rattle.multi_stream.specs.declared.parsing.GroupAt.the-variants as G
 use Rattle.multi_stream.specs.declared.parsing.MainAt.{MainAt}
@@ -42,7 +43,7 @@ parsedOut (P.Short x) = short x
 
 -- table 8 needs so many rows
 abbrev pub needed : ℕ → List Need
-needed rows = record { number = 8; columns = 5; rows = rows } ∷ []
+needed rows = record { number = 8; columns = groupColumns; rows = rows } ∷ []
 
 abbrev pub sized : ℕ → ℕ → E.Sizes
 sized rows k = record { tables = needed rows; before = k }

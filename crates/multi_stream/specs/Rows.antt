@@ -31,7 +31,10 @@ inMain id = record { «group_id» = id; «is_in_main_stream» = 1; auxiliary = a
 abbrev pub inAuxiliary : GroupId → AuxiliaryLocation → MultiStreamGroup
 inAuxiliary id l = record { «group_id» = id; «is_in_main_stream» = 0; auxiliary = presentAuxiliary l }
 
--- its columns; and the row whose first column is b
+-- how many columns it has, and which; and the row whose first column is b
+abbrev pub groupColumns : ℕ
+groupColumns = 5
+
 abbrev pub row : MultiStreamGroup → List ℕ
 row g = g .«group_id» .0 ∷ g .«is_in_main_stream» ∷ g .auxiliary .present ∷ g .auxiliary .location .«is_in_ts» ∷ g .auxiliary .location .«auxiliary_stream_id» ∷ []
 
@@ -87,4 +90,4 @@ groupsOf none = []
 groupsOf (some m) = m .groups
 
 unfoldable pub tables : MultiStream → List Rows
-tables t = record { number = 8; columns = 5; rows = map row (groupsOf (t .main)) } ∷ []
+tables t = record { number = 8; columns = groupColumns; rows = map row (groupsOf (t .main)) } ∷ []

@@ -17,7 +17,7 @@ use Rattle.multi_stream.specs.declared.rows.MultiStreamGroup.{MultiStrea
 use Rattle.multi_stream.specs.declared.rows.MultiStreamMain.{MultiStreamMain}
 use Rattle.multi_stream.specs.declared.rows.MainStream.{MainStream}
 use Rattle.multi_stream.specs.declared.rows.MpegH3dAudioMultiStream.{MpegH3dAudioMultiStream}
-use Rattle.multi_stream.specs.Rows.{absentAuxiliary, groupOf, Main, MultiStream, retrail, bounds, top, tables}
+use Rattle.multi_stream.specs.Rows.{absentAuxiliary, groupColumns, groupOf, Main, MultiStream, retrail, bounds, top, tables}
 use Rattle.multi_stream.specs.Read.{parse}
 use Rattle.multi_stream.specs.Tally.{tally}
 
@@ -54,11 +54,11 @@ groupActs g =
 
 -- row i of the table
 abbrev pub groupAt : List ℕ → ℕ → MultiStreamGroup
-groupAt t i = groupOf t (i * 5)
+groupAt t i = groupOf t (i * groupColumns)
 
 -- whether the groups, if there is a main part, stand in the table
 abbrev pub inside : MainStream → List ℕ → Bool
-inside m t = pick (m .present) (leb (m .part .groups) (length t / 5)) true
+inside m t = pick (m .present) (leb (m .part .groups) (length t / groupColumns)) true
 
 abbrev pub streamByte : MpegH3dAudioMultiStream → List Field
 streamByte m = field 1 (bit (m .main .present)) ∷ field 7 (m .«this_stream_id») ∷ []

@@ -8,7 +8,7 @@ ghost use lib.Seq.{sets};
 ghost use Rattle.wire.specs.Prog.{run, many, span};
 ghost use Rattle.wire.specs.Reads.{shortOf, mapOut, endOf, isDone, rowsOf, endsOut};
 ghost use Rattle.frame.specs.Entry.{onto, judging, sight, Seen, Fills};
-ghost use Rattle.multi_stream.specs.Rows.{row, counted, top};
+ghost use Rattle.multi_stream.specs.Rows.{groupColumns, row, counted, top};
 ghost use Rattle.multi_stream.specs.Read.{group, main, parse};
 ghost use Rattle.multi_stream.specs.Write.{kind};
 ghost use Rattle.multi_stream.specs.Contract.{groupOut, headed, mainOut, parsedOut, judged};
@@ -116,7 +116,7 @@ fn measure_groups(body: &[u8], at: usize, count: usize) -> Ends
 
 // Stores `count` groups, which are known to be there, as the first rows of table 8.
 fn fill_groups(body: &[u8], at: usize, count: usize, groups: &mut [u16])
-    requires { ⌜ (at ≤ length (now body)) × (isDone (run (many count group) (now body) at) ≡ true) × (5 * count ≤ length (now groups)) ⌝ }
+    requires { ⌜ (at ≤ length (now body)) × (isDone (run (many count group) (now body) at) ≡ true) × (groupColumns * count ≤ length (now groups)) ⌝ }
     ensures { λ r. ⌜ now (groups .exit) ≡ sets (now (groups .entry)) 0 (flatMap row (rowsOf (run (many count group) (now (body .entry)) at))) ⌝ }
 {
     let mut pos = at;
@@ -205,7 +205,7 @@ pub fn judge(body: &[u8]) -> Judged
 
 // Fills table 8 from a body that was judged: the groups begin behind the third byte.
 pub fn fill(body: &[u8], m: MpegH3dAudioMultiStream, groups: &mut [u16])
-    requires { ⌜ Seen kind (now body) m × (m .main .part .groups ≤ length (now groups) / 5) ⌝ }
+    requires { ⌜ Seen kind (now body) m × (m .main .part .groups ≤ length (now groups) / groupColumns) ⌝ }
     ensures { λ r. ⌜ Fills kind (now (body .entry)) (now (groups .entry) ∷ []) (now (groups .exit) ∷ []) ⌝ }
 {
     let main = m.main;

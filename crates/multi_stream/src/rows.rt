@@ -4,7 +4,7 @@ ghost use Prim.Native.Nat.{_+_, _≤_};
 ghost use lib.ListN.{length};
 ghost use Rattle.wire.specs.Bits.{bit};
 ghost use Rattle.wire.specs.Prog.{span};
-ghost use Rattle.multi_stream.specs.Rows.{absentAuxiliary, presentAuxiliary, inMain, inAuxiliary, row, groupOf, absentMain, presentMain};
+ghost use Rattle.multi_stream.specs.Rows.{absentAuxiliary, presentAuxiliary, inMain, inAuxiliary, groupColumns, row, groupOf, absentMain, presentMain};
 use wire::bits::flag;
 use wire::bits::ones;
 use wire::bits::wide;
@@ -80,17 +80,17 @@ impl MultiStreamGroup {
     }
 
     // A group that an auxiliary stream carries.
-    pub fn in_auxiliary_stream(group_id: GroupId, location: AuxiliaryLocation) -> Self
-        ensures { λ r. ⌜ r ≡ inAuxiliary «group_id» location ⌝ }
+    pub fn in_auxiliary_stream(group_id: GroupId, auxiliary: AuxiliaryLocation) -> Self
+        ensures { λ r. ⌜ r ≡ inAuxiliary «group_id» auxiliary ⌝ }
     {
         Self {
             group_id,
             is_in_main_stream: 0,
-            auxiliary: Auxiliary::at(location),
+            auxiliary: Auxiliary::at(auxiliary),
         }
     }
 
-    pub fn columns(self) -> [u16; 5]
+    pub fn columns(self) -> [u16; GROUP_COLUMNS]
         ensures { λ r. ⌜ r ≡ row self ⌝ }
     {
         [
@@ -104,7 +104,7 @@ impl MultiStreamGroup {
 
     // The row whose first column is `at`.
     pub fn of_columns(table: &[u16], at: usize) -> Self
-        requires { ⌜ at + 5 ≤ length (now table) ⌝ }
+        requires { ⌜ at + groupColumns ≤ length (now table) ⌝ }
         ensures { λ r. ⌜ r ≡ groupOf (now (table .entry)) at ⌝ }
     {
         Self {

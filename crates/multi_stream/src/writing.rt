@@ -9,6 +9,7 @@ ghost use Rattle.wire.specs.Act.{rows};
 ghost use Rattle.wire.specs.Pen.{reach, Checked, Ready, Filled};
 ghost use Rattle.wire.specs.declared.pen.Pen.the-variants.{At};
 ghost use Rattle.frame.specs.Entry.{whole};
+ghost use Rattle.multi_stream.specs.Rows.{groupColumns};
 ghost use Rattle.multi_stream.specs.Write.{flags, locationFlag, placedOnce, auxiliaryActs, groupActs, rowActs, inside, streamByte, auxByte, groupsByte, mainActs, acts, kind};
 use super::rows::Auxiliary;
 use super::rows::GROUP_COLUMNS;
@@ -79,7 +80,7 @@ fn check_group(n: usize, g: MultiStreamGroup) -> Pen
 
 // The rows of table 8 from the first; the first fault ends it.
 fn check_groups(n: usize, groups: &[u16], count: usize) -> Pen
-    requires { ⌜ (count * 5 ≤ length (now groups)) × (count < 2 ^ 16) × (n < 2 ^ 16) ⌝ }
+    requires { ⌜ (count * groupColumns ≤ length (now groups)) × (count < 2 ^ 16) × (n < 2 ^ 16) ⌝ }
     ensures { λ r. ⌜ Checked (rows (rowActs (now (groups .entry))) 0 count) (2 * count) (At n) r ⌝ }
 {
     let mut at = n;
@@ -179,7 +180,7 @@ fn fill_group(g: MultiStreamGroup, out: &mut [u8], n: usize) -> usize
 
 // The rows of table 8, from the first.
 fn fill_groups(groups: &[u16], count: usize, out: &mut [u8], n: usize) -> usize
-    requires { ⌜ (count * 5 ≤ length (now groups)) × (count < 2 ^ 16) × Ready (rows (rowActs (now groups)) 0 count) n (now out) ⌝ }
+    requires { ⌜ (count * groupColumns ≤ length (now groups)) × (count < 2 ^ 16) × Ready (rows (rowActs (now groups)) 0 count) n (now out) ⌝ }
     ensures { λ r. ⌜ Filled (rows (rowActs (now (groups .entry))) 0 count) n (now (out .entry)) r (now (out .exit)) ⌝ }
 {
     let mut at = n;

@@ -1,7 +1,7 @@
 -- `multi_stream::parsing::fill_groups` meets its contract: what is still to store from here is what was to store from the start.
 use mathlib.Core.Path.{refl, ap}
 use Rattle.wire.proofs.Loops.{Filling, fill-next, fill-end, no-cut}
-use Rattle.multi_stream.specs.Rows.{row}
+use Rattle.multi_stream.specs.Rows.{groupColumns, row}
 use Rattle.multi_stream.specs.Read.{group}
 use Rattle.multi_stream.specs.Contract.{groupOut}
 use borrow.Author.Needs.{needs}
@@ -9,7 +9,7 @@ use Rattle.multi_stream.proofs.parsing.fill_groups.Statement.{statement
 use Rattle.multi_stream.proofs.parsing.fill_groups.Tie as tie
 
 abbrev Inv-loop : tie.InvT-loop
-Inv-loop body at count groups₀ pos₀ left₀ to₀ groups pos left to = Filling group row 5 body at count groups₀ 0 groups pos left to
+Inv-loop body at count groups₀ pos₀ left₀ to₀ groups pos left to = Filling group row groupColumns body at count groups₀ 0 groups pos left to
 
 abbrev μ-loop : tie.MeasureT-loop
 μ-loop body at count groups₀ pos₀ left₀ to₀ groups pos left to = left
@@ -55,14 +55,14 @@ loop-less c = search needs
 
 loop-again : tie.Need-loop-again Inv-loop μ-loop
 loop-again c =
-    fill-next group row 5 _ _ _ _ 0 _ _ _ _ (c .before .before .before .before .before .before .before .before .before .before .before .loop .inv) (c .before .before .before .before .before .before .before .before .before .before .loop-test .taken) (c .before .before .before .before .before .before .before .before .before .group-at .ensures) (ap groupOut (c .before .before .before .before .before .before .before .a .given .1)) refl (c .before .before .before .before .before .columns .ensures) (c .before .before .put-row .ensures)
+    fill-next group row groupColumns _ _ _ _ 0 _ _ _ _ (c .before .before .before .before .before .before .before .before .before .before .before .loop .inv) (c .before .before .before .before .before .before .before .before .before .before .loop-test .taken) (c .before .before .before .before .before .before .before .before .before .group-at .ensures) (ap groupOut (c .before .before .before .before .before .before .before .a .given .1)) refl (c .before .before .before .before .before .columns .ensures) (c .before .before .put-row .ensures)
 
 same-length-2 : tie.Need-same-length-2 Inv-loop μ-loop
 same-length-2 c = search needs
 
 returns-2 : tie.Need-returns-2 Inv-loop μ-loop
 returns-2 c =
-    fill-end group row 5 _ _ _ _ 0 _ _ _ _ (c .before .loop .inv) (c .loop-test .left) .1
+    fill-end group row groupColumns _ _ _ _ 0 _ _ _ _ (c .before .loop .inv) (c .loop-test .left) .1
 
 pub fill-groups-spec : {M : Type 1} → statement M
 fill-groups-spec =
