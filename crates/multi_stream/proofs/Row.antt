@@ -1,5 +1,5 @@
--- A row of table 8: its actions are those of its format, what is read of it is written without a fault, and its columns fit.
-use Prim.Native.Nat.{ℕ, _+_, _≤_, _<_}
+-- A row of table 8: its actions are those of its format, one without a fault is seen at once, what is read of it is written without a fault, and its columns fit.
+use Prim.Native.Nat.{ℕ, suc, _+_, _*_, _≤_, _<_}
 use mathlib.Core.List.{List, [], _∷_}
 use mathlib.Core.Bool.{Bool, true, false, not}
 use mathlib.Core.Option.{none, some}
@@ -7,12 +7,13 @@ use mathlib.Core.Path.{_≡_, refl, sym, ap, subst, _∙_}
 use native.Mathlib.Omega.{arith}
 use lib.ListN.{length, length-append}
 use lib.Dec.{leb, eqb}
-use borrow.Author.Tests.{leb-true, le-leb, eqb-true, eqb-false, eq-eqb, ne-eqb, not-true, not-false}
+use borrow.Author.Tests.{lt-ltb, leb-true, le-leb, eqb-true, eqb-false, eq-eqb, ne-eqb, not-true, not-false}
 use Rattle.wire.specs.Lists.{Every, all-nil, all-cons, Column}
 use Rattle.wire.specs.Bits.{part, field, fit}
 use Rattle.wire.specs.Prog.{u8}
 use Rattle.wire.specs.Act.{Act, byte, when, pick}
-use Rattle.wire.specs.Pen.{clean, bytes}
+use Rattle.wire.specs.Pen.{Quick, clean, bytes}
+use Rattle.wire.proofs.Passes.{quick-clean}
 use Rattle.wire.proofs.Fields.{fits-cons}
 use Rattle.wire.proofs.Acts.{and-both, both-and}
 use Rattle.wire.proofs.Takes.{Takes, takes-split, takes-ret, map-takes, u8-takes}
@@ -76,6 +77,70 @@ row-spells g e =
       sound = ap clean (groups-acts (meant g)) ∙ both-and (s .fits) (ap clean (m .acts) ∙ s .rest);
       same = sym (ap bytes (groups-acts (meant g)) ∙ ap (λ (q : List Act). bytes (byte (groupByte g) ∷ q)) (m .acts));
     }
+
+-- ---- a row without a fault, seen at once
+
+-- isInMainStream and the location's flag as one number
+abbrev paired : MultiStreamGroup → ℕ
+paired g = g .auxiliary .present * 65536 + g .«is_in_main_stream»
+
+-- the group's byte, and what is behind it
+plain : (g : MultiStreamGroup) (q : List Act) (r : ℕ) → flags g ≡ true → placedOnce g ≡ true → fit (groupByte g) ≡ true → auxiliaryActs (g .auxiliary) ≡ q → clean q ≡ true → length (bytes q) ≡ r → suc r ≤ 2 → Quick (groupActs g) 2 (suc r)
+unfolding groupActs clean bytes
+plain g q r f o b a c l h =
+    quick-clean (groupActs g) 2 (both-and f (both-and o (both-and b (ap clean a ∙ c)))) (ap suc (ap (λ (q : List Act). length (bytes q)) a ∙ l)) (omega arith) h
+
+group-fits : (g : MultiStreamGroup) → g .«group_id» .0 < 128 → g .«is_in_main_stream» < 2 → fit (groupByte g) ≡ true
+unfolding fit
+group-fits g i m = both-and (lt-ltb _ _ i) (both-and (lt-ltb _ _ m) refl)
+
+flags-are : (g : MultiStreamGroup) → g .«is_in_main_stream» ≤ 1 → g .auxiliary .present ≤ 1 → locationFlag (g .auxiliary) ≡ true → flags g ≡ true
+flags-are g m p t = both-and (le-leb _ _ m) (both-and (le-leb _ _ p) t)
+
+pub plain-main : (g : MultiStreamGroup) → g .«group_id» .0 < 128 → g .«is_in_main_stream» < 65536 → paired g ≡ 1 → Quick (groupActs g) 2 1
+unfolding auxiliaryActs clean bytes
+plain-main g i c b =
+    let a = g .auxiliary in
+    let m : g .«is_in_main_stream» ≡ 1 = omega (arith, b, c) in
+    let p : a .present ≡ 0 = omega (arith, b, c) in
+    let e : eqb (a .present) 1 ≡ false = ne-eqb (a .present) 1 (λ z. omega (arith, p, z)) in
+    plain g [] 0 (flags-are g (omega (arith, m)) (omega (arith, p)) (ap (λ (b : Bool). pick b (leb (a .location .«is_in_ts») 1) true) e)) (ap not (ne-eqb (g .«is_in_main_stream») (a .present) (λ z. omega (arith, m, p, z))))
+    (group-fits g i (omega (arith, m))) (ap (λ (b : Bool). when b (byte (locationByte (a .location)) ∷ [])) e) refl refl (omega arith)
+
+pub plain-located : (g : MultiStreamGroup) → g .«group_id» .0 < 128 → g .«is_in_main_stream» < 65536 → paired g ≡ 65536 → fit (locationByte (g .auxiliary .location)) ≡ true → Quick (groupActs g) 2 2
+unfolding auxiliaryActs clean bytes
+plain-located g i c b f =
+    let a = g .auxiliary in
+    let m : g .«is_in_main_stream» ≡ 0 = omega (arith, b, c) in
+    let p : a .present ≡ 1 = omega (arith, b, c) in
+    let e : eqb (a .present) 1 ≡ true = eq-eqb (a .present) 1 p in
+    let t = fits-cons 1 (a .location .«is_in_ts») (field 7 (a .location .«auxiliary_stream_id») ∷ []) f .0 in
+    plain g (byte (locationByte (a .location)) ∷ []) 1 (flags-are g (omega (arith, m)) (omega (arith, p)) (ap (λ (b : Bool). pick b (leb (a .location .«is_in_ts») 1) true) e ∙ le-leb (a .location .«is_in_ts») 1 (omega (arith, t))))
+    (ap not (ne-eqb (g .«is_in_main_stream») (a .present) (λ z. omega (arith, m, p, z)))) (group-fits g i (omega (arith, m))) (ap (λ (b : Bool). when b (byte (locationByte (a .location)) ∷ [])) e) (both-and f refl) refl (omega arith)
+
+-- and no other row is
+
+pub odd-id : (g : MultiStreamGroup) → 128 ≤ g .«group_id» .0 → clean (groupActs g) ≡ true → ⊥
+odd-id g h e = omega (arith, h, fits-cons 7 (g .«group_id» .0) (field 1 (g .«is_in_main_stream») ∷ []) (sound g e .fits) .0)
+
+pub odd-flags : (g : MultiStreamGroup) → (paired g ≡ 1 → ⊥) → (paired g ≡ 65536 → ⊥) → clean (groupActs g) ≡ true → ⊥
+odd-flags g a b e =
+    let s = sound g e in
+    let m = s .main-flag in
+    let n : g .auxiliary .present ≡ 0 → ⊥ = λ p. let q : g .«is_in_main_stream» ≡ 1 = omega (arith, m, s .once, p) in a (omega (arith, q, p)) in
+    let p : g .auxiliary .present ≡ 1 = omega (arith, s .part-flag, n) in
+    let q : g .«is_in_main_stream» ≡ 0 = omega (arith, m, s .once, p) in
+    b (omega (arith, q, p))
+
+pub odd-location : (g : MultiStreamGroup) → g .«is_in_main_stream» < 65536 → paired g ≡ 65536 → fit (locationByte (g .auxiliary .location)) ≡ false → clean (groupActs g) ≡ true → ⊥
+unfolding auxiliaryActs clean
+odd-location g i b f e =
+    let p : g .auxiliary .present ≡ 1 = omega (arith, b, i) in
+    let c : clean (when true (byte (locationByte (g .auxiliary .location)) ∷ [])) ≡ true = subst (λ (b : Bool). clean (when b (byte (locationByte (g .auxiliary .location)) ∷ [])) ≡ true) (eq-eqb (g .auxiliary .present) 1 p) (sound g e .rest) in
+    let t = and-both (fit (locationByte (g .auxiliary .location))) true c .0 in
+    let w : true ≡ false = sym t ∙ f in
+    let z : _≡_ {A = ℕ} 0 1 = cc w in
+    omega arith
 
 -- ---- a row that was read
 

@@ -41,6 +41,10 @@ one-shifted n h = shl-exact 1 n 16 (omega arith) (omega arith) ∙ one-mul (2 ^ 
 pub join-exact : (h v w : ℕ) → h < 256 → w ≤ 8 → v < 2 ^ w → bitOr (h * 2 ^ w % 2 ^ 16) v ≡ h * 2 ^ w + v
 join-exact h v w hh hw hv = ap (λ (k : ℕ). bitOr k v) (shl-exact 8 w 16 hh (omega arith)) ∙ or-shifted h w v hv
 
+-- `(h << 16) | v` at 32 bits
+pub pair-exact : (h v : ℕ) → h < 2 ^ 16 → v < 2 ^ 16 → bitOr (h * 2 ^ 16 % 2 ^ 32) v ≡ h * 65536 + v
+pair-exact h v hh hv = ap (λ (k : ℕ). bitOr k v) (shl-exact 16 16 32 hh (omega arith)) ∙ or-shifted h 16 v hv
+
 -- ---- fields that fit
 
 pub fits-cons : (w v : ℕ) (fs : List Field) → fit (field w v ∷ fs) ≡ true → (v < 2 ^ w) × (fit fs ≡ true)

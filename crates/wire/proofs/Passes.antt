@@ -11,13 +11,13 @@ use lib.Seq.{sets, slice, length-slice, getD-drop, getD-take}
 use Rattle.wire.specs.Lists.{each}
 use Rattle.wire.specs.Bits.{Field, fit, join}
 use Rattle.wire.specs.Act.{Act, demand, byte, copy, pick, rows, Settled, fault, image, ahead, settle}
-use Rattle.wire.specs.Pen.{look, glance, looks, reach, Checked, CheckedRun, clean, bytes, Ready, Filled}
+use Rattle.wire.specs.Pen.{look, glance, looks, reach, Checked, CheckedRun, Quick, clean, bytes, Ready, Filled}
 use Rattle.wire.specs.declared.pen.Fault.{Fault}
 use Rattle.wire.specs.declared.pen.Fault.the-variants as F
 use Rattle.wire.specs.declared.pen.Pen.{Pen}
 use Rattle.wire.specs.declared.pen.Pen.the-variants.{At, Stop}
 use Rattle.wire.proofs.Steps.{sets-turn, sets-end, sets-append, front-stored}
-use Rattle.wire.proofs.Acts.{and-both, bytes-append, clean-both}
+use Rattle.wire.proofs.Acts.{and-both, bytes-append, clean-both, settles}
 
 -- ---- the check pass
 
@@ -249,6 +249,41 @@ told (byte fs ∷ q) n = by-fit (fit fs) refl (told q (n + 1))
     by-fit true i h = ahead-told n (join 0 fs ∷ []) q (settle q (n + 1)) _ h (byte fs ∷ q) refl (rw i)
     by-fit false i h = stuck q F.Field n
 told (copy v ∷ q) n = ahead-told n v q (settle q (n + length v)) _ (told q (n + length v)) (copy v ∷ q) refl refl
+
+-- actions without a fault are passed, byte by byte
+pub clean-looks : (q : List Act) (n : ℕ) → clean q ≡ true → looks q (At n) ≡ At (n + length (bytes q))
+clean-looks q n e = go (settle q n) (settles q n e) (told q n)
+  where
+    go : (x : Settled) → x ≡ image (bytes q) → Told n q x (looks q (At n)) → looks q (At n) ≡ At (n + length (bytes q))
+    go (fault f m) z t = absurd (let w : _≡_ {A = ℕ} 0 1 = cc in omega arith)
+    go (image b) z t = let w : b ≡ bytes q = cc z in t .0 ∙ ap (λ (l : List ℕ). At (n + length l)) w
+
+-- a quick test of them: there is no fault, or there is one
+pub quick-clean : (q : List Act) (k : ℕ) {r : ℕ} → clean q ≡ true → length (bytes q) ≡ r → 0 < r → r ≤ k → Quick q k r
+quick-clean q k e l p h = record {
+  to = λ p n. record { pens = ap (λ (m : ℕ). At (n + m)) (sym l) ∙ sym (clean-looks q n e); near = omega arith };
+  odd = λ z. absurd (omega (arith, p, z));
+}
+
+pub quick-odd : (q : List Act) (k : ℕ) → (clean q ≡ true → ⊥) → Quick q k 0
+quick-odd q k h = record { to = λ p n. absurd (omega (arith, p)); odd = λ z. go (clean q) h }
+  where
+    go : (b : Bool) → (b ≡ true → ⊥) → b ≡ false
+    go true h = absurd (h refl)
+    go false h = refl
+
+-- a fault stops the pen, and a loop with it
+faulty : (q : List Act) (n : ℕ) → clean q ≡ false → (f : Fault) × (m : ℕ) × (looks q (At n) ≡ Stop f m)
+faulty q n e = go (settle q n) refl (told q n)
+  where
+    go : (x : Settled) → settle q n ≡ x → Told n q x (looks q (At n)) → (f : Fault) × (m : ℕ) × (looks q (At n) ≡ Stop f m)
+    go (fault f m) z t = (f, m, t)
+    go (image b) z t = absurd (let w : true ≡ false = sym (t .2) ∙ e in let v : _≡_ {A = ℕ} 0 1 = cc w in omega arith)
+
+pub check-odd : (a rest : List Act) {all left : List Act} {k j n : ℕ} {p r : Pen} (k′ : ℕ) → Checking all left k p (At n) → left ≡ a ++ rest → clean a ≡ false → Checked a j (At n) r → k + j ≤ k′ → Checked all k′ p r
+check-odd a rest {n = n} k′ v e c w h =
+    let (f, m, s) = faulty a n c in
+    check-stop k′ (check-turn {rest = rest} k′ v e w h) (w .pens ∙ s) (omega arith)
 
 -- the check pass came to the end, at n
 pub record Image (q : List Act) (n : ℕ) : Type 0 where
