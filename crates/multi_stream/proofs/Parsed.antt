@@ -5,14 +5,14 @@ use mathlib.Core.List.{List}
 use mathlib.Core.Bool.{Bool, true, false}
 use mathlib.Core.Option.{Option, none, some}
 use native.Mathlib.Omega.{arith}
-use lib.ListN.{length}
+use lib.ListN.{length, getD}
 use lib.Dec.{eqb}
-use borrow.Author.Tests.{eq-eqb, ne-eqb}
+use borrow.Author.Tests.{eqb-true, eqb-false}
 use Rattle.wire.specs.Bits.{part}
 use Rattle.wire.specs.Prog.{Prog, ret, done, run, u8, many, _>>=_}
-use Rattle.wire.specs.Reads.{mapOut}
+use Rattle.wire.specs.Reads.{mapOut, isDone}
 use Rattle.wire.proofs.Runs.{run-split, run-ret, u8-done}
-use Rattle.wire.proofs.Walk.{From, onward, finished, ends}
+use Rattle.wire.proofs.Walk.{From, onward, finished, ends, byte-there, byte-next, run-ret as run-done}
 use Rattle.wire.proofs.Loops.{many-long}
 use Rattle.multi_stream.specs.declared.rows.MultiStreamGroup.{MultiStreamGroup}
 use Rattle.multi_stream.specs.Rows.{groupId, located, inMain, inAuxiliary, presentMain, Main, MultiStream, counted}
@@ -24,13 +24,43 @@ use Rattle.multi_stream.specs.Contract.{headed}
 abbrev pub afterByte : ℕ → Prog MultiStreamGroup
 afterByte e = auxiliary (eqb (part 0 1 e) 1) >>= λ a. ret (record { «group_id» = groupId (part 1 7 e); «is_in_main_stream» = part 0 1 e; auxiliary = a })
 
-pub in-main : (e : ℕ) → part 0 1 e ≡ 1 → afterByte e ≡ ret (inMain (groupId (part 1 7 e)))
+pub in-main : (e : ℕ) → eqb (part 0 1 e) 1 ≡ true → afterByte e ≡ ret (inMain (groupId (part 1 7 e)))
 unfolding auxiliary _>>=_
-in-main e h = rw (eq-eqb _ _ h, h) refl
+in-main e t = rw (t, eqb-true (part 0 1 e) 1 t) refl
 
-pub in-auxiliary : (e : ℕ) → (part 0 1 e ≡ 1 → ⊥) → afterByte e ≡ u8 >>= λ x. ret (inAuxiliary (groupId (part 1 7 e)) (located (part 7 1 x) (part 0 7 x)))
+pub in-auxiliary : (e : ℕ) → eqb (part 0 1 e) 1 ≡ false → afterByte e ≡ u8 >>= λ x. ret (inAuxiliary (groupId (part 1 7 e)) (located (part 7 1 x) (part 0 7 x)))
 unfolding auxiliary u8 _>>=_
-in-auxiliary e h = let z : part 0 1 e ≡ 0 = omega arith in rw (ne-eqb _ _ h, z) refl
+in-auxiliary e t = let h = eqb-false (part 0 1 e) 1 t in let z : part 0 1 e ≡ 0 = omega (arith, h) in rw (t, z) refl
+
+-- a group that is known to be there: its bytes, and the row that they give
+module _ (s : List ℕ) (at : ℕ) (q : isDone (run group s at) ≡ true) where
+  pub first-there : at < length s
+  unfolding group
+  first-there = byte-there afterByte s at q
+
+  module _ {e : ℕ} (w : e ≡ getD s at 0) where
+    after-first : run group s at ≡ run (afterByte e) s (at + 1)
+    unfolding group
+    after-first = byte-next afterByte s at first-there w
+
+    pub is-main : eqb (part 0 1 e) 1 ≡ true → done (inMain (groupId (part 1 7 e))) (at + 1) ≡ run group s at
+    is-main h = sym (after-first ∙ ap (λ (p : Prog MultiStreamGroup). run p s (at + 1)) (in-main e h) ∙ run-done _ s (at + 1))
+
+    module _ (h : eqb (part 0 1 e) 1 ≡ false) where
+      abbrev rest : ℕ → Prog MultiStreamGroup
+      rest x = ret (inAuxiliary (groupId (part 1 7 e)) (located (part 7 1 x) (part 0 7 x)))
+
+      after-flag : run group s at ≡ run (u8 >>= rest) s (at + 1)
+      after-flag = after-first ∙ ap (λ (p : Prog MultiStreamGroup). run p s (at + 1)) (in-auxiliary e h)
+
+      pub second-there : at + 1 < length s
+      second-there = byte-there rest s (at + 1) (ap isDone (sym after-flag) ∙ q)
+
+      pub is-auxiliary : {x : ℕ} → x ≡ getD s (at + 1) 0 → done (inAuxiliary (groupId (part 1 7 e)) (located (part 7 1 x) (part 0 7 x))) (at + 2) ≡ run group s at
+      is-auxiliary {x} v =
+          let g : MultiStreamGroup = inAuxiliary (groupId (part 1 7 e)) (located (part 7 1 x) (part 0 7 x)) in
+          let n : at + 1 + 1 ≡ at + 2 = omega arith in
+          sym (after-flag ∙ byte-next rest s (at + 1) second-there v ∙ run-done g s (at + 1 + 1) ∙ ap (done g) n)
 
 -- ---- the main part, after its two bytes
 

@@ -6,13 +6,10 @@ use Rattle.wire.specs.Prog.{Out, done, short}
 use Rattle.frame.specs.Numbers.{Answer, accepted, refused, refusal}
 use Rattle.frame.specs.Entry as E
 use Rattle.frame.specs.Entry.{Need, Sight}
-use Rattle.multi_stream.specs.declared.rows.MultiStreamGroup.{MultiStreamGroup}
 use Rattle.multi_stream.specs.declared.rows.MultiStreamMain.{MultiStreamMain}
 use Rattle.multi_stream.specs.declared.rows.MainStream.{MainStream}
 use Rattle.multi_stream.specs.declared.rows.MpegH3dAudioMultiStream.{MpegH3dAudioMultiStream}
 use Rattle.multi_stream.specs.Rows.{groupColumns}
-use Rattle.multi_stream.specs.declared.parsing.GroupAt.{GroupAt}
-use Rattle.multi_stream.specs.declared.parsing.GroupAt.the-variants as G
 use Rattle.multi_stream.specs.declared.parsing.MainAt.{MainAt}
 use Rattle.multi_stream.specs.declared.parsing.MainAt.the-variants as H
 use Rattle.multi_stream.specs.declared.parsing.Parsed.{Parsed}
@@ -24,10 +21,6 @@ use Rattle.multi_stream.specs.declared.Reading.{Reading}
 use Rattle.multi_stream.specs.declared.Reading.the-variants as R
 use Rattle.multi_stream.specs.declared.Measured.{Measured}
 use Rattle.multi_stream.specs.declared.Measured.the-variants as M
-
-abbrev pub groupOut : GroupAt → Out MultiStreamGroup
-groupOut (G.Got g n) = done g n
-groupOut (G.Short x) = short x
 
 -- the fields of the two bytes before the groups, which are only counted
 abbrev pub headed : ℕ → ℕ → MultiStreamMain

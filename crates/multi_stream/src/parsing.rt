@@ -5,13 +5,15 @@ ghost use mathlib.Core.List.{[], _∷_, flatMap};
 ghost use Prim.Native.Nat.{_*_, _<_, _≤_, _/_, _^_};
 ghost use lib.ListN.{length};
 ghost use lib.Seq.{sets};
-ghost use Rattle.wire.specs.Prog.{run, many, span};
+ghost use lib.Dec.{eqb};
+ghost use Rattle.wire.specs.Bits.{part};
+ghost use Rattle.wire.specs.Prog.{done, run, many, span};
 ghost use Rattle.wire.specs.Reads.{shortOf, mapOut, endOf, isDone, rowsOf, endsOut};
 ghost use Rattle.frame.specs.Entry.{onto, judging, sight, Seen, Fills};
 ghost use Rattle.multi_stream.specs.Rows.{groupColumns, row, counted, top};
 ghost use Rattle.multi_stream.specs.Read.{group, main, parse};
 ghost use Rattle.multi_stream.specs.Write.{kind};
-ghost use Rattle.multi_stream.specs.Contract.{groupOut, headed, mainOut, parsedOut, judged};
+ghost use Rattle.multi_stream.specs.Contract.{headed, mainOut, parsedOut, judged};
 use super::rows::AuxiliaryLocation;
 use super::rows::GROUP_COLUMNS;
 use super::rows::MainStream;
@@ -20,6 +22,7 @@ use super::rows::MultiStreamGroup;
 use super::rows::MultiStreamMain;
 use frame::Refusal;
 use wire::bits::part;
+use wire::bits::wide;
 use wire::ids::GroupId;
 use wire::reads::Byte;
 use wire::reads::Ends;
@@ -27,9 +30,10 @@ use wire::reads::Short;
 use wire::reads::byte_at;
 use wire::rows::put_row;
 
-pub enum GroupAt {
-    Got(MultiStreamGroup, usize),
-    Short(Short),
+// A group that is known to be there, and the next position.
+struct Placed {
+    group: MultiStreamGroup,
+    next: usize,
 }
 
 pub enum MainAt {
@@ -48,17 +52,6 @@ pub enum Judged {
     Refused(Refusal),
 }
 
-impl GroupAt {
-    fn short(self) -> Short
-        ensures { λ r. ⌜ r ≡ shortOf (groupOut self) ⌝ }
-    {
-        match self {
-            GroupAt::Got(_, _) => Short { need: 0 },
-            GroupAt::Short(s) => s,
-        }
-    }
-}
-
 impl MainAt {
     fn short(self) -> Short
         ensures { λ r. ⌜ r ≡ shortOf (mainOut self) ⌝ }
@@ -72,28 +65,30 @@ impl MainAt {
 
 // ---- the groups
 
-// One group: an auxiliary byte follows exactly if isInMainStream is 0.
-fn group_at(body: &[u8], at: usize) -> GroupAt
+// isInMainStream of a group's first byte: an auxiliary byte follows exactly if it is 0.
+fn in_main(e: u16) -> bool
+    ensures { λ r. ⌜ r ≡ eqb (part 0 1 e) 1 ⌝ }
+{
+    part(e, 0, 1) == 1
+}
+
+// Where a group ends.
+fn group_end(body: &[u8], at: usize) -> Ends
     requires { ⌜ at ≤ length (now body) ⌝ }
-    ensures { λ r. ⌜ groupOut r ≡ run group (now (body .entry)) at ⌝ }
+    ensures { λ r. ⌜ endsOut r ≡ endOf (run group (now (body .entry)) at) ⌝ }
 {
     let a = byte_at(body, at);
     let Byte::Got(e, n1) = a else {
-        return GroupAt::Short(a.short());
+        return Ends::Short(a.short());
     };
-    let id = GroupId(part(e, 1, 7));
-    if part(e, 0, 1) == 1 {
-        return GroupAt::Got(MultiStreamGroup::in_main_stream(id), n1);
+    if in_main(e) {
+        return Ends::At(n1);
     }
     let b = byte_at(body, n1);
-    let Byte::Got(x, next) = b else {
-        return GroupAt::Short(b.short());
+    let Byte::Got(_, next) = b else {
+        return Ends::Short(b.short());
     };
-    let location = AuxiliaryLocation {
-        is_in_ts: part(x, 7, 1),
-        auxiliary_stream_id: part(x, 0, 7),
-    };
-    GroupAt::Got(MultiStreamGroup::in_auxiliary_stream(id, location), next)
+    Ends::At(next)
 }
 
 // Where `count` groups end.
@@ -104,9 +99,9 @@ fn measure_groups(body: &[u8], at: usize, count: usize) -> Ends
     let mut pos = at;
     let mut left = count;
     while 0 < left {
-        let a = group_at(body, pos);
-        let GroupAt::Got(_, next) = a else {
-            return Ends::Short(a.short());
+        let a = group_end(body, pos);
+        let Ends::At(next) = a else {
+            return a;
         };
         pos = next;
         left -= 1;
@@ -114,7 +109,31 @@ fn measure_groups(body: &[u8], at: usize, count: usize) -> Ends
     Ends::At(pos)
 }
 
-// Stores `count` groups, which are known to be there, as the first rows of table 8.
+// A group that was measured: nothing is left to test.
+fn group_at(body: &[u8], at: usize) -> Placed
+    requires { ⌜ isDone (run group (now body) at) ≡ true ⌝ }
+    ensures { λ r. ⌜ done (r .group) (r .next) ≡ run group (now (body .entry)) at ⌝ }
+{
+    let e = wide(body[at]);
+    let id = GroupId(part(e, 1, 7));
+    if in_main(e) {
+        return Placed {
+            group: MultiStreamGroup::in_main_stream(id),
+            next: at + 1,
+        };
+    }
+    let x = wide(body[at + 1]);
+    let location = AuxiliaryLocation {
+        is_in_ts: part(x, 7, 1),
+        auxiliary_stream_id: part(x, 0, 7),
+    };
+    Placed {
+        group: MultiStreamGroup::in_auxiliary_stream(id, location),
+        next: at + 2,
+    }
+}
+
+// Stores `count` groups that were measured as the first rows of table 8.
 fn fill_groups(body: &[u8], at: usize, count: usize, groups: &mut [u16])
     requires { ⌜ (at ≤ length (now body)) × (isDone (run (many count group) (now body) at) ≡ true) × (groupColumns * count ≤ length (now groups)) ⌝ }
     ensures { λ r. ⌜ now (groups .exit) ≡ sets (now (groups .entry)) 0 (flatMap row (rowsOf (run (many count group) (now (body .entry)) at))) ⌝ }
@@ -123,13 +142,10 @@ fn fill_groups(body: &[u8], at: usize, count: usize, groups: &mut [u16])
     let mut left = count;
     let mut to = 0;
     while 0 < left {
-        let a = group_at(body, pos);
-        let GroupAt::Got(g, next) = a else {
-            return;
-        };
-        let row = g.columns();
+        let p = group_at(body, pos);
+        let row = p.group.columns();
         put_row(groups, to, &row);
-        pos = next;
+        pos = p.next;
         left -= 1;
         to += GROUP_COLUMNS;
     }

@@ -93,6 +93,14 @@ no-cut p s left pos {x} {o} h e d q =
     let z : _≡_ {A = ℕ} 0 1 = cc in
     absurd (omega arith)
 
+-- a list that is done: so is its first row
+pub first-done : {A : Type 0} (p : Prog A) (s : List ℕ) (left pos : ℕ) → 0 < left → isDone (run (many left p) s pos) ≡ true → isDone (run p s pos) ≡ true
+first-done {A} p s left pos h q = go (run p s pos) refl
+  where
+    go : (o : Out A) → run p s pos ≡ o → isDone (run p s pos) ≡ true
+    go (done a m) e = ap isDone e
+    go (short x) e = no-cut p s left pos h refl e q
+
 -- as many rows as were asked for
 pub many-long : {A : Type 0} (p : Prog A) (s : List ℕ) (k at : ℕ) (l : List A) (m : ℕ) → run (many k p) s at ≡ done l m → length l ≡ k
 unfolding many run

@@ -256,7 +256,7 @@ clean-looks q n e = go (settle q n) (settles q n e) (told q n)
   where
     go : (x : Settled) → x ≡ image (bytes q) → Told n q x (looks q (At n)) → looks q (At n) ≡ At (n + length (bytes q))
     go (fault f m) z t = absurd (let w : _≡_ {A = ℕ} 0 1 = cc in omega arith)
-    go (image b) z t = let w : b ≡ bytes q = cc z in t .0 ∙ ap (λ (l : List ℕ). At (n + length l)) w
+    go (image b) z t = let w : b ≡ bytes q = cc in t .0 ∙ ap (λ (l : List ℕ). At (n + length l)) w
 
 -- a quick test of them: there is no fault, or there is one
 pub quick-clean : (q : List Act) (k : ℕ) {r : ℕ} → clean q ≡ true → length (bytes q) ≡ r → 0 < r → r ≤ k → Quick q k r

@@ -1,12 +1,16 @@
 -- Walking a program a read at a time: where code stands in it, and what a read does to that.
-use Prim.Native.Nat.{ℕ, _≤_}
+use Prim.Native.Nat.{ℕ, _+_, _≤_, _<_}
 use mathlib.Core.Path.{_≡_, refl, ap, _∙_, sym}
 use mathlib.Core.List.{List}
+use mathlib.Core.Bool.{Bool, true, false}
 use native.Mathlib.Omega.{arith}
-use lib.ListN.{length}
+use lib.ListN.{length, getD}
+use lib.Dec.{leb}
+use borrow.Author.Tests.{leb-true, leb-false}
 use Rattle.wire.specs.declared.reads.Short.{Short}
-use Rattle.wire.specs.Prog.{Prog, ret, Out, done, short, run, _>>=_}
-use Rattle.wire.specs.Reads.{shortOf, mapOut}
+use Rattle.wire.specs.Prog.{Prog, ret, Out, done, short, needing, run, u8, _>>=_}
+use Rattle.wire.specs.Reads.{shortOf, mapOut, isDone}
+use Rattle.wire.proofs.Steps.{got, lacks}
 use Rattle.wire.proofs.Runs.{andThen, run-bind, extent}
 
 never : {A X : Type 0} {x : Short} {n : ℕ} {a : A} → short x ≡ done a n → X
@@ -69,3 +73,17 @@ as-short g (short y) {x} e = let z : y ≡ x = cc e in ap short z
 pub cut-off-as : {A B C : Type 0} (p : Prog A) (g : A → C) {whole : Prog B} {s : List ℕ} {start at : ℕ} (f : A → Prog B) → From whole s start (p >>= f) at
     → {o : Out C} {x y : Short} → o ≡ mapOut g (run p s at) → o ≡ short x → y ≡ shortOf o → short y ≡ run whole s start
 cut-off-as p g {s = s} {at = at} f w {o} {x} e d h = cut-off p f w refl (as-short g (run p s at) (sym e ∙ d)) (h ∙ ap shortOf d ∙ sym (ap shortOf (as-short g (run p s at) (sym e ∙ d))))
+
+-- ---- a program that is known to be done: its next byte is there, and is read without a test
+
+pub byte-there : {B : Type 0} (f : ℕ → Prog B) (s : List ℕ) (at : ℕ) → isDone (run (u8 >>= f) s at) ≡ true → at < length s
+byte-there f s at q = go (leb (length s) at) refl
+  where
+    go : (b : Bool) → leb (length s) at ≡ b → at < length s
+    go true e =
+        let w : false ≡ true = sym (ap isDone (halt u8 f s at {y = needing (at + 1)} refl (lacks s at (leb-true _ _ e)) (sym (ap shortOf (lacks s at (leb-true _ _ e)))))) ∙ q in
+        absurd (let z : _≡_ {A = ℕ} 0 1 = cc w in omega arith)
+    go false e = leb-false _ _ e
+
+pub byte-next : {B : Type 0} (f : ℕ → Prog B) (s : List ℕ) (at : ℕ) {v : ℕ} → at < length s → v ≡ getD s at 0 → run (u8 >>= f) s at ≡ run (f v) s (at + 1)
+byte-next f s at h e = step u8 f s at refl (got s at h e)

@@ -1,9 +1,8 @@
 -- `multi_stream::parsing::fill_groups` meets its contract: what is still to store from here is what was to store from the start.
-use mathlib.Core.Path.{refl, ap}
-use Rattle.wire.proofs.Loops.{Filling, fill-next, fill-end, no-cut}
+use mathlib.Core.Path.{refl}
+use Rattle.wire.proofs.Loops.{Filling, fill-next, fill-end, first-done}
 use Rattle.multi_stream.specs.Rows.{groupColumns, row}
 use Rattle.multi_stream.specs.Read.{group}
-use Rattle.multi_stream.specs.Contract.{groupOut}
 use borrow.Author.Needs.{needs}
 use Rattle.multi_stream.proofs.parsing.fill_groups.Statement.{statement}
 use Rattle.multi_stream.proofs.parsing.fill_groups.Tie as tie
@@ -20,20 +19,7 @@ loop-holds c =
 
 group-at-requires : tie.Need-group-at-requires Inv-loop μ-loop
 group-at-requires c κs =
-    c .before .loop .inv .inside
-
-enum-known-a : tie.Need-enum-known-a Inv-loop μ-loop
-enum-known-a c = search needs
-
-enum-told : tie.Need-enum-told Inv-loop μ-loop
-enum-told c = search needs
-
-same-length : tie.Need-same-length Inv-loop μ-loop
-same-length c = search needs
-
-returns : tie.Need-returns Inv-loop μ-loop
-returns c =
-    no-cut group _ _ _ (c .before .before .before .loop-test .taken) (c .before .before .group-at .ensures) (ap groupOut (c .enum-told .given .1)) (c .before .before .before .before .loop .inv .sound)
+    first-done group _ _ _ (c .loop-test .taken) (c .before .loop .inv .sound)
 
 columns-requires : tie.Need-columns-requires Inv-loop μ-loop
 columns-requires c κs = search needs
@@ -55,13 +41,13 @@ loop-less c = search needs
 
 loop-again : tie.Need-loop-again Inv-loop μ-loop
 loop-again c =
-    fill-next group row groupColumns _ _ _ _ 0 _ _ _ _ (c .before .before .before .before .before .before .before .before .before .before .before .loop .inv) (c .before .before .before .before .before .before .before .before .before .before .loop-test .taken) (c .before .before .before .before .before .before .before .before .before .group-at .ensures) (ap groupOut (c .before .before .before .before .before .before .before .a .given .1)) refl (c .before .before .before .before .before .columns .ensures) (c .before .before .put-row .ensures)
+    fill-next group row groupColumns _ _ _ _ 0 _ _ _ _ (c .before .before .before .before .before .before .before .before .loop .inv) (c .before .before .before .before .before .before .before .loop-test .taken) (c .before .before .before .before .before .before .group-at .ensures) refl refl (c .before .before .before .before .before .columns .ensures) (c .before .before .put-row .ensures)
 
-same-length-2 : tie.Need-same-length-2 Inv-loop μ-loop
-same-length-2 c = search needs
+same-length : tie.Need-same-length Inv-loop μ-loop
+same-length c = search needs
 
-returns-2 : tie.Need-returns-2 Inv-loop μ-loop
-returns-2 c =
+returns : tie.Need-returns Inv-loop μ-loop
+returns c =
     fill-end group row groupColumns _ _ _ _ 0 _ _ _ _ (c .before .loop .inv) (c .loop-test .left) .1
 
 pub fill-groups-spec : {M : Type 1} → statement M
@@ -72,10 +58,6 @@ fill-groups-spec =
     μ-loop
     loop-holds
     group-at-requires
-    enum-known-a
-    enum-told
-    same-length
-    returns
     columns-requires
     slice-aggregate-put-row
     put-row-requires
@@ -83,5 +65,5 @@ fill-groups-spec =
     add-to
     loop-less
     loop-again
-    same-length-2
-    returns-2)
+    same-length
+    returns)

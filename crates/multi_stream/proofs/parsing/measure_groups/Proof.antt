@@ -1,8 +1,9 @@
 -- `multi_stream::parsing::measure_groups` meets its contract: the end from here is the end from the start.
-use mathlib.Core.Path.{refl, ap}
+use mathlib.Core.Path.{refl, ap, sym, _∙_}
+use Rattle.wire.specs.Reads.{shortOf, endsOut}
+use Rattle.wire.proofs.Walk.{as-done, as-short}
 use Rattle.wire.proofs.Loops.{Measuring, measure-turn, measure-cut, measure-end}
 use Rattle.multi_stream.specs.Read.{group}
-use Rattle.multi_stream.specs.Contract.{groupOut}
 use borrow.Author.Needs.{needs}
 use Rattle.multi_stream.proofs.parsing.measure_groups.Statement.{statement}
 use Rattle.multi_stream.proofs.parsing.measure_groups.Tie as tie
@@ -17,8 +18,8 @@ loop-holds : tie.Need-loop-holds Inv-loop μ-loop
 loop-holds c =
     record { inside = c .before .pre; same = refl }
 
-group-at-requires : tie.Need-group-at-requires Inv-loop μ-loop
-group-at-requires c κs =
+group-end-requires : tie.Need-group-end-requires Inv-loop μ-loop
+group-end-requires c κs =
     c .before .loop .inv .inside
 
 enum-known-a : tie.Need-enum-known-a Inv-loop μ-loop
@@ -27,12 +28,10 @@ enum-known-a c = search needs
 enum-told : tie.Need-enum-told Inv-loop μ-loop
 enum-told c = search needs
 
-short-requires : tie.Need-short-requires Inv-loop μ-loop
-short-requires c κs = search needs
-
 returns : tie.Need-returns Inv-loop μ-loop
 returns c =
-    measure-cut group _ _ _ _ _ (c .before .before .before .before .before .loop .inv) (c .before .before .before .before .loop-test .taken) (c .before .before .before .group-at .ensures) (ap groupOut (c .before .enum-told .given .1)) (c .short .ensures)
+    let q = as-short (λ g. tt) _ (sym (c .before .before .group-end .ensures) ∙ ap endsOut (c .enum-told .given .1)) in
+    ap endsOut (c .enum-told .given .1) ∙ measure-cut group _ _ _ _ _ (c .before .before .before .before .loop .inv) (c .before .before .before .loop-test .taken) refl q (sym (ap shortOf q))
 
 sub-left : tie.Need-sub-left Inv-loop μ-loop
 sub-left c = search needs
@@ -42,7 +41,8 @@ loop-less c = search needs
 
 loop-again : tie.Need-loop-again Inv-loop μ-loop
 loop-again c =
-    measure-turn group _ _ _ _ _ (c .before .before .before .before .before .loop .inv) (c .before .before .before .before .loop-test .taken) (c .before .before .before .group-at .ensures) (ap groupOut (c .before .a .given .1))
+    let (g, e, q) = as-done (λ g. tt) _ (sym (c .before .before .before .group-end .ensures) ∙ ap endsOut (c .before .a .given .1)) in
+    measure-turn group _ _ _ _ _ (c .before .before .before .before .before .loop .inv) (c .before .before .before .before .loop-test .taken) refl e
 
 returns-2 : tie.Need-returns-2 Inv-loop μ-loop
 returns-2 c =
@@ -55,10 +55,9 @@ measure-groups-spec =
     Inv-loop
     μ-loop
     loop-holds
-    group-at-requires
+    group-end-requires
     enum-known-a
     enum-told
-    short-requires
     returns
     sub-left
     loop-less
