@@ -16,7 +16,8 @@ use Rattle.wire.proofs.Passes.{imaged, stopped-at, filled-front}
 use Rattle.frame.specs.declared.Written.the-variants as W
 use Rattle.frame.specs.Numbers.{Numbered, Answer, accepted, refused, written}
 use Rattle.frame.specs.Kind.{Kind, Lent}
-use Rattle.frame.specs.Entry.{too-long, no-room, onto, ran, Sound, Need, Sight, needs, lacking, filled, tail, judging, sizes, sight, Seen, Fills, measuring, tallying, put, puts, whole, writing, Reads, Measures, Tallies, Writes}
+use Rattle.frame.specs.Entry.{too-long, no-room, onto, ran, Sound, Need, needs, lacking, filled, tail, judging, sizes, measuring, tallying, put, puts, whole, writing, Reads, Measures, Tallies, Writes}
+use Rattle.frame.specs.Sight.{Sight, sight, Seen, Fills}
 use Rattle.frame.proofs.Judged.{judged, ran-well, reads-so, lacks-so, refused-so, onto-sound, onto-refused, refused-onto}
 use Rattle.frame.proofs.More.{judge-long, end-within}
 use Rattle.frame.proofs.Output.{put-done, put-short, put-long}

@@ -13,7 +13,8 @@ use Rattle.wire.specs.Reads.{isDone, rowsOf}
 use Rattle.wire.proofs.Tables.{rows-stored}
 use Rattle.frame.specs.Numbers.{accepted}
 use Rattle.frame.specs.Kind.{Lent}
-use Rattle.frame.specs.Entry.{Sound, needs, first, others, room, lacking, filled, sizes, sight, Seen, Fills}
+use Rattle.frame.specs.Entry.{Sound, needs, first, others, room, lacking, filled, sizes}
+use Rattle.frame.specs.Sight.{sight, Seen, Fills}
 use Rattle.frame.proofs.Judged.{ran-well}
 use Rattle.multi_stream.specs.declared.rows.MultiStreamGroup.{MultiStreamGroup}
 use Rattle.multi_stream.specs.declared.rows.MainStream.{MainStream}

@@ -5,7 +5,8 @@ use Rattle.wire.specs.Bits.{part}
 use Rattle.wire.specs.Prog.{Out, done, short}
 use Rattle.frame.specs.Numbers.{Answer, accepted, refused, refusal}
 use Rattle.frame.specs.Entry as E
-use Rattle.frame.specs.Entry.{Need, Sight}
+use Rattle.frame.specs.Entry.{Need}
+use Rattle.frame.specs.Sight.{Sight}
 use Rattle.multi_stream.specs.declared.rows.MultiStreamMain.{MultiStreamMain}
 use Rattle.multi_stream.specs.declared.rows.MainStream.{MainStream}
 use Rattle.multi_stream.specs.declared.rows.MpegH3dAudioMultiStream.{MpegH3dAudioMultiStream}

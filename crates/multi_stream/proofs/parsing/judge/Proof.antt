@@ -4,7 +4,7 @@ use mathlib.Core.Path.{ap, sym, _∙_}
 use Rattle.wire.specs.Prog.{span}
 use Rattle.wire.proofs.Walk.{as-done, as-short}
 use Rattle.frame.specs.Numbers.{Answer, accepted}
-use Rattle.frame.specs.Entry.{Sight}
+use Rattle.frame.specs.Sight.{Sight}
 use Rattle.frame.proofs.Entries.{judges-long, judges, sights, sights-refused}
 use Rattle.multi_stream.specs.declared.rows.MpegH3dAudioMultiStream.{MpegH3dAudioMultiStream}
 use Rattle.multi_stream.specs.Rows.{top}
