@@ -27,7 +27,6 @@ module _ {Tree Top Value : Type 0} (K : Kind Tree Top Value) where
   -- what is known of a tree that was read: bs is what the program takes, its payloads stand in the body, and the actions of its meaning meet no fault
   pub record Taken (format : Codec Tree Value) (t : Tree) (bs rest : List ℕ) : Type 0 where
     pub takes : Takes (K .program) 0 t bs
-    pub small : Every Byte bs
     pub inside : Every (Within (bs ++ rest)) (K .payloads t)
     pub fits : format .Fits (format .means (bs ++ rest) t)
     pub sound : clean (format .acts (format .means (bs ++ rest) t)) ≡ true

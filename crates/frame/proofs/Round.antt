@@ -131,7 +131,7 @@ module _ {Tree Top Value : Type 0} (K : Kind Tree Top Value) where
         rw (passes (bs ++ rest) t _ r) at (passed-within (K .program) (bs ++ rest) 0 r)
 
     taken : (t : Tree) (bs rest : List ℕ) → Takes (K .program) 0 t bs → Every Byte bs → Taken K (L .format) t bs rest
-    taken t bs rest d b = let w = wrote t bs rest d b in record { takes = d; small = b; inside = payloads-inside t bs rest d; fits = w .fits; sound = w .makes .sound }
+    taken t bs rest d b = let w = wrote t bs rest d b in record { takes = d; inside = payloads-inside t bs rest d; fits = w .fits; sound = w .makes .sound }
 
     rewritten : (t : Tree) (bs rest : List ℕ) (lent : Lent) → Takes (K .program) 0 t bs → Every Byte bs → lacking (needs (K .tables t)) lent ≡ none
         → Rewritten (top-of K t bs rest) (filled (K .tables t) lent) (bs ++ rest)

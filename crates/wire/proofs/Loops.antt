@@ -80,7 +80,7 @@ module _ {A : Type 0} (p : Prog A) (s : List ℕ) (left pos : ℕ) {m : ℕ} {a 
   unfolding flatMap
   fill-turn f t base q =
       sym
-      (ap (λ (l : List A). sets t base (flatMap f l)) (ap rowsOf (turn p s left pos h e d) ∙ rows-cons a (run (many (left - 1) p) s m) (done-turn ∙ q))
+      (ap (λ (l : List A). sets t base (flatMap f l)) (rows-turn q)
       ∙ sets-append t base (f a) (flatMap f (rowsOf (run (many (left - 1) p) s m))))
 
 -- a row is cut off: so is the list

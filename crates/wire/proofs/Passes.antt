@@ -78,23 +78,11 @@ onward {a} {b} {n} {r} {l} h s w =
     let g : n + length (bytes a ++ bytes b) ≤ length l = rw (bytes-append a b) at (h .room) in
     record { sound = clean-both a b (h .sound) .1; room = omega (arith, length-append (bytes a) (bytes b), w .place) }
 
--- the same, where the first part is one action
-pub head : {a : Act} {q : List Act} {n : ℕ} {l : List ℕ} → Ready (a ∷ q) n l → Ready (a ∷ []) n l
-head {a} {q} h = first (a ∷ []) q h
-
-pub rest : {a : Act} {q : List Act} {n r : ℕ} {l o : List ℕ}
-    → Ready (a ∷ q) n l → length o ≡ length l → Filled (a ∷ []) n l r o → Ready q r o
-rest h s w = onward h s w
-
 pub fill-none : (n : ℕ) (l : List ℕ) → Filled [] n l n l
 unfolding bytes
 fill-none n l = record { place = sym (add-zero n); holds = refl }
 
 -- a demand stores nothing, and is met
-pub skip : (f : Fault) (ok : Bool) {q : List Act} {n r : ℕ} {l o : List ℕ} → Filled q n l r o → Filled (demand f ok ∷ q) n l r o
-unfolding bytes
-skip f ok w = record { place = w .place; holds = w .holds }
-
 pub unskip : {f : Fault} {ok : Bool} {q : List Act} {n : ℕ} {l : List ℕ} → Ready (demand f ok ∷ q) n l → Ready q n l
 unfolding bytes clean
 unskip {ok = ok} {q} h = record { sound = and-both ok (clean q) (h .sound) .1; room = h .room }
