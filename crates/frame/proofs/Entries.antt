@@ -6,7 +6,8 @@ use mathlib.Core.Path.{_≡_, refl, sym, ap, subst, _∙_}
 use native.Mathlib.Omega.{arith}
 use lib.ListN.{length, drop}
 use borrow.Author.Tests.{le-leb}
-use Rattle.wire.specs.Prog.{Out, done, run, span}
+use Rattle.wire.specs.Prog.{Out, done, short, run, span}
+use Rattle.wire.specs.Reads.{mapOut}
 use Rattle.wire.specs.declared.rows.Payload.{Payload}
 use Rattle.wire.specs.Pen.{Checked, Filled, bytes}
 use Rattle.wire.specs.declared.pen.Pen.{Pen}
@@ -17,7 +18,7 @@ use Rattle.frame.specs.declared.Written.the-variants as W
 use Rattle.frame.specs.Numbers.{Numbered, Answer, accepted, refused, written}
 use Rattle.frame.specs.Kind.{Kind, Lent}
 use Rattle.frame.specs.Entry.{too-long, no-room, onto, ran, Sound, Need, needs, lacking, filled, tail, judging, sizes, measuring, tallying, put, puts, whole, writing, Reads, Measures, Tallies, Writes}
-use Rattle.frame.specs.Sight.{Sight, sight, Seen, Fills}
+use Rattle.frame.specs.Sight.{Sight, sight, Seen, Roomy, Fills}
 use Rattle.frame.proofs.Judged.{judged, ran-well, reads-so, lacks-so, refused-so, onto-sound, onto-refused, refused-onto}
 use Rattle.frame.proofs.More.{judge-long, end-within}
 use Rattle.frame.proofs.Output.{put-done, put-short, put-long}
@@ -87,6 +88,15 @@ module _ {Tree Top Value : Type 0} (K : Kind Tree Top Value) where
     promised = ap (onto (λ (v : Sight Top). f (v .top))) e ∙ then-onto (λ v. f (v .top)) (sight K) (judging K body) ∙ ap (λ (g : Sound Tree → ℕ). onto g (judging K body)) (λ i s. q (s .tree) i);
   }
 
+  -- a tally that was summed up along the body
+  pub tallies-summed : (body : List ℕ) {o : Out ℕ} → length body ≤ 65535 → o ≡ mapOut (K .zeros) (run (K .program) body 0) → Tallies K body (onto (λ s. s .tree) (ran o))
+  unfolding tallying onto
+  tallies-summed body h e = record { promised = ap (λ (o : Out ℕ). onto (λ (s : Sound ℕ). s .tree) (ran o)) e ∙ mapped (run (K .program) body 0) ∙ ap (onto (λ (s : Sound Tree). K .zeros (s .tree))) (judges body h refl) }
+    where
+      mapped : (o : Out Tree) → onto (λ (s : Sound ℕ). s .tree) (ran (mapOut (K .zeros) o)) ≡ onto (λ (s : Sound Tree). K .zeros (s .tree)) (ran o)
+      mapped (done t k) = refl
+      mapped (short x) = refl
+
   module _ (body : List ℕ) {v : Sight Top} (e : accepted v ≡ onto (sight K) (judging K body)) where
     the-sound : (s : Sound Tree) × (judging K body ≡ accepted s) × (sight K s ≡ v)
     the-sound = onto-sound K (sight K) body v (sym e)
@@ -98,6 +108,14 @@ module _ {Tree Top Value : Type 0} (K : Kind Tree Top Value) where
     pub within-seen : Within body (v .sizes .before)
     unfolding sight sizes
     within-seen = let (s, j, q) = the-sound in subst (λ (v : Sight Top). Within body (v .sizes .before)) q (within body (sym j))
+
+    pub roomy : (lent : Lent) → lacking (v .sizes .tables) lent ≡ none → Roomy K body lent
+    unfolding sight sizes
+    roomy lent f =
+        let (s, j, q) = the-sound in
+        record {
+          room = λ s′ j′. let z : accepted s ≡ accepted s′ = sym j ∙ j′ in let w : s ≡ s′ = cc z in ap (λ (s : Sound Tree). lacking (needs (K .tables (s .tree))) lent) (sym w) ∙ ap (λ (v : Sight Top). lacking (v .sizes .tables) lent) q ∙ f;
+        }
 
     pub reads-lacking : (lent : Lent) (n : Need) → lacking (v .sizes .tables) lent ≡ some n → Reads K body lent (no-room (n .number) (n .rows)) lent
     unfolding sight sizes

@@ -9,4 +9,5 @@ pub mod Loops
 pub mod Acts
 pub mod Passes
 pub mod Tables
+pub mod Nest
 pub mod Codec

@@ -12,6 +12,12 @@ pub struct Payload {
     pub length: u16,
 }
 
+// Rows of another table: the first, and how many.
+pub struct Range {
+    pub first: u16,
+    pub count: u16,
+}
+
 // Whether a payload stands in the store.
 pub fn in_store(p: Payload, store: &[u8]) -> bool
     ensures { λ r. ⌜ r ≡ leb (p .offset + p .length) (length (now (store .entry))) ⌝ }
@@ -36,6 +42,14 @@ pub fn has_rows(table: &[u16], columns: usize, rows: usize) -> bool
     ensures { λ r. ⌜ r ≡ leb rows (length (now (table .entry)) / columns) ⌝ }
 {
     rows * columns <= table.len()
+}
+
+// Whether the rows of a range stand in the table.
+pub fn in_table(r: Range, table: &[u16], columns: usize) -> bool
+    requires { ⌜ (0 < columns) × (columns < 2 ^ 16) ⌝ }
+    ensures { λ b. ⌜ b ≡ leb (r .first + r .count) (length (now (table .entry)) / columns) ⌝ }
+{
+    has_rows(table, columns, (r.first as usize) + (r.count as usize))
 }
 
 // Stores a row from the column `at` on; the other columns keep their content.

@@ -1,8 +1,8 @@
 -- `multi_stream::parsing::measure_groups` meets its contract: the end from here is the end from the start.
 use mathlib.Core.Path.{refl, ap, sym, _∙_}
-use Rattle.wire.specs.Reads.{shortOf, endsOut}
+use Rattle.wire.specs.Reads.{endsOut}
 use Rattle.wire.proofs.Walk.{as-done, as-short}
-use Rattle.wire.proofs.Loops.{Measuring, measure-turn, measure-cut, measure-end}
+use Rattle.wire.proofs.Loops.{Measuring, carry-turn, carry-cut, carry-end}
 use Rattle.multi_stream.specs.Read.{group}
 use borrow.Author.Needs.{needs}
 use Rattle.multi_stream.proofs.parsing.measure_groups.Statement.{statement}
@@ -31,7 +31,7 @@ enum-told c = search needs
 returns : tie.Need-returns Inv-loop μ-loop
 returns c =
     let q = as-short (λ g. tt) _ (sym (c .before .before .group-end .ensures) ∙ ap endsOut (c .enum-told .given .1)) in
-    ap endsOut (c .enum-told .given .1) ∙ measure-cut group _ _ _ _ _ (c .before .before .before .before .loop .inv) (c .before .before .before .loop-test .taken) refl q (sym (ap shortOf q))
+    ap endsOut (c .enum-told .given .1) ∙ carry-cut (c .before .before .before .before .loop .inv) (c .before .before .before .loop-test .taken) q
 
 sub-left : tie.Need-sub-left Inv-loop μ-loop
 sub-left c = search needs
@@ -42,11 +42,11 @@ loop-less c = search needs
 loop-again : tie.Need-loop-again Inv-loop μ-loop
 loop-again c =
     let (g, e, q) = as-done (λ g. tt) _ (sym (c .before .before .before .group-end .ensures) ∙ ap endsOut (c .before .a .given .1)) in
-    measure-turn group _ _ _ _ _ (c .before .before .before .before .before .loop .inv) (c .before .before .before .before .loop-test .taken) refl e
+    carry-turn (c .before .before .before .before .before .loop .inv) (c .before .before .before .before .loop-test .taken) e (λ l. refl)
 
 returns-2 : tie.Need-returns-2 Inv-loop μ-loop
 returns-2 c =
-    measure-end group _ _ _ _ _ (c .before .loop .inv) (c .loop-test .left)
+    carry-end (c .before .loop .inv) (c .loop-test .left)
 
 pub measure-groups-spec : {M : Type 1} → statement M
 measure-groups-spec =
