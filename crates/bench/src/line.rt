@@ -1,7 +1,7 @@
 // The four numbers that the bench program prints (document 01, "The bench program"), decided from its input: one kind byte, then the body.
 ghost use mathlib.Core.Path.{_≡_};
 ghost use Rattle.frame.specs.Numbers.{refusal, tallied};
-ghost use Rattle.bench.specs.Line.{lineOf, baseLine, multiStreamLine, talliedLine, refusedLine, tooLongLine};
+ghost use Rattle.bench.specs.Line.{lineOf, baseLine, textLabelLine, multiStreamLine, talliedLine, refusedLine, tooLongLine};
 use frame::Refusal;
 use frame::Tallied;
 
@@ -24,6 +24,9 @@ pub fn decide(input: &[u8]) -> Line
     if kind == 1 {
         return base_line(&input[1..]);
     }
+    if kind == 3 {
+        return text_label_line(&input[1..]);
+    }
     if kind == 4 {
         return multi_stream_line(&input[1..]);
     }
@@ -43,6 +46,20 @@ fn base_line(body: &[u8]) -> Line
     match m {
         base::Measured::Refused(r) => refusal_line(r),
         base::Measured::Done(s) => tallied_line(s.k, t),
+    }
+}
+
+fn text_label_line(body: &[u8]) -> Line
+    ensures { λ r. ⌜ r ≡ textLabelLine (now (body .entry)) ⌝ }
+{
+    if 4096 < body.len() {
+        return too_long();
+    }
+    let m = text_label::measure(body);
+    let t = text_label::tally(body);
+    match m {
+        text_label::Measured::Refused(r) => refusal_line(r),
+        text_label::Measured::Done(s) => tallied_line(s.k, t),
     }
 }
 

@@ -1,13 +1,17 @@
 -- The claim about the starred bodies, by computing the entry points' definitions on each.
-use mathlib.Core.List.{flatten}
+use mathlib.Core.List.{flatten, flatMap}
 use mathlib.Core.Path.{refl}
 use lib.Count.{ones, onesIn}
 use Rattle.wire.proofs.Lists.{every-each}
-use Rattle.wire.specs.Prog.{run, u8, pass, many, _>>=_}
+use Rattle.wire.specs.Lists.{sum, firsts}
+use Rattle.wire.specs.Prog.{run, u8, bytes, pass, many, _>>=_}
 use Rattle.frame.specs.Entry.{onto, into, needs, first, others, room, lacking, filled, judging, placing, reading, tallying}
 use Rattle.base.specs.Read as BaseRead
 use Rattle.base.specs.Tally as BaseTally
 use Rattle.base.specs.Write as Base
+use Rattle.text_label.specs.Rows as TextLabelRows
+use Rattle.text_label.specs.Read as TextLabelRead
+use Rattle.text_label.specs.Write as TextLabel
 use Rattle.multi_stream.specs.Rows as MultiStreamRows
 use Rattle.multi_stream.specs.Read as MultiStreamRead
 use Rattle.multi_stream.specs.Tally as MultiStreamTally
@@ -15,7 +19,7 @@ use Rattle.multi_stream.specs.Write as MultiStream
 use Rattle.starred.specs.Starred.{Holds, starred as stars, Starred}
 
 pub starred : Starred
-unfolding reading tallying onto into judging placing run u8 pass many _>>=_ needs first others room lacking filled flatten ones onesIn Base.kind BaseRead.parse BaseRead.fields BaseRead.sets BaseTally.tally MultiStream.kind MultiStreamRows.tables MultiStreamRead.parse MultiStreamRead.main MultiStreamRead.group MultiStreamRead.auxiliary MultiStreamTally.mainTally
+unfolding reading tallying onto into judging placing run u8 bytes pass many _>>=_ needs first others room lacking filled flatten flatMap sum firsts ones onesIn Base.kind BaseRead.parse BaseRead.fields BaseRead.sets BaseTally.tally TextLabel.kind TextLabelRows.tables TextLabelRows.languageAs TextLabelRead.parse TextLabelRead.language TextLabelRead.labels TextLabelRead.entry MultiStream.kind MultiStreamRows.tables MultiStreamRead.parse MultiStreamRead.main MultiStreamRead.group MultiStreamRead.auxiliary MultiStreamTally.mainTally
 starred = record {
   all = every-each Holds stars (
     record { reads = refl; tallies = refl },
@@ -25,7 +29,7 @@ starred = record {
         record { reads = refl; tallies = refl },
         (
           record { reads = refl; tallies = refl },
-          (record { reads = refl; tallies = refl }, tt),
+          (record { reads = refl; tallies = refl }, (record { reads = refl; tallies = refl }, tt)),
         ),
       ),
     ),

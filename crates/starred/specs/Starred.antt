@@ -2,6 +2,7 @@
 use Prim.Native.Nat.{ℕ}
 use mathlib.Core.List.{List, [], _∷_}
 use mathlib.Core.Path.{_≡_}
+use lib.ListN.{replicate}
 use Rattle.wire.specs.Lists.{Every}
 use Rattle.wire.specs.Prog.{needing}
 use Rattle.frame.specs.Numbers.{Answer, accepted}
@@ -10,14 +11,18 @@ use Rattle.frame.specs.Entry.{too-short, leaves, reading, tallying}
 use Rattle.base.specs.declared.rows.MpegH3dAudio.{MpegH3dAudio}
 use Rattle.base.specs.Bodies.{noSets, noneListed}
 use Rattle.base.specs.Write as Base
+use Rattle.text_label.specs.declared.rows.MpegH3dAudioTextLabel.{MpegH3dAudioTextLabel}
+use Rattle.text_label.specs.Bodies.{onePreset, english, preset2}
+use Rattle.text_label.specs.Write as TextLabel
 use Rattle.multi_stream.specs.declared.rows.MpegH3dAudioMultiStream.{MpegH3dAudioMultiStream}
 use Rattle.multi_stream.specs.Bodies.{twoGroups, twoRows}
 use Rattle.multi_stream.specs.Write as MultiStream
 
--- a body of each kind, with what is expected of it: the answers of reading and tallying, and a lent table before and after
+-- a body of each kind, with what is expected of it: the answers of reading and tallying, and the lent tables before and after
 pub data Star : Type 0 where
   base : List ℕ → Answer MpegH3dAudio → Answer ℕ → Star
-  multi-stream : List ℕ → List ℕ → Answer MpegH3dAudioMultiStream → List ℕ → Answer ℕ → Star
+  text-label : List ℕ → Lent → Answer MpegH3dAudioTextLabel → Lent → Answer ℕ → Star
+  multi-stream : List ℕ → Lent → Answer MpegH3dAudioMultiStream → Lent → Answer ℕ → Star
 
 -- the entry points answer so
 pub record Answers {Tree Top Value : Type 0} (K : Kind Tree Top Value) (body : List ℕ) (lent : Lent) (read : Answer Top) (after : Lent) (tally : Answer ℕ) : Type 0 where
@@ -26,11 +31,12 @@ pub record Answers {Tree Top Value : Type 0} (K : Kind Tree Top Value) (body : L
 
 abbrev pub Holds : Star → Type 0
 Holds (base body read tally) = Answers Base.kind body [] read [] tally
-Holds (multi-stream body groups read after tally) = Answers MultiStream.kind body (groups ∷ []) read (after ∷ []) tally
+Holds (text-label body lent read after tally) = Answers TextLabel.kind body lent read after tally
+Holds (multi-stream body lent read after tally) = Answers MultiStream.kind body lent read after tally
 
--- a table of two rows and a column, all 9
-abbrev pub nines : List ℕ
-nines = 9 ∷ 9 ∷ 9 ∷ 9 ∷ 9 ∷ 9 ∷ 9 ∷ 9 ∷ 9 ∷ 9 ∷ 9 ∷ []
+-- a table of so many columns, all 9: a column or more than the rows that are filled
+abbrev pub nines : ℕ → List ℕ
+nines n = replicate n 9
 
 abbrev pub starred : List Star
 starred =
@@ -38,7 +44,8 @@ starred =
     ∷ base (0x05 ∷ 0xC0 ∷ 0x3F ∷ []) (accepted noSets) (accepted 8)
     ∷ base (0x05 ∷ 0x80 ∷ 0x3F ∷ []) (too-short (needing 4)) (too-short (needing 4))
     ∷ base (0x05 ∷ 0xBF ∷ 0xC6 ∷ 0x00 ∷ []) (accepted noneListed) (accepted 0)
-    ∷ multi-stream (0x81 ∷ 0x80 ∷ 0x82 ∷ 0x07 ∷ 0x08 ∷ 0x85 ∷ []) nines (accepted twoGroups) (twoRows (9 ∷ [])) (accepted 0)
+    ∷ text-label (0x07 ∷ 0xF1 ∷ 0x65 ∷ 0x6E ∷ 0x67 ∷ 0x80 ∷ 0xE0 ∷ 0xE1 ∷ 0xE2 ∷ 0x02 ∷ 0x48 ∷ 0x69 ∷ []) (nines 13 ∷ nines 6 ∷ []) (accepted onePreset) (english (nines 1) ∷ preset2 (nines 2) ∷ []) (accepted 0)
+    ∷ multi-stream (0x81 ∷ 0x80 ∷ 0x82 ∷ 0x07 ∷ 0x08 ∷ 0x85 ∷ []) (nines 11 ∷ []) (accepted twoGroups) (twoRows (nines 1) ∷ []) (accepted 0)
     ∷ []
 
 -- the claim

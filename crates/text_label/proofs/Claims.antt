@@ -1,0 +1,239 @@
+-- What is claimed of the text label body: every claim of every kind (frame, specs/Claims), and the few that matter most spelled out for its record and tables 6 and 7.
+use Prim.Native.Nat.{ℕ, _+_, _*_, _/_, _≤_, _<_}
+use mathlib.Core.Path.{_≡_, refl, sym, ap, subst, _∙_}
+use mathlib.Core.List.{List, [], _∷_, _++_, map, flatten, flatMap}
+use mathlib.Core.Logic.{_↔_}
+use native.Mathlib.Omega.{arith}
+use native.Mathlib.Nat.{add-zero, zero-add}
+use lib.ListN.{length, getD, drop, length-append, length-map}
+use lib.Seq.{drop-append-seam}
+use lib.Dec.{lit<}
+use lib.Count.{ones, onesIn}
+use Rattle.wire.specs.Lists.{Every, each, sum, firsts, Byte}
+use Rattle.wire.proofs.Lists.{every-each}
+use Rattle.wire.specs.Prog.{run, u8, bytes, pass, many, _>>=_}
+use Rattle.wire.proofs.Tables.{laid-length}
+use Rattle.frame.specs.declared.Tallied.{Tallied}
+use Rattle.frame.specs.declared.Written.{Written}
+use Rattle.frame.specs.declared.Written.the-variants as W
+use Rattle.frame.specs.Kind.{Lent}
+use Rattle.frame.specs.Numbers.{accepted, refusal, tallied, written}
+use Rattle.frame.specs.Entry.{no-room, leaves, onto, into, Sizes, Need, needs, lacking, room, first, others, filled, judging, sizes, placing, reading, measuring, tallying, puts, trail, writing, Reads, Measures, Tallies, Writes}
+use Rattle.frame.specs.Claims.{Claims, Lowest, this, later}
+use Rattle.frame.proofs.Numbers.{refusal-once, tallied-once, written-once}
+use Rattle.frame.proofs.Judged.{not-refused, was, measured as was-measured}
+use Rattle.frame.proofs.Lawful.{Samples}
+use Rattle.frame.proofs.Proofs as P
+use Rattle.text_label.specs.declared.rows.TextLabelEntry.{TextLabelEntry}
+use Rattle.text_label.specs.declared.rows.TextLabelLanguage.{TextLabelLanguage}
+use Rattle.text_label.specs.declared.rows.MpegH3dAudioTextLabel.{MpegH3dAudioTextLabel}
+use Rattle.text_label.specs.declared.Sizes as Label
+use Rattle.text_label.specs.declared.Reading.{Reading}
+use Rattle.text_label.specs.declared.Reading.the-variants as R
+use Rattle.text_label.specs.declared.Measured.{Measured}
+use Rattle.text_label.specs.declared.Measured.the-variants as M
+use Rattle.text_label.specs.Rows.{entryColumns, entryRow, entryOf, languageColumns, languageRow, languageOf, Language, entriesOf, entriesIn, languageAs, languageRows, tables}
+use Rattle.text_label.specs.Read.{entry, labels, language, parse}
+use Rattle.text_label.specs.Bodies.{onePreset, english, preset2, noLanguages}
+use Rattle.text_label.specs.Write.{languageAt, value, kind}
+use Rattle.text_label.specs.Contract.{needed, sized, read, measured}
+use Rattle.text_label.proofs.Parsed.{entries-long}
+use Rattle.text_label.proofs.Found.{entry-found, language-found, rows-counted, languages-found}
+use Rattle.text_label.proofs.Laws.{lawful}
+
+samples : Samples kind
+unfolding reading into judging placing run measuring onto sizes tallying kind parse language labels entry many u8 bytes pass _>>=_ tables languageAs firsts flatMap sum ones onesIn needs lacking room first others filled flatten
+samples = record {
+  lent = (9 ∷ 9 ∷ 9 ∷ 9 ∷ 9 ∷ 9 ∷ 9 ∷ 9 ∷ 9 ∷ 9 ∷ 9 ∷ 9 ∷ 9 ∷ []) ∷ (9 ∷ 9 ∷ 9 ∷ 9 ∷ 9 ∷ []) ∷ [];
+  one = 0x07 ∷ 0xF1 ∷ 0x65 ∷ 0x6E ∷ 0x67 ∷ 0x80 ∷ 0xE0 ∷ 0xE1 ∷ 0xE2 ∷ 0x02 ∷ 0x48 ∷ 0x69 ∷ [];
+  other = 0x07 ∷ 0x00 ∷ [];
+  top = onePreset;
+  top′ = noLanguages;
+  after = english (9 ∷ []) ∷ preset2 (9 ∷ []) ∷ [];
+  after′ = (9 ∷ 9 ∷ 9 ∷ 9 ∷ 9 ∷ 9 ∷ 9 ∷ 9 ∷ 9 ∷ 9 ∷ 9 ∷ 9 ∷ 9 ∷ []) ∷ (9 ∷ 9 ∷ 9 ∷ 9 ∷ 9 ∷ []) ∷ [];
+  reads = refl;
+  reads′ = refl;
+  tops-differ = λ e. let z : _≡_ {A = ℕ} 1 0 = ap (λ (t : MpegH3dAudioTextLabel). t .languages) e in omega arith;
+  size = sized 1 1 12;
+  size′ = sized 0 0 2;
+  measures = refl;
+  measures′ = refl;
+  sizes-differ = λ e. let z : _≡_ {A = ℕ} 12 2 = ap (λ (s : Sizes). s .before) e in omega arith;
+  count = 0;
+  count′ = 4;
+  tallies = refl;
+  tallies′ = refl;
+  counts-differ = λ e. omega arith;
+  bytes = every-each Byte (0x07 ∷ 0xF1 ∷ 0x65 ∷ 0x6E ∷ 0x67 ∷ 0x80 ∷ 0xE0 ∷ 0xE1 ∷ 0xE2 ∷ 0x02 ∷ 0x48 ∷ 0x69 ∷ [])
+      (lit< tt, (lit< tt, (lit< tt, (lit< tt, (lit< tt, (lit< tt, (lit< tt, (lit< tt, (lit< tt, (lit< tt, (lit< tt, (lit< tt, tt))))))))))));
+  blank = 0 ∷ 0 ∷ 0 ∷ 0 ∷ 0 ∷ 0 ∷ 0 ∷ 0 ∷ 0 ∷ 0 ∷ 0 ∷ 0 ∷ [];
+  as-long = refl;
+  not-blank = λ e. let z : _≡_ {A = ℕ} 7 0 = ap (λ (l : List ℕ). getD l 0 0) e in omega arith;
+}
+
+pub claims : Claims kind
+claims = P.claims kind lawful samples
+
+-- ---- spelled out for this record and tables 6 and 7
+
+-- what is read writes back the same bytes, at the front of the output and nowhere else
+pub same-bytes : (body languages entries languages′ entries′ out : List ℕ) (m : MpegH3dAudioTextLabel) → Every Byte body → reading kind body (languages ∷ entries ∷ []) ≡ leaves (accepted m) (languages′ ∷ entries′ ∷ []) → length body ≤ length out
+    → writing kind m (languages′ ∷ entries′ ∷ []) body out ≡ puts (W.Done (length body)) (body ++ drop (length body) out)
+same-bytes body languages entries languages′ entries′ out m b e l = claims .round .writes-what-is-read body (languages ∷ entries ∷ []) m (languages′ ∷ entries′ ∷ []) out b e l
+
+-- two bodies that agree in the Rust's structs, labels by their bytes, and in the trailing bytes are one body
+pub one-body : (body body′ : List ℕ) (lent lent′ after after′ : Lent) (m m′ : MpegH3dAudioTextLabel) → Every Byte body → Every Byte body′
+    → reading kind body lent ≡ leaves (accepted m) after → reading kind body′ lent′ ≡ leaves (accepted m′) after′
+    → value m after body ≡ value m′ after′ body′ → trail kind m body ≡ trail kind m′ body′ → body ≡ body′
+unfolding kind
+one-body body body′ lent lent′ after after′ m m′ b b′ e e′ v t = claims .round .apart body body′ lent lent′ m m′ after after′ b b′ e e′ (λ i. record { value = v i; trailing = t i })
+
+-- 3 is given exactly if the body is otherwise accepted and a table has fewer rows than it needs; it names table 6 if that is short, else table 7, and the rows
+pub data Lacks (languages entries : List ℕ) (l n : ℕ) : ℕ → ℕ → Type 0 where
+  in-languages : length languages / languageColumns < l → Lacks languages entries l n 6 l
+  in-entries : l ≤ length languages / languageColumns → length entries / entryColumns < n → Lacks languages entries l n 7 n
+
+nothing : {ns : List Need} {lent : Lent} {t r : ℕ} → Lowest ns lent t r → ns ≡ [] → ⊥
+nothing (this h) e = let z : _≡_ {A = ℕ} 0 1 = cc e in omega arith
+nothing (later h d) e = let z : _≡_ {A = ℕ} 0 1 = cc e in omega arith
+
+abbrev need7 : ℕ → Need
+need7 n = record { number = 7; columns = entryColumns; rows = n }
+
+low-entries : (languages entries : List ℕ) (l n : ℕ) {t r : ℕ} → l ≤ length languages / languageColumns → Lowest (need7 n ∷ []) (entries ∷ []) t r → Lacks languages entries l n t r
+unfolding room first
+low-entries languages entries l n h (this k) = in-entries h k
+low-entries languages entries l n h (later k d) = absurd (nothing d refl)
+
+low : (languages entries : List ℕ) (l n : ℕ) {t r : ℕ} → Lowest (needed l n) (languages ∷ entries ∷ []) t r → Lacks languages entries l n t r
+unfolding room first others
+low languages entries l n (this h) = in-languages h
+low languages entries l n (later h d) = low-entries languages entries l n h d
+
+lowest : (languages entries : List ℕ) (l n : ℕ) {t r : ℕ} → Lacks languages entries l n t r → Lowest (needed l n) (languages ∷ entries ∷ []) t r
+unfolding room first others
+lowest languages entries l n (in-languages h) = this h
+lowest languages entries l n (in-entries h k) = later h (this k)
+
+sized-so : (body : List ℕ) (z : Sizes) → measuring kind body ≡ accepted z → (l : ℕ) × (n : ℕ) × (z ≡ sized l n (z .before))
+unfolding sizes kind tables needs
+sized-so body z e =
+    let (s, j, q) = was-measured kind body z e in
+    let l = length (map languageRow (languageRows (s .tree .languages))) in
+    let n = length (map entryRow (entriesIn (s .tree .languages))) in
+    (l, n, sym (subst (λ (z : Sizes). sized l n (z .before) ≡ z) q refl))
+
+pub lacks-room : (body languages entries : List ℕ) (t r : ℕ)
+    → (reading kind body (languages ∷ entries ∷ []) ≡ leaves (no-room t r) (languages ∷ entries ∷ [])) ↔ ((l : ℕ) × (n : ℕ) × (k : ℕ) × (measuring kind body ≡ accepted (sized l n k)) × Lacks languages entries l n t r)
+lacks-room body languages entries t r = (forth, back)
+  where
+    forth : reading kind body (languages ∷ entries ∷ []) ≡ leaves (no-room t r) (languages ∷ entries ∷ []) → (l : ℕ) × (n : ℕ) × (k : ℕ) × (measuring kind body ≡ accepted (sized l n k)) × Lacks languages entries l n t r
+    forth h =
+        let (z, e, d) = claims .more-room .no-room body (languages ∷ entries ∷ []) t r .0 h in
+        let (l, n, q) = sized-so body z e in
+        (l, n, z .before, e ∙ ap accepted q, low languages entries l n (subst (λ (z : Sizes). Lowest (z .tables) (languages ∷ entries ∷ []) t r) q d))
+
+    back : (l : ℕ) × (n : ℕ) × (k : ℕ) × (measuring kind body ≡ accepted (sized l n k)) × Lacks languages entries l n t r → reading kind body (languages ∷ entries ∷ []) ≡ leaves (no-room t r) (languages ∷ entries ∷ [])
+    back (l, n, k, e, d) = claims .more-room .no-room body (languages ∷ entries ∷ []) t r .1 (sized l n k, e, lowest languages entries l n d)
+
+-- the lists of languages stand one after the other: the first begins at row n, each begins where the one before ended, and the last ends at row m
+pub data RunsOn : ℕ → List TextLabelLanguage → ℕ → Type 0 where
+  ended : {n : ℕ} → RunsOn n [] n
+  one-more : {n m : ℕ} {l : TextLabelLanguage} {ls : List TextLabelLanguage} → l .groups .entries .first ≡ n → l .«switch_groups» .entries .first ≡ n + l .groups .entries .count
+      → l .presets .entries .first ≡ n + l .groups .entries .count + l .«switch_groups» .entries .count
+      → RunsOn (n + l .groups .entries .count + l .«switch_groups» .entries .count + l .presets .entries .count) ls m → RunsOn n (l ∷ ls) m
+
+runs-on : (n : ℕ) (ls : List (Language TextLabelEntry)) → RunsOn n (map (λ (q : ℕ × Language TextLabelEntry). languageAs (q .0) (q .1)) (firsts (λ l. length (entriesOf l)) n ls)) (n + length (entriesIn ls))
+unfolding firsts flatMap languageAs
+runs-on n [] = rw add-zero ended
+runs-on n (l ∷ ls) =
+    let e : n + length (entriesOf l) ≡ n + length (l .groups .entries) + length (l .«switch_groups» .entries) + length (l .presets .entries) = omega (arith, entries-long l) in
+    let k : n + length (entriesOf l) + length (entriesIn ls) ≡ n + length (entriesOf l ++ entriesIn ls) = omega (arith, length-append (entriesOf l) (entriesIn ls)) in
+    one-more refl refl refl (subst (λ (i : ℕ). RunsOn i (map (λ (q : ℕ × Language TextLabelEntry). languageAs (q .0) (q .1)) (firsts (λ l. length (entriesOf l)) (n + length (entriesOf l)) ls)) (n + length (entriesOf l ++ entriesIn ls))) e
+    (subst (RunsOn (n + length (entriesOf l)) (map (λ (q : ℕ × Language TextLabelEntry). languageAs (q .0) (q .1)) (firsts (λ l. length (entriesOf l)) (n + length (entriesOf l)) ls))) k (runs-on (n + length (entriesOf l)) ls)))
+
+-- of tables that were read: the rows of table 6 have their entries in table 7 from its front on, none between, and the rest of both keeps its content
+pub record Read (languages entries languages′ entries′ : List ℕ) (count rows : ℕ) : Type 0 where
+  pub runs : RunsOn 0 (each (languageAt languages′) 0 count) rows
+  pub kept : drop (count * languageColumns) languages′ ≡ drop (count * languageColumns) languages
+  pub kept-entries : drop (rows * entryColumns) entries′ ≡ drop (rows * entryColumns) entries
+
+behind-kept : (a t : List ℕ) {n : ℕ} → length a ≡ n → drop n (a ++ drop (length a) t) ≡ drop n t
+behind-kept a t e = rw (← e) (drop-append-seam a (drop (length a) t))
+
+abbrev filledBy : List ℕ → List ℕ → List ℕ
+filledBy a t = a ++ drop (length a) t
+
+read-so : (languages entries : List ℕ) (ls : List (Language TextLabelEntry))
+    → Read languages entries (filledBy (flatten (map languageRow (languageRows ls))) languages) (filledBy (flatten (map entryRow (entriesIn ls))) entries) (length ls) (length (entriesIn ls))
+read-so languages entries ls =
+    let x = flatten (map languageRow (languageRows ls)) in
+    record {
+      runs = rw (languages-found ls (drop (length x) languages)) (subst (RunsOn 0 (languageRows ls)) (zero-add (length (entriesIn ls))) (runs-on 0 ls));
+      kept = behind-kept x languages (laid-length languageColumns languageOf languageRow (λ l. refl) language-found (languageRows ls) ∙ ap (λ (n : ℕ). n * languageColumns) (sym (length-map (languageRows ls) languageRow) ∙ rows-counted ls));
+      kept-entries = behind-kept (flatten (map entryRow (entriesIn ls))) entries (laid-length entryColumns entryOf entryRow (λ e. refl) entry-found (entriesIn ls));
+    }
+
+pub read-tables : (body languages entries languages′ entries′ : List ℕ) (m : MpegH3dAudioTextLabel) → reading kind body (languages ∷ entries ∷ []) ≡ leaves (accepted m) (languages′ ∷ entries′ ∷ [])
+    → (rows : ℕ) × (k : ℕ) × (measuring kind body ≡ accepted (sized (m .languages) rows k)) × Read languages entries languages′ entries′ (m .languages) rows
+unfolding kind filled tables first others measuring onto sizes needs
+read-tables body languages entries languages′ entries′ m e =
+    let w = was kind body (languages ∷ entries ∷ []) m (languages′ ∷ entries′ ∷ []) e in
+    let ls = w .sound .tree .languages in
+    let n = ap (λ (m : MpegH3dAudioTextLabel). m .languages) (w .top-is) in
+    let a = ap (λ (l : Lent). first l) (w .after-is) in
+    let b = ap (λ (l : Lent). first (others l)) (w .after-is) in
+    let r : Read languages entries languages′ entries′ (length ls) (length (entriesIn ls)) =
+    subst (λ (y : List ℕ). Read languages entries languages′ y (length ls) (length (entriesIn ls))) b
+    (subst (λ (x : List ℕ). Read languages entries x (filledBy (flatten (map entryRow (entriesIn ls))) entries) (length ls) (length (entriesIn ls))) a (read-so languages entries ls)) in
+    let z : measuring kind body ≡ accepted (sized (length ls) (length (entriesIn ls)) (w .sound .before)) = ap (onto (sizes kind)) (w .judges) ∙ λ i. accepted (sized (rows-counted ls i) (length-map (entriesIn ls) entryRow i) (w .sound .before)) in (
+      length (entriesIn ls),
+      w .sound .before,
+      subst (λ (c : ℕ). measuring kind body ≡ accepted (sized c (length (entriesIn ls)) (w .sound .before))) n z,
+      subst (λ (c : ℕ). Read languages entries languages′ entries′ c (length (entriesIn ls))) n r,
+    )
+
+-- ---- the promises fix the answers themselves
+
+read-once : (r r′ : Reading) → read r ≡ read r′ → r ≡ r′
+read-once (R.Done m) (R.Done m′) e = let z : m ≡ m′ = cc e in ap R.Done z
+read-once (R.Done m) (R.Refused x) e = not-refused e
+read-once (R.Refused x) (R.Done m) e = not-refused (sym e)
+read-once (R.Refused x) (R.Refused x′) e = let z : refusal x ≡ refusal x′ = cc e in ap R.Refused (refusal-once x x′ z)
+
+-- the rows that the tables need, the first and the second
+abbrev rowsFirst : List Need → ℕ
+rowsFirst [] = 0
+rowsFirst (n ∷ ns) = n .rows
+
+abbrev rowsSecond : List Need → ℕ
+rowsSecond [] = 0
+rowsSecond (n ∷ ns) = rowsFirst ns
+
+same-sizes : (s s′ : Label.Sizes) → sized (s .languages) (s .entries) (s .k) ≡ sized (s′ .languages) (s′ .entries) (s′ .k) → s ≡ s′
+same-sizes s s′ e = λ i. record { languages = ap (λ (z : Sizes). rowsFirst (z .tables)) e i; entries = ap (λ (z : Sizes). rowsSecond (z .tables)) e i; k = ap (λ (z : Sizes). z .before) e i }
+
+measured-once : (r r′ : Measured) → measured r ≡ measured r′ → r ≡ r′
+measured-once (M.Done s) (M.Done s′) e = ap M.Done (same-sizes s s′ (cc e))
+measured-once (M.Done s) (M.Refused x) e = not-refused e
+measured-once (M.Refused x) (M.Done s) e = not-refused (sym e)
+measured-once (M.Refused x) (M.Refused x′) e = let z : refusal x ≡ refusal x′ = cc e in ap M.Refused (refusal-once x x′ z)
+
+pub record Fixed : Type 0 where
+  pub reading : (body languages entries languages′ entries′ languages″ entries″ : List ℕ) (r r′ : Reading)
+      → Reads kind body (languages ∷ entries ∷ []) (read r) (languages′ ∷ entries′ ∷ []) → Reads kind body (languages ∷ entries ∷ []) (read r′) (languages″ ∷ entries″ ∷ []) → (r ≡ r′) × (languages′ ≡ languages″) × (entries′ ≡ entries″)
+  pub measuring : (body : List ℕ) (r r′ : Measured) → Measures kind body (measured r) → Measures kind body (measured r′) → r ≡ r′
+  pub tallying : (body : List ℕ) (r r′ : Tallied) → Tallies kind body (tallied r) → Tallies kind body (tallied r′) → r ≡ r′
+  pub writing : (m : MpegH3dAudioTextLabel) (languages entries store out after after′ : List ℕ) (r r′ : Written)
+      → Writes kind m (languages ∷ entries ∷ []) store out (written r) after → Writes kind m (languages ∷ entries ∷ []) store out (written r′) after′ → (r ≡ r′) × (after ≡ after′)
+
+pub fixed : Fixed
+unfolding first others
+fixed = record {
+  reading = λ body languages entries languages′ entries′ languages″ entries″ r r′ v w.
+      let e = claims .determined .read-once body (languages ∷ entries ∷ []) _ _ (languages′ ∷ entries′ ∷ []) (languages″ ∷ entries″ ∷ []) v w in
+      (read-once r r′ (e .0), ap (λ (l : Lent). first l) (e .1), ap (λ (l : Lent). first (others l)) (e .1));
+  measuring = λ body r r′ v w. measured-once r r′ (claims .determined .measured-once body _ _ v w);
+  tallying = λ body r r′ v w. tallied-once r r′ (claims .determined .tallied-once body _ _ v w);
+  writing = λ m languages entries store out after after′ r r′ v w. let e = claims .determined .written-once m (languages ∷ entries ∷ []) store out _ _ after after′ v w in (written-once r r′ (e .0), e .1);
+}

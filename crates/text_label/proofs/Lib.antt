@@ -1,0 +1,8 @@
+pub mod Parsed
+pub mod Filled
+pub mod Format
+pub mod Found
+pub mod Sighted
+pub mod Stored
+pub mod Laws
+pub mod Claims

@@ -1,0 +1,248 @@
+-- The reading programs: what is left of one after its first reads, and what a run that is done says of the body.
+use Prim.Native.Nat.{ℕ, _+_, _-_, _^_, _≤_, _<_}
+use mathlib.Core.Path.{_≡_, refl, sym, ap, _∙_}
+use mathlib.Core.Bool.{true}
+use mathlib.Core.List.{List, [], _∷_}
+use native.Mathlib.Omega.{arith}
+use native.Mathlib.Nat.{add-zero}
+use lib.ListN.{length, getD, length-append, take}
+use lib.Seq.{slice, getD-drop, getD-take}
+use Rattle.wire.specs.Lists.{sum}
+use Rattle.wire.specs.Bits.{part}
+use Rattle.wire.specs.Prog.{Prog, ret, Out, done, short, run, u8, bytes, pass, many, span, _>>=_}
+use Rattle.wire.proofs.Fields.{wider, part-below}
+use Rattle.wire.proofs.Runs.{run-split, run-ret}
+use Rattle.wire.specs.declared.reads.Short.{Short}
+use Rattle.wire.specs.Reads.{shortOf, mapOut, endOf, isDone}
+use Rattle.wire.proofs.Walk.{From, begun, onward, finished, as-done, cut-off-as, bytes-end, is-done, byte-taken, run-taken, bytes-taken}
+use Rattle.wire.proofs.Loops.{many-long, many-weighs}
+use Rattle.wire.proofs.Nest.{flat-length}
+use Rattle.text_label.specs.declared.rows.TextLabelEntry.{TextLabelEntry}
+use Rattle.text_label.specs.Rows.{letters, Labels, Language, TextLabel, top, entriesOf, entriesIn}
+use Rattle.text_label.specs.Read.{entry, labels, language, parse}
+use Rattle.text_label.specs.Contract.{headed, seenOf}
+
+-- ---- an entry
+
+abbrev pub entryIs : ℕ → ℕ → ℕ → ℕ → TextLabelEntry
+entryIs w b n p = record { reserved = part w (8 - w) b; id = part 0 w b; «data» = span p n }
+
+abbrev pub afterLength : ℕ → ℕ → ℕ → Prog TextLabelEntry
+afterLength w b n = pass n >>= λ p. ret (entryIs w b n p)
+
+abbrev pub afterId : ℕ → ℕ → Prog TextLabelEntry
+afterId w b = u8 >>= λ n. afterLength w b n
+
+-- its two bytes are read
+pub after-two : (w : ℕ) (s : List ℕ) (at : ℕ) {o o′ : Out ℕ} {b n k m : ℕ} → at ≤ length s → o ≡ run u8 s at → o ≡ done b n → o′ ≡ run u8 s n → o′ ≡ done k m → From (entry w) s at (afterLength w b k) m
+unfolding entry
+after-two w s at {b = b} h e d e′ d′ = onward u8 (afterLength w b) (onward u8 (afterId w) (begun (entry w) s at h) e d) e′ d′
+
+-- an entry that is known to be there
+pub record EntryRun (w : ℕ) (s : List ℕ) (at : ℕ) (e : TextLabelEntry) (m : ℕ) : Type 0 where
+  pub id-there : at < length s
+  pub length-there : at + 1 < length s
+  pub all-there : at + 2 + getD s (at + 1) 0 ≤ length s
+  pub is : entryIs w (getD s at 0) (getD s (at + 1) 0) (at + 2) ≡ e
+  pub ends : at + 2 + getD s (at + 1) 0 ≡ m
+
+pub entry-run : (w : ℕ) (s : List ℕ) (at : ℕ) {e : TextLabelEntry} {m : ℕ} → run (entry w) s at ≡ done e m → EntryRun w s at e m
+unfolding entry
+entry-run w s at {e} {m} d =
+    let (h, d₁) = byte-taken s at (afterId w) d in
+    let (h₁, d₂) = byte-taken s (at + 1) (afterLength w (getD s at 0)) d₁ in
+    let (h₂, d₃) = run-taken s (at + 1 + 1) (getD s (at + 1) 0) (λ p. ret (entryIs w (getD s at 0) (getD s (at + 1) 0) p)) d₂ in
+    let (q, r) = run-ret _ s _ d₃ in
+    let n : at + 1 + 1 ≡ at + 2 = omega arith in
+    record {
+      id-there = h;
+      length-there = h₁;
+      all-there = omega (arith, h₂);
+      is = ap (entryIs w (getD s at 0) (getD s (at + 1) 0)) (sym n) ∙ q;
+      ends = omega (arith, r);
+    }
+
+there : (w : ℕ) (s : List ℕ) (at : ℕ) → isDone (run (entry w) s at) ≡ true → (e : TextLabelEntry) × (m : ℕ) × EntryRun w s at e m × (run (entry w) s at ≡ done e m)
+there w s at q = let (e, m, d) = is-done (run (entry w) s at) q in (e, m, entry-run w s at d, d)
+
+pub entry-there : (w : ℕ) (s : List ℕ) (at : ℕ) → isDone (run (entry w) s at) ≡ true → (at < length s) × (at + 1 < length s) × (at + 2 + getD s (at + 1) 0 ≤ length s)
+entry-there w s at q = let r = there w s at q .2 in (r .id-there, r .length-there, r .all-there)
+
+pub entry-is : (w : ℕ) (s : List ℕ) (at : ℕ) → isDone (run (entry w) s at) ≡ true → {b n r i : ℕ} → b ≡ getD s at 0 → n ≡ getD s (at + 1) 0 → r ≡ part w (8 - w) b → i ≡ part 0 w b
+    → done (record { reserved = r; id = i; «data» = span (at + 2) n }) (at + 2 + n) ≡ run (entry w) s at
+entry-is w s at q x y u v =
+    let (e, m, r, d) = there w s at q in
+    rw (u, v, x, y) ((λ j. done (r .is j) (r .ends j)) ∙ sym d)
+
+pub entry-weighs : (w : ℕ) (s : List ℕ) (at : ℕ) (e : TextLabelEntry) (m : ℕ) → run (entry w) s at ≡ done e m → at + 1 ≤ m
+entry-weighs w s at e m d = let r = entry-run w s at d in omega (arith, r .ends)
+
+-- ---- a list
+
+abbrev pub labelsIs : ℕ → ℕ → List TextLabelEntry → Labels TextLabelEntry
+labelsIs w b l = record { reserved = part w (8 - w) b; entries = l }
+
+abbrev pub afterCount : ℕ → ℕ → Prog (Labels TextLabelEntry)
+afterCount w b = many (part 0 w b) (entry w) >>= λ l. ret (labelsIs w b l)
+
+-- its count is read, and its entries are only measured
+module _ (w : ℕ) (s : List ℕ) (at b : ℕ) {n count : ℕ} (place : From (labels w) s at (afterCount w b) n) (e : count ≡ part 0 w b) {o : Out (Unit {0})} (ends : o ≡ endOf (run (many count (entry w)) s n)) where
+  ends-so : o ≡ endOf (run (many (part 0 w b) (entry w)) s n)
+  ends-so = ends ∙ ap (λ (k : ℕ). endOf (run (many k (entry w)) s n)) e
+
+  pub labels-short : {x y : Short} → o ≡ short x → y ≡ shortOf o → short y ≡ run (labels w) s at
+  labels-short d q = cut-off-as (many (part 0 w b) (entry w)) (λ l. tt) (λ l. ret (labelsIs w b l)) place ends-so d q
+
+  pub labels-counted : {m : ℕ} → o ≡ done tt m → (l : List TextLabelEntry) × (count ≡ length l) × (done (labelsIs w b l) m ≡ run (labels w) s at)
+  labels-counted {m} d =
+      let (l, r, q) = as-done (λ (l : List TextLabelEntry). tt) (run (many (part 0 w b) (entry w)) s n) (sym ends-so ∙ d) in
+      (l, e ∙ sym (many-long (entry w) s (part 0 w b) n l m r), finished (onward (many (part 0 w b) (entry w)) (λ l. ret (labelsIs w b l)) place refl r) refl)
+
+-- a count of at most seven bits
+pub count-small : (w b : ℕ) {count : ℕ} → w < 8 → count ≡ part 0 w b → count ≤ 127
+count-small w b h e = let k : part 0 w b < 2 ^ 7 = wider w 7 (omega arith) (part-below 0 w b) in omega (arith, e, k)
+
+pub record LabelsRun (w : ℕ) (s : List ℕ) (at : ℕ) (d : Labels TextLabelEntry) (m : ℕ) : Type 0 where
+  pub count-there : at < length s
+  pub reads : run (many (part 0 w (getD s at 0)) (entry w)) s (at + 1) ≡ done (d .entries) m
+  pub is : labelsIs w (getD s at 0) (d .entries) ≡ d
+
+labels-so : (w : ℕ) (s : List ℕ) (at : ℕ) {d : Labels TextLabelEntry} {m k : ℕ} (l : List TextLabelEntry) → at < length s → run (many (part 0 w (getD s at 0)) (entry w)) s (at + 1) ≡ done l k
+    → labelsIs w (getD s at 0) l ≡ d → k ≡ m → LabelsRun w s at d m
+labels-so w s at l h e q n = rw (← q, ← n) (record { count-there = h; reads = e; is = refl })
+
+pub labels-run : (w : ℕ) (s : List ℕ) (at : ℕ) {d : Labels TextLabelEntry} {m : ℕ} → run (labels w) s at ≡ done d m → LabelsRun w s at d m
+unfolding labels
+labels-run w s at {d} {m} e =
+    let (h, e₁) = byte-taken s at (afterCount w) e in
+    let x = run-split (many (part 0 w (getD s at 0)) (entry w)) (λ l. ret (labelsIs w (getD s at 0) l)) s (at + 1) d m e₁ in
+    let (q, n) = run-ret _ s (x .middle) (x .second) in
+    labels-so w s at (x .value) h (x .first) q n
+
+pub labels-long : (w : ℕ) (s : List ℕ) (at : ℕ) {d : Labels TextLabelEntry} {m : ℕ} → LabelsRun w s at d m → length (d .entries) ≡ part 0 w (getD s at 0)
+labels-long w s at {d} {m} r = many-long (entry w) s _ (at + 1) (d .entries) m (r .reads)
+
+sum-ones : (l : List TextLabelEntry) → sum (λ e. 1) l ≡ length l
+unfolding sum
+sum-ones [] = refl
+sum-ones (e ∷ l) = rw (sum-ones l) (omega arith)
+
+pub labels-weigh : (w : ℕ) (s : List ℕ) (at : ℕ) (d : Labels TextLabelEntry) (m : ℕ) → run (labels w) s at ≡ done d m → at + 1 + length (d .entries) ≤ m
+labels-weigh w s at d m e =
+    let r = labels-run w s at e in
+    omega (arith, sum-ones (d .entries), many-weighs (entry w) s (λ e. 1) (entry-weighs w s) _ (at + 1) (d .entries) m (r .reads))
+
+-- ---- a language
+
+abbrev pub languageIs : List ℕ → Labels TextLabelEntry → Labels TextLabelEntry → Labels TextLabelEntry → Language TextLabelEntry
+languageIs l g s p = record { language = letters (getD l 0 0) (getD l 1 0) (getD l 2 0); groups = g; «switch_groups» = s; presets = p }
+
+abbrev pub afterLists : List ℕ → Labels TextLabelEntry → Labels TextLabelEntry → Prog (Language TextLabelEntry)
+afterLists l g s = labels 5 >>= λ p. ret (languageIs l g s p)
+
+abbrev pub afterGroups : List ℕ → Labels TextLabelEntry → Prog (Language TextLabelEntry)
+afterGroups l g = labels 5 >>= λ s. afterLists l g s
+
+abbrev pub afterLetters : List ℕ → Prog (Language TextLabelEntry)
+afterLetters l = labels 7 >>= λ g. afterGroups l g
+
+-- its three bytes are read
+module _ (s : List ℕ) (at : ℕ) (h : at ≤ length s) {o : Out ℕ} (e : o ≡ run (pass 3) s at) where
+  ends-three : endOf o ≡ endOf (run (bytes 3) s at)
+  ends-three = ap endOf e ∙ sym (bytes-end 3 s at)
+
+  pub letters-short : {x y : Short} → o ≡ short x → y ≡ shortOf o → short y ≡ run language s at
+  unfolding language
+  letters-short d q = cut-off-as (bytes 3) (λ l. tt) afterLetters (begun language s at h) ends-three (ap endOf d) (q ∙ ap shortOf d ∙ sym (ap (λ (o : Out ℕ). shortOf (endOf o)) d))
+
+  pub letters-place : {p m : ℕ} → o ≡ done p m → (l : List ℕ) × From language s at (afterLetters l) m
+  unfolding language
+  letters-place d = let (l, r, q) = as-done (λ (l : List ℕ). tt) (run (bytes 3) s at) (sym ends-three ∙ ap endOf d) in (l, onward (bytes 3) afterLetters (begun language s at h) refl r)
+
+pub record LanguageRun (s : List ℕ) (at : ℕ) (l : Language TextLabelEntry) (m : ℕ) : Type 0 where
+  pub letters-there : at + 3 ≤ length s
+  pub groups-end : ℕ
+  pub switch-groups-end : ℕ
+  pub groups : run (labels 7) s (at + 3) ≡ done (l .groups) groups-end
+  pub switch-groups : run (labels 5) s groups-end ≡ done (l .«switch_groups») switch-groups-end
+  pub presets : run (labels 5) s switch-groups-end ≡ done (l .presets) m
+  pub is : letters (getD s at 0) (getD s (at + 1) 0) (getD s (at + 2) 0) ≡ l .language
+
+letter-at : (s : List ℕ) (at i : ℕ) → i < 3 → getD (slice at (at + 3) s) i 0 ≡ getD s (at + i) 0
+letter-at s at i h = getD-drop at (take (at + 3) s) i 0 ∙ getD-take (at + 3) s (at + i) 0 (omega arith)
+
+letters-at : (s : List ℕ) (at : ℕ) → letters (getD s at 0) (getD s (at + 1) 0) (getD s (at + 2) 0) ≡ letters (getD (slice at (at + 3) s) 0 0) (getD (slice at (at + 3) s) 1 0) (getD (slice at (at + 3) s) 2 0)
+letters-at s at = λ i. letters (sym (letter-at s at 0 (omega arith) ∙ ap (λ (n : ℕ). getD s n 0) (add-zero at)) i) (sym (letter-at s at 1 (omega arith)) i) (sym (letter-at s at 2 (omega arith)) i)
+
+language-so : (s : List ℕ) (at : ℕ) {l : Language TextLabelEntry} {m : ℕ} (n k j : ℕ) (g r p : Labels TextLabelEntry) → at + 3 ≤ length s → run (labels 7) s (at + 3) ≡ done g n → run (labels 5) s n ≡ done r k → run (labels 5) s k ≡ done p j
+    → languageIs (slice at (at + 3) s) g r p ≡ l → j ≡ m → LanguageRun s at l m
+language-so s at n k j g r p h a b c q e =
+    rw (← q, ← e) (record { letters-there = h; groups-end = n; switch-groups-end = k; groups = a; switch-groups = b; presets = c; is = letters-at s at })
+
+pub language-run : (s : List ℕ) (at : ℕ) {l : Language TextLabelEntry} {m : ℕ} → run language s at ≡ done l m → LanguageRun s at l m
+unfolding language
+language-run s at {l} {m} e =
+    let (h, e₁) = bytes-taken s at 3 afterLetters e in
+    let b = slice at (at + 3) s in
+    let x = run-split (labels 7) (afterGroups b) s (at + 3) l m e₁ in
+    let y = run-split (labels 5) (afterLists b (x .value)) s (x .middle) l m (x .second) in
+    let z = run-split (labels 5) (λ p. ret (languageIs b (x .value) (y .value) p)) s (y .middle) l m (y .second) in
+    let (q, n) = run-ret _ s (z .middle) (z .second) in
+    language-so s at (x .middle) (y .middle) (z .middle) (x .value) (y .value) (z .value) h (x .first) (y .first) (z .first) q n
+
+pub entries-long : (l : Language TextLabelEntry) → length (entriesOf l) ≡ length (l .groups .entries) + (length (l .«switch_groups» .entries) + length (l .presets .entries))
+entries-long l = length-append (l .groups .entries) _ ∙ ap (λ (n : ℕ). length (l .groups .entries) + n) (length-append (l .«switch_groups» .entries) (l .presets .entries))
+
+pub language-weighs : (s : List ℕ) (at : ℕ) (l : Language TextLabelEntry) (m : ℕ) → run language s at ≡ done l m → at + length (entriesOf l) ≤ m
+language-weighs s at l m e =
+    let r = language-run s at e in
+    omega (arith, entries-long l, labels-weigh 7 s _ _ _ (r .groups), labels-weigh 5 s _ _ _ (r .switch-groups), labels-weigh 5 s _ _ _ (r .presets))
+
+-- the entries of all languages are those of each, summed
+pub entries-summed : sum (λ (l : Language TextLabelEntry). length (entriesOf l)) ≡ λ ls. length (entriesIn ls)
+entries-summed = λ i ls. sym (flat-length entriesOf ls) i
+
+-- ---- the body
+
+abbrev pub bodyIs : ℕ → ℕ → List (Language TextLabelEntry) → TextLabel TextLabelEntry
+bodyIs id b l = record { «scene_info_id» = id; reserved = part 4 4 b; languages = l }
+
+abbrev pub afterHead : ℕ → ℕ → Prog (TextLabel TextLabelEntry)
+afterHead id b = many (part 0 4 b) language >>= λ l. ret (bodyIs id b l)
+
+abbrev pub afterScene : ℕ → Prog (TextLabel TextLabelEntry)
+afterScene id = u8 >>= λ b. afterHead id b
+
+-- its two bytes are read
+pub after-head : (s : List ℕ) {o o′ : Out ℕ} {id n b m : ℕ} → o ≡ run u8 s 0 → o ≡ done id n → o′ ≡ run u8 s n → o′ ≡ done b m → From parse s 0 (afterHead id b) m
+unfolding parse
+after-head s {id = id} e d e′ d′ = onward u8 (afterHead id) (onward u8 afterScene (begun parse s 0 (omega arith)) e d) e′ d′
+
+pub count-four : (b : ℕ) {count : ℕ} → count ≡ part 0 4 b → count < 16
+count-four b e = omega (arith, e, part-below 0 4 b)
+
+-- what is seen of it: as many languages as the count says
+pub seen-so : (s : List ℕ) (id b n : ℕ) {rows k : ℕ} (l : List (Language TextLabelEntry)) → run (many (part 0 4 b) language) s n ≡ done l k → length (entriesIn l) ≡ rows → done (bodyIs id b l) k ≡ run parse s 0
+    → done (headed id b, rows) k ≡ mapOut seenOf (run parse s 0)
+seen-so s id b n {rows} {k} l r e d =
+    let q = many-long language s (part 0 4 b) n l k r in
+    let h : headed id b ≡ top (bodyIs id b l) (span 0 0) = λ i. record { «scene_info_id» = id; reserved = part 4 4 b; languages = sym q i; trailing = span 0 0 } in
+    (λ i. done (h i, sym e i) k) ∙ ap (mapOut seenOf) d
+
+-- the languages begin behind the second byte
+pub record BodyRun (s : List ℕ) (t : TextLabel TextLabelEntry) (k : ℕ) : Type 0 where
+  pub inside : 2 ≤ length s
+  pub reads : run (many (length (t .languages)) language) s 2 ≡ done (t .languages) k
+
+body-so : (s : List ℕ) (b : ℕ) {t : TextLabel TextLabelEntry} {k m : ℕ} (l : List (Language TextLabelEntry)) → 2 ≤ length s → run (many (part 0 4 b) language) s 2 ≡ done l m → bodyIs (getD s 0 0) b l ≡ t → m ≡ k → BodyRun s t k
+body-so s b l h e q n = rw (← q, ← n) (record { inside = h; reads = rw (many-long language s (part 0 4 b) 2 l _ e) e })
+
+pub body-run : (s : List ℕ) {t : TextLabel TextLabelEntry} {k : ℕ} → run parse s 0 ≡ done t k → BodyRun s t k
+unfolding parse
+body-run s {t} {k} e =
+    let (h, e₁) = byte-taken s 0 afterScene e in
+    let (h₁, e₂) = byte-taken s 1 (afterHead (getD s 0 0)) e₁ in
+    let b = getD s 1 0 in
+    let x = run-split (many (part 0 4 b) language) (λ l. ret (bodyIs (getD s 0 0) b l)) s 2 t k e₂ in
+    let (q, n) = run-ret _ s (x .middle) (x .second) in
+    body-so s b (x .value) (omega (arith, h₁)) (x .first) q n

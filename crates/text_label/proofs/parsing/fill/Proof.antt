@@ -1,0 +1,27 @@
+-- `text_label::parsing::fill` meets its contract: the languages of the body that was judged.
+use Rattle.text_label.proofs.Sighted.{languages-ask, languages-filled}
+use borrow.Author.Needs.{needs}
+use Rattle.text_label.proofs.parsing.fill.Statement.{statement}
+use Rattle.text_label.proofs.parsing.fill.Tie as tie
+
+cast-fill-languages : tie.Need-cast-fill-languages
+cast-fill-languages c = search needs
+
+fill-languages-requires : tie.Need-fill-languages-requires
+fill-languages-requires c κs =
+    languages-ask _ _ (c .before .before .before .before .before .pre .0) _ _ (c .before .before .before .before .before .pre .1)
+
+same-length : tie.Need-same-length
+same-length c = search needs
+
+same-length-2 : tie.Need-same-length-2
+same-length-2 c = search needs
+
+returns : tie.Need-returns
+returns c =
+    languages-filled _ _ (c .before .before .before .before .before .before .before .before .before .before .pre .0) _ _ (c .before .before .before .before .before .before .before .before .before .before .pre .1) (c .before .before .before .before .fill-languages .ensures)
+
+pub fill-spec : {M : Type 1} → statement M
+fill-spec =
+    tie.close
+    (tie.spec cast-fill-languages fill-languages-requires same-length same-length-2 returns)

@@ -1,0 +1,122 @@
+-- `text_label::tallying::language_zeros` meets its contract: the tallies of the three lists, one after the other.
+use mathlib.Core.Path.{refl, ap, sym}
+use Prim.Native.Nat.{ℕ, _+_}
+use native.Mathlib.Omega.{arith}
+use Rattle.wire.specs.Prog.{ret}
+use Rattle.wire.specs.Reads.{runOut}
+use Rattle.wire.proofs.Walk.{finished}
+use Rattle.wire.proofs.Loops.{summed-done, summed-short, summed-cut, sum-small, sum-onward, sum-cut-off}
+use Rattle.text_label.specs.Read.{labels}
+use Rattle.text_label.proofs.Parsed.{languageIs, afterLists, afterGroups, letters-short, letters-place}
+use borrow.Author.Needs.{needs}
+use Rattle.text_label.proofs.tallying.language_zeros.Statement.{statement}
+use Rattle.text_label.proofs.tallying.language_zeros.Tie as tie
+
+run-at-requires : tie.Need-run-at-requires
+run-at-requires c κs = search needs
+
+enum-known-a : tie.Need-enum-known-a
+enum-known-a c = search needs
+
+enum-told : tie.Need-enum-told
+enum-told c = search needs
+
+short-requires : tie.Need-short-requires
+short-requires c κs = search needs
+
+returns : tie.Need-returns
+returns c =
+    summed-short (letters-short _ _ (c .before .before .before .before .before .pre) (c .before .before .before .run-at .ensures) (ap runOut (c .before .enum-told .given .1)) (c .short .ensures))
+
+list-zeros-requires : tie.Need-list-zeros-requires
+list-zeros-requires c κs =
+    (letters-place _ _ (c .before .before .before .before .before .pre) (c .before .before .before .run-at .ensures) (ap runOut (c .before .a .given .1)) .1 .inside, omega arith)
+
+enum-known-g : tie.Need-enum-known-g
+enum-known-g c = search needs
+
+enum-told-2 : tie.Need-enum-told-2
+enum-told-2 c = search needs
+
+returns-2 : tie.Need-returns-2
+returns-2 c =
+    let (b, w) = letters-place _ _ (c .before .before .before .before .before .before .before .before .pre) (c .before .before .before .before .before .before .run-at .ensures) (ap runOut (c .before .before .before .before .a .given .1)) in
+    summed-cut (c .enum-told2 .given .1) (sum-cut-off (labels 7) (afterGroups b) w (c .before .before .list-zeros .ensures) (c .enum-told2 .given .1))
+
+list-zeros-requires-2 : tie.Need-list-zeros-requires-2
+list-zeros-requires-2 c κs =
+    let (b, w) = letters-place _ _ (c .before .before .before .before .before .before .before .before .before .pre) (c .before .before .before .before .before .before .before .run-at .ensures) (ap runOut (c .before .before .before .before .before .a .given .1)) in
+    (sum-onward (labels 7) (afterGroups b) w (c .before .before .before .list-zeros .ensures) (c .before .g .given .1) .place .inside, omega arith)
+
+enum-known-s : tie.Need-enum-known-s
+enum-known-s c = search needs
+
+enum-told-3 : tie.Need-enum-told-3
+enum-told-3 c = search needs
+
+returns-3 : tie.Need-returns-3
+returns-3 c =
+    let (b, w) = letters-place _ _ (c .before .before .before .before .before .before .before .before .before .before .before .before .pre) (c .before .before .before .before .before .before .before .before .before .before .run-at .ensures) (ap runOut (c .before .before .before .before .before .before .before .before .a .given .1)) in
+    let g = sum-onward (labels 7) (afterGroups b) w (c .before .before .before .before .before .before .list-zeros .ensures) (c .before .before .before .before .g .given .1) in
+    summed-cut (c .enum-told3 .given .1) (sum-cut-off (labels 5) (afterLists b (g .value)) (g .place) (c .before .before .list-zeros2 .ensures) (c .enum-told3 .given .1))
+
+list-zeros-requires-3 : tie.Need-list-zeros-requires-3
+list-zeros-requires-3 c κs =
+    let (b, w) = letters-place _ _ (c .before .before .before .before .before .before .before .before .before .before .before .before .before .pre) (c .before .before .before .before .before .before .before .before .before .before .before .run-at .ensures) (ap runOut (c .before .before .before .before .before .before .before .before .before .a .given .1)) in
+    let g = sum-onward (labels 7) (afterGroups b) w (c .before .before .before .before .before .before .before .list-zeros .ensures) (c .before .before .before .before .before .g .given .1) in
+    (sum-onward (labels 5) (afterLists b (g .value)) (g .place) (c .before .before .before .list-zeros2 .ensures) (c .before .s .given .1) .place .inside, omega arith)
+
+enum-known-p : tie.Need-enum-known-p
+enum-known-p c = search needs
+
+enum-told-4 : tie.Need-enum-told-4
+enum-told-4 c = search needs
+
+returns-4 : tie.Need-returns-4
+returns-4 c =
+    let (b, w) = letters-place _ _ (c .before .before .before .before .before .before .before .before .before .before .before .before .before .before .before .before .pre) (c .before .before .before .before .before .before .before .before .before .before .before .before .before .before .run-at .ensures) (ap runOut (c .before .before .before .before .before .before .before .before .before .before .before .before .a .given .1)) in
+    let g = sum-onward (labels 7) (afterGroups b) w (c .before .before .before .before .before .before .before .before .before .before .list-zeros .ensures) (c .before .before .before .before .before .before .before .before .g .given .1) in
+    let s = sum-onward (labels 5) (afterLists b (g .value)) (g .place) (c .before .before .before .before .before .before .list-zeros2 .ensures) (c .before .before .before .before .s .given .1) in
+    summed-cut (c .enum-told4 .given .1) (sum-cut-off (labels 5) (λ p. ret (languageIs b (g .value) (s .value) p)) (s .place) (c .before .before .list-zeros3 .ensures) (c .enum-told4 .given .1))
+
+add-t15 : tie.Need-add-t15
+add-t15 c =
+    omega (arith, sum-small (c .before .before .before .before .before .before .before .before .before .before .before .list-zeros .ensures) (c .before .before .before .before .before .before .before .before .before .g .given .1), sum-small (c .before .before .before .before .before .before .before .list-zeros2 .ensures) (c .before .before .before .before .before .s .given .1))
+
+add-t16 : tie.Need-add-t16
+add-t16 c =
+    omega (arith, sum-small (c .before .before .before .before .before .before .before .before .before .before .before .list-zeros .ensures) (c .before .before .before .before .before .before .before .before .before .g .given .1), sum-small (c .before .before .before .before .before .before .before .list-zeros2 .ensures) (c .before .before .before .before .before .s .given .1), sum-small (c .before .before .before .list-zeros3 .ensures) (c .before .p .given .1))
+
+returns-5 : tie.Need-returns-5
+returns-5 c =
+    let (b, w) = letters-place _ _ (c .before .before .before .before .before .before .before .before .before .before .before .before .before .before .before .before .before .pre) (c .before .before .before .before .before .before .before .before .before .before .before .before .before .before .before .run-at .ensures) (ap runOut (c .before .before .before .before .before .before .before .before .before .before .before .before .before .a .given .1)) in
+    let g = sum-onward (labels 7) (afterGroups b) w (c .before .before .before .before .before .before .before .before .before .before .before .list-zeros .ensures) (c .before .before .before .before .before .before .before .before .before .g .given .1) in
+    let s = sum-onward (labels 5) (afterLists b (g .value)) (g .place) (c .before .before .before .before .before .before .before .list-zeros2 .ensures) (c .before .before .before .before .before .s .given .1) in
+    let p = sum-onward (labels 5) (λ p. ret (languageIs b (g .value) (s .value) p)) (s .place) (c .before .before .before .list-zeros3 .ensures) (c .before .p .given .1) in
+    summed-done (finished (p .place) refl) (λ i. sym (g .is) i + sym (s .is) i + sym (p .is) i)
+    (omega (arith, sum-small (c .before .before .before .before .before .before .before .before .before .before .before .list-zeros .ensures) (c .before .before .before .before .before .before .before .before .before .g .given .1), sum-small (c .before .before .before .before .before .before .before .list-zeros2 .ensures) (c .before .before .before .before .before .s .given .1), sum-small (c .before .before .before .list-zeros3 .ensures) (c .before .p .given .1)))
+
+pub language-zeros-spec : {M : Type 1} → statement M
+language-zeros-spec =
+    tie.close
+    (tie.spec
+    run-at-requires
+    enum-known-a
+    enum-told
+    short-requires
+    returns
+    list-zeros-requires
+    enum-known-g
+    enum-told-2
+    returns-2
+    list-zeros-requires-2
+    enum-known-s
+    enum-told-3
+    returns-3
+    list-zeros-requires-3
+    enum-known-p
+    enum-told-4
+    returns-4
+    add-t15
+    add-t16
+    returns-5)

@@ -1,0 +1,121 @@
+-- The rows of tables 6 and 7, the top record of the text label body, and the Rust's structs, their entries as rows or as what these mean.
+use Prim.Native.Nat.{ℕ, _+_}
+use mathlib.Core.List.{List, [], _∷_, _++_, map, flatMap}
+use lib.ListN.{length, getD}
+use Rattle.wire.specs.Lists.{firsts}
+use Rattle.wire.specs.Prog.{span}
+use Rattle.wire.specs.declared.rows.Payload.{Payload}
+use Rattle.wire.specs.declared.rows.Range.{Range}
+use Rattle.frame.specs.Kind.{Rows, Bound, bounded}
+use Rattle.text_label.specs.declared.rows.TextLabelEntry.{TextLabelEntry}
+use Rattle.text_label.specs.declared.rows.DescriptionLanguage.{DescriptionLanguage}
+use Rattle.text_label.specs.declared.rows.Descriptions.{Descriptions}
+use Rattle.text_label.specs.declared.rows.TextLabelLanguage.{TextLabelLanguage}
+use Rattle.text_label.specs.declared.rows.MpegH3dAudioTextLabel.{MpegH3dAudioTextLabel}
+
+-- ---- a row of table 7: how many columns it has, and which; and the row whose first column is b
+
+abbrev pub entryColumns : ℕ
+entryColumns = 4
+
+abbrev pub entryRow : TextLabelEntry → List ℕ
+entryRow e = e .reserved ∷ e .id ∷ e .«data» .offset ∷ e .«data» .length ∷ []
+
+abbrev pub entryOf : List ℕ → ℕ → TextLabelEntry
+entryOf t b = record { reserved = getD t b 0; id = getD t (b + 1) 0; «data» = span (getD t (b + 2) 0) (getD t (b + 3) 0) }
+
+-- ---- a row of table 6
+
+abbrev pub letters : ℕ → ℕ → ℕ → DescriptionLanguage
+letters a b c = record { 0 = a; 1 = b; 2 = c }
+
+abbrev pub range : ℕ → ℕ → Range
+range i k = record { first = i; count = k }
+
+abbrev pub descriptions : ℕ → Range → Descriptions
+descriptions r e = record { reserved = r; entries = e }
+
+abbrev pub languageColumns : ℕ
+languageColumns = 12
+
+abbrev pub languageRow : TextLabelLanguage → List ℕ
+languageRow l =
+    l .language .0
+    ∷ l .language .1
+    ∷ l .language .2
+    ∷ l .groups .reserved
+    ∷ l .groups .entries .first
+    ∷ l .groups .entries .count
+    ∷ l .«switch_groups» .reserved
+    ∷ l .«switch_groups» .entries .first
+    ∷ l .«switch_groups» .entries .count
+    ∷ l .presets .reserved
+    ∷ l .presets .entries .first
+    ∷ l .presets .entries .count
+    ∷ []
+
+abbrev pub languageOf : List ℕ → ℕ → TextLabelLanguage
+languageOf t b = record {
+  language = letters (getD t b 0) (getD t (b + 1) 0) (getD t (b + 2) 0);
+  groups = descriptions (getD t (b + 3) 0) (range (getD t (b + 4) 0) (getD t (b + 5) 0));
+  «switch_groups» = descriptions (getD t (b + 6) 0) (range (getD t (b + 7) 0) (getD t (b + 8) 0));
+  presets = descriptions (getD t (b + 9) 0) (range (getD t (b + 10) 0) (getD t (b + 11) 0));
+}
+
+-- ---- the top record
+
+abbrev pub retrail : MpegH3dAudioTextLabel → Payload → MpegH3dAudioTextLabel
+retrail m r = record { «scene_info_id» = m .«scene_info_id»; reserved = m .reserved; languages = m .languages; trailing = r }
+
+unfoldable pub bounds : MpegH3dAudioTextLabel → List Bound
+bounds m =
+    bounded 256 (m .«scene_info_id») ∷ bounded 256 (m .reserved) ∷ bounded 65536 (m .languages) ∷ bounded 65536 (m .trailing .offset) ∷ bounded 65536 (m .trailing .length) ∷ []
+
+-- ---- the Rust's structs; Entry is a row of table 7, or what it means
+
+pub record Labels (Entry : Type 0) : Type 0 where
+  pub reserved : ℕ
+  pub entries : List Entry
+
+pub record Language (Entry : Type 0) : Type 0 where
+  pub language : DescriptionLanguage
+  pub groups : Labels Entry
+  pub «switch_groups» : Labels Entry
+  pub presets : Labels Entry
+
+pub record TextLabel (Entry : Type 0) : Type 0 where
+  pub «scene_info_id» : ℕ
+  pub reserved : ℕ
+  pub languages : List (Language Entry)
+
+-- in the top record a list is its count
+abbrev pub top : TextLabel TextLabelEntry → Payload → MpegH3dAudioTextLabel
+top t r = record { «scene_info_id» = t .«scene_info_id»; reserved = t .reserved; languages = length (t .languages); trailing = r }
+
+-- the three lists of a language stand in table 7 one after the other
+abbrev pub entriesOf : {Entry : Type 0} → Language Entry → List Entry
+entriesOf l = l .groups .entries ++ (l .«switch_groups» .entries ++ l .presets .entries)
+
+abbrev pub entriesIn : {Entry : Type 0} → List (Language Entry) → List Entry
+entriesIn ls = flatMap entriesOf ls
+
+-- a list from its first row on, and a language whose entries begin at row n
+abbrev pub placed : ℕ → Labels TextLabelEntry → Descriptions
+placed n d = descriptions (d .reserved) (range n (length (d .entries)))
+
+unfoldable pub languageAs : ℕ → Language TextLabelEntry → TextLabelLanguage
+languageAs n l = record {
+  language = l .language;
+  groups = placed n (l .groups);
+  «switch_groups» = placed (n + length (l .groups .entries)) (l .«switch_groups»);
+  presets = placed (n + length (l .groups .entries) + length (l .«switch_groups» .entries)) (l .presets);
+}
+
+abbrev pub languageRows : List (Language TextLabelEntry) → List TextLabelLanguage
+languageRows ls = map (λ p. languageAs (p .0) (p .1)) (firsts (λ l. length (entriesOf l)) 0 ls)
+
+unfoldable pub tables : TextLabel TextLabelEntry → List Rows
+tables t =
+    record { number = 6; columns = languageColumns; rows = map languageRow (languageRows (t .languages)) }
+    ∷ record { number = 7; columns = entryColumns; rows = map entryRow (entriesIn (t .languages)) }
+    ∷ []

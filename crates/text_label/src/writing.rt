@@ -1,0 +1,324 @@
+// Writing the text label body in two passes, each in the Rust's order: the check pass names the first fault or the length, the fill pass stores the bytes.
+ghost use mathlib.Core.Path.{_≡_};
+ghost use mathlib.Core.Bool.{true};
+ghost use mathlib.Core.List.{[], _∷_};
+ghost use Prim.Native.Nat.{_+_, _*_, _-_, _<_, _≤_, _^_};
+ghost use lib.ListN.{length};
+ghost use Rattle.wire.specs.Bits.{fit, Packed};
+ghost use Rattle.wire.specs.Act.{rows};
+ghost use Rattle.wire.specs.Pen.{reach, Checked, Quick, Ready, Filled};
+ghost use Rattle.wire.specs.declared.pen.Pen.the-variants.{At};
+ghost use Rattle.frame.specs.Entry.{whole};
+ghost use Rattle.text_label.specs.Rows.{entryColumns, languageColumns};
+ghost use Rattle.text_label.specs.Write.{entryAt, entryActs, languageAt, inside, allInside, letterActs, entriesActs, listActs, languageActs, languagesByte, rowsActs, acts, kind};
+use super::rows::DescriptionLanguage;
+use super::rows::Descriptions;
+use super::rows::ENTRY_COLUMNS;
+use super::rows::LANGUAGE_COLUMNS;
+use super::rows::MpegH3dAudioTextLabel;
+use super::rows::TextLabelEntry;
+use super::rows::TextLabelLanguage;
+use wire::bits::fits;
+use wire::bits::fits2;
+use wire::bits::pack2;
+use wire::bits::wide;
+use wire::pen;
+use wire::pen::Fault;
+use wire::pen::Pen;
+use wire::rows::Range;
+use wire::rows::has_rows;
+use wire::rows::in_store;
+use wire::rows::in_table;
+
+// ---- a row of table 7, checked: its ID has `w` bits
+
+// The range, then the fields, then the label's bytes.
+fn check_entry(n: usize, e: TextLabelEntry, w: u32, store: &[u8]) -> Pen
+    requires { ⌜ (n < 2 ^ 31) × (w < 8) ⌝ }
+    ensures { λ r. ⌜ Checked (entryActs w (now (store .entry)) e) 257 (At n) r ⌝ }
+{
+    if in_store(e.data, store) {
+        let count = e.data.length;
+        let p1 = pen::byte(Pen::At(n), fits2(e.reserved, 8 - w, e.id, w));
+        let p2 = pen::byte(p1, fits(count, 8));
+        let Pen::At(begins) = p2 else {
+            return p2;
+        };
+        Pen::At(begins + (count as usize))
+    } else {
+        Pen::Stop(Fault::Range, n)
+    }
+}
+
+// The bytes of an entry, or 0 if it has a fault: in almost every row nothing is wrong, and this is seen at once.
+fn plain_bytes(e: TextLabelEntry, w: u32, store: &[u8]) -> usize
+    requires { ⌜ w < 8 ⌝ }
+    ensures { λ r. ⌜ Quick (entryActs w (now (store .entry)) e) 257 r ⌝ }
+{
+    let count = e.data.length;
+    if in_store(e.data, store) & (fits2(e.reserved, 8 - w, e.id, w) & fits(count, 8)) {
+        2 + (count as usize)
+    } else {
+        0
+    }
+}
+
+// The rows of a list; a row with a fault ends it, and is looked at again to name the fault.
+fn check_entries(n: usize, entries: &[u16], r: Range, w: u32, store: &[u8]) -> Pen
+    requires { ⌜ (inside r (now entries) ≡ true) × (r .count < 2 ^ w) × (n < 2 ^ 30) × (w < 8) ⌝ }
+    ensures { λ p. ⌜ Checked (entriesActs w (now (entries .entry)) (now (store .entry)) r) (257 * r .count) (At n) p ⌝ }
+{
+    let end = (r.first as usize) + (r.count as usize);
+    let mut at = n;
+    let mut i = r.first as usize;
+    while i < end {
+        let e = TextLabelEntry::of_columns(entries, i * ENTRY_COLUMNS);
+        let bytes = plain_bytes(e, w, store);
+        if bytes == 0 {
+            return check_entry(at, e, w, store);
+        }
+        at += bytes;
+        i += 1;
+    }
+    Pen::At(at)
+}
+
+// ---- a row of table 6, checked
+
+fn check_letters(n: usize, l: DescriptionLanguage) -> Pen
+    requires { ⌜ n < 2 ^ 31 ⌝ }
+    ensures { λ r. ⌜ Checked (letterActs l) 3 (At n) r ⌝ }
+{
+    let p1 = pen::byte(Pen::At(n), fits(l.0, 8));
+    let p2 = pen::byte(p1, fits(l.1, 8));
+    pen::byte(p2, fits(l.2, 8))
+}
+
+// A list whose IDs have `w` bits: its count, and its entries if the count fits.
+fn check_list(p: Pen, d: Descriptions, w: u32, entries: &[u16], store: &[u8]) -> Pen
+    requires { ⌜ (inside (d .entries) (now entries) ≡ true) × (reach p < 2 ^ 29) × (w < 8) ⌝ }
+    ensures { λ r. ⌜ Checked (listActs w (now (entries .entry)) (now (store .entry)) d) (1 + 257 * (2 ^ w - 1)) p r ⌝ }
+{
+    let p1 = pen::byte(p, fits2(d.reserved, 8 - w, d.entries.count, w));
+    let Pen::At(n) = p1 else {
+        return p1;
+    };
+    check_entries(n, entries, d.entries, w, store)
+}
+
+// Whether the entries of its three lists stand in the table.
+fn all_inside(l: TextLabelLanguage, entries: &[u16]) -> bool
+    ensures { λ r. ⌜ r ≡ allInside l (now (entries .entry)) ⌝ }
+{
+    let groups = in_table(l.groups.entries, entries, ENTRY_COLUMNS);
+    let switch_groups = in_table(l.switch_groups.entries, entries, ENTRY_COLUMNS);
+    let presets = in_table(l.presets.entries, entries, ENTRY_COLUMNS);
+    groups & (switch_groups & presets)
+}
+
+// The ranges, then the fields and lists.
+fn check_language(n: usize, l: TextLabelLanguage, entries: &[u16], store: &[u8]) -> Pen
+    requires { ⌜ n < 2 ^ 24 ⌝ }
+    ensures { λ r. ⌜ Checked (languageActs (now (entries .entry)) (now (store .entry)) l) 48579 (At n) r ⌝ }
+{
+    if all_inside(l, entries) {
+        let p1 = check_letters(n, l.language);
+        let p2 = check_list(p1, l.groups, 7, entries, store);
+        let p3 = check_list(p2, l.switch_groups, 5, entries, store);
+        check_list(p3, l.presets, 5, entries, store)
+    } else {
+        Pen::Stop(Fault::Range, n)
+    }
+}
+
+// The rows of table 6 from the first; a fault ends it.
+fn check_languages(n: usize, languages: &[u16], count: usize, entries: &[u16], store: &[u8]) -> Pen
+    requires { ⌜ (count * languageColumns ≤ length (now languages)) × (count < 16) × (n < 2 ^ 16) ⌝ }
+    ensures { λ r. ⌜ Checked (rowsActs (now (languages .entry) ∷ now (entries .entry) ∷ []) (now (store .entry)) count) (48579 * count) (At n) r ⌝ }
+{
+    let mut at = n;
+    let mut i: usize = 0;
+    while i < count {
+        let l = TextLabelLanguage::of_columns(languages, i * LANGUAGE_COLUMNS);
+        let p = check_language(at, l, entries, store);
+        let Pen::At(next) = p else {
+            return p;
+        };
+        at = next;
+        i += 1;
+    }
+    Pen::At(at)
+}
+
+// ---- the body, checked
+
+// All but the trailing run.
+fn check_fields(m: MpegH3dAudioTextLabel, languages: &[u16], entries: &[u16], store: &[u8]) -> Pen
+    ensures { λ r. ⌜ Checked (acts m (now (languages .entry) ∷ now (entries .entry) ∷ []) (now (store .entry))) 728687 (At 0) r ⌝ }
+{
+    let count = m.languages;
+    if has_rows(languages, LANGUAGE_COLUMNS, count as usize) {
+        let p1 = pen::byte(Pen::At(0), fits(wide(m.scene_info_id), 8));
+        let p2 = pen::byte(p1, languages_fit(m));
+        let Pen::At(n) = p2 else {
+            return p2;
+        };
+        check_languages(n, languages, count as usize, entries, store)
+    } else {
+        Pen::Stop(Fault::Range, 0)
+    }
+}
+
+// The whole: its first fault, or its length.
+pub fn check(m: MpegH3dAudioTextLabel, languages: &[u16], entries: &[u16], store: &[u8]) -> Pen
+    ensures { λ r. ⌜ Checked (whole kind m (now (languages .entry) ∷ now (entries .entry) ∷ []) (now (store .entry))) 794222 (At 0) r ⌝ }
+{
+    let trailing = m.trailing;
+    if in_store(trailing, store) {
+        let count = trailing.length;
+        pen::run(check_fields(m, languages, entries, store), count as usize)
+    } else {
+        Pen::Stop(Fault::Range, 0)
+    }
+}
+
+// ---- the fill pass
+
+// An entry whose ID has `w` bits: its fields, and the label's bytes from the store.
+fn fill_entry(e: TextLabelEntry, w: u32, store: &[u8], out: &mut [u8], n: usize) -> usize
+    requires { ⌜ Ready (entryActs w (now store) e) n (now out) × (w < 8) ⌝ }
+    ensures { λ r. ⌜ Filled (entryActs w (now (store .entry)) e) n (now (out .entry)) r (now (out .exit)) ⌝ }
+{
+    let from = e.data.offset;
+    let count = e.data.length;
+    let n1 = pen::put(out, n, pack2(e.reserved, 8 - w, e.id, w));
+    let n2 = pen::put(out, n1, count);
+    pen::copy(out, n2, store, from as usize, count as usize)
+}
+
+// The rows of a list.
+fn fill_entries(entries: &[u16], r: Range, w: u32, store: &[u8], out: &mut [u8], n: usize) -> usize
+    requires { ⌜ (inside r (now entries) ≡ true) × Ready (entriesActs w (now entries) (now store) r) n (now out) × (w < 8) ⌝ }
+    ensures { λ k. ⌜ Filled (entriesActs w (now (entries .entry)) (now (store .entry)) r) n (now (out .entry)) k (now (out .exit)) ⌝ }
+{
+    let end = (r.first as usize) + (r.count as usize);
+    let mut at = n;
+    let mut i = r.first as usize;
+    while i < end {
+        let e = TextLabelEntry::of_columns(entries, i * ENTRY_COLUMNS);
+        at = fill_entry(e, w, store, out, at);
+        i += 1;
+    }
+    at
+}
+
+fn fill_letters(l: DescriptionLanguage, out: &mut [u8], n: usize) -> usize
+    requires { ⌜ Ready (letterActs l) n (now out) ⌝ }
+    ensures { λ r. ⌜ Filled (letterActs l) n (now (out .entry)) r (now (out .exit)) ⌝ }
+{
+    let n1 = pen::put(out, n, l.0);
+    let n2 = pen::put(out, n1, l.1);
+    pen::put(out, n2, l.2)
+}
+
+// A list whose IDs have `w` bits.
+fn fill_list(
+    d: Descriptions,
+    w: u32,
+    entries: &[u16],
+    store: &[u8],
+    out: &mut [u8],
+    n: usize,
+) -> usize
+    requires { ⌜ (inside (d .entries) (now entries) ≡ true) × Ready (listActs w (now entries) (now store) d) n (now out) × (w < 8) ⌝ }
+    ensures { λ r. ⌜ Filled (listActs w (now (entries .entry)) (now (store .entry)) d) n (now (out .entry)) r (now (out .exit)) ⌝ }
+{
+    let n1 = pen::put(out, n, pack2(d.reserved, 8 - w, d.entries.count, w));
+    fill_entries(entries, d.entries, w, store, out, n1)
+}
+
+fn fill_language(
+    l: TextLabelLanguage,
+    entries: &[u16],
+    store: &[u8],
+    out: &mut [u8],
+    n: usize,
+) -> usize
+    requires { ⌜ Ready (languageActs (now entries) (now store) l) n (now out) ⌝ }
+    ensures { λ r. ⌜ Filled (languageActs (now (entries .entry)) (now (store .entry)) l) n (now (out .entry)) r (now (out .exit)) ⌝ }
+{
+    let n1 = fill_letters(l.language, out, n);
+    let n2 = fill_list(l.groups, 7, entries, store, out, n1);
+    let n3 = fill_list(l.switch_groups, 5, entries, store, out, n2);
+    fill_list(l.presets, 5, entries, store, out, n3)
+}
+
+// The rows of table 6, from the first.
+fn fill_languages(
+    languages: &[u16],
+    count: usize,
+    entries: &[u16],
+    store: &[u8],
+    out: &mut [u8],
+    n: usize,
+) -> usize
+    requires { ⌜ (count * languageColumns ≤ length (now languages)) × (count < 2 ^ 16) × Ready (rowsActs (now languages ∷ now entries ∷ []) (now store) count) n (now out) ⌝ }
+    ensures { λ r. ⌜ Filled (rowsActs (now (languages .entry) ∷ now (entries .entry) ∷ []) (now (store .entry)) count) n (now (out .entry)) r (now (out .exit)) ⌝ }
+{
+    let mut at = n;
+    let mut i: usize = 0;
+    while i < count {
+        let l = TextLabelLanguage::of_columns(languages, i * LANGUAGE_COLUMNS);
+        at = fill_language(l, entries, store, out, at);
+        i += 1;
+    }
+    at
+}
+
+// All but the trailing run.
+fn fill_fields(
+    m: MpegH3dAudioTextLabel,
+    languages: &[u16],
+    entries: &[u16],
+    store: &[u8],
+    out: &mut [u8],
+) -> usize
+    requires { ⌜ Ready (acts m (now languages ∷ now entries ∷ []) (now store)) 0 (now out) ⌝ }
+    ensures { λ r. ⌜ Filled (acts m (now (languages .entry) ∷ now (entries .entry) ∷ []) (now (store .entry))) 0 (now (out .entry)) r (now (out .exit)) ⌝ }
+{
+    let count = m.languages;
+    let n1 = pen::put(out, 0, wide(m.scene_info_id));
+    let n2 = pen::put(out, n1, languages_byte(m));
+    fill_languages(languages, count as usize, entries, store, out, n2)
+}
+
+pub fn fill(
+    m: MpegH3dAudioTextLabel,
+    languages: &[u16],
+    entries: &[u16],
+    store: &[u8],
+    out: &mut [u8],
+) -> usize
+    requires { ⌜ Ready (whole kind m (now languages ∷ now entries ∷ []) (now store)) 0 (now out) ⌝ }
+    ensures { λ r. ⌜ Filled (whole kind m (now (languages .entry) ∷ now (entries .entry) ∷ []) (now (store .entry))) 0 (now (out .entry)) r (now (out .exit)) ⌝ }
+{
+    let from = m.trailing.offset;
+    let count = m.trailing.length;
+    let n = fill_fields(m, languages, entries, store, out);
+    pen::copy(out, n, store, from as usize, count as usize)
+}
+
+// ---- the byte before the languages
+
+fn languages_fit(m: MpegH3dAudioTextLabel) -> bool
+    ensures { λ r. ⌜ r ≡ fit (languagesByte m) ⌝ }
+{
+    fits2(wide(m.reserved), 4, m.languages, 4)
+}
+
+fn languages_byte(m: MpegH3dAudioTextLabel) -> u16
+    requires { ⌜ fit (languagesByte m) ≡ true ⌝ }
+    ensures { λ r. ⌜ Packed (languagesByte m) r ⌝ }
+{
+    pack2(wide(m.reserved), 4, m.languages, 4)
+}
