@@ -3,6 +3,8 @@
 mod base_bodies;
 mod multi_stream_bodies;
 mod show;
+mod text_label_bodies;
+mod text_label_values;
 
 fn main() {
     let zeros = io::large_buffer();
@@ -14,4 +16,9 @@ fn main() {
     multi_stream_bodies::full(0x00, 0xFF);
     multi_stream_bodies::full(0x80, 0x7F);
     multi_stream_bodies::full(0x00, 0x7F);
+    text_label_bodies::read_all(&zeros);
+    text_label_bodies::write_all();
+    text_label_bodies::full();
+    text_label_values::write_all(&zeros);
+    text_label_values::largest(&zeros);
 }

@@ -1,4 +1,5 @@
 // Lines of numbers on standard output.
+ghost use Prim.Native.Nat.{_<_};
 use frame::Refusal;
 use frame::Tallied;
 use frame::Written;
@@ -77,11 +78,52 @@ pub fn columns(table: &[u16]) {
     end();
 }
 
+fn next_digest(digest: u64, column: u16) -> u64
+    requires { ⌜ digest < 4294967291 ⌝ }
+    ensures { λ r. ⌜ r < 4294967291 ⌝ }
+{
+    (digest * 65599 + (column as u64)) % 4294967291
+}
+
+// How many columns a table has, and a number that tells their contents from others, for tables too long to show.
+pub fn digest(table: &[u16]) {
+    let mut sum: u64 = 0;
+    let mut i: usize = 0;
+    while i < table.len() {
+        sum = next_digest(sum, table[i]);
+        i += 1;
+    }
+    pair(table.len(), sum as usize);
+}
+
+fn byte(b: u8) -> usize {
+    b as usize
+}
+
+// How many bytes, and the bytes.
+pub fn bytes(s: &[u8]) {
+    number(s.len());
+    let mut i: usize = 0;
+    while i < s.len() {
+        then(byte(s[i]));
+        i += 1;
+    }
+    end();
+}
+
 // Whether the output begins with the body: 1 or 0.
 pub fn same_front(out: &[u8], body: &[u8]) {
     let n = body.len();
     if n <= out.len() {
         number(check::same(&out[0..n], body) as usize);
         end();
+    }
+}
+
+// The output behind the body.
+pub fn behind(out: &[u8], body: &[u8]) {
+    let n = body.len();
+    if n <= out.len() {
+        bytes(&out[n..]);
     }
 }
