@@ -1,7 +1,7 @@
 -- Rows of tables 6 and 7 that were stored are found again: as many as the languages, each with its own entries.
 use Prim.Native.Nat.{ℕ, _+_}
 use mathlib.Core.Path.{_≡_, refl, sym, ap, _∙_}
-use mathlib.Core.List.{List, [], _∷_, _++_, map, map-map, flatten}
+use mathlib.Core.List.{List, _++_, map, map-map, flatten}
 use lib.ListN.{length, drop, length-map}
 use lib.Seq.{getD-append-seam, getD-append-add}
 use Rattle.wire.specs.Lists.{Every, each, firsts}
@@ -11,7 +11,7 @@ use Rattle.wire.proofs.Nest.{firsts-length, map-firsts, Stands, stands-split, s
 use Rattle.text_label.specs.declared.rows.TextLabelEntry.{TextLabelEntry}
 use Rattle.text_label.specs.declared.rows.TextLabelLanguage.{TextLabelLanguage}
 use Rattle.text_label.specs.Rows.{entryColumns, entryRow, entryOf, languageColumns, languageRow, languageOf, Labels, Language, entriesOf, entriesIn, placed, languageAs, languageRows}
-use Rattle.text_label.specs.Write.{entryAt, languageAt, Label, label, listValue, languageValue}
+use Rattle.text_label.specs.Write.{entryAt, languageAt, label, listValue, languageValue}
 use Rattle.text_label.proofs.Format.{labelsMeant, languageMeant}
 
 -- ---- a row

@@ -1,6 +1,6 @@
 -- The text label kind is lawful: its record, its tables and its actions are those of its format.
 use Prim.Native.Nat.{ℕ, _+_, _-_, _/_, _≤_, _<_}
-use mathlib.Core.List.{List, [], _∷_, _++_, map, map-map, flatten, flatMap}
+use mathlib.Core.List.{List, [], _∷_, _++_, map, flatten}
 use mathlib.Core.Bool.{true}
 use mathlib.Core.Path.{_≡_, refl, sym, ap, subst, _∙_}
 use native.Mathlib.Omega.{arith}
@@ -30,7 +30,7 @@ use Rattle.text_label.specs.declared.rows.TextLabelLanguage.{TextLabelLa
 use Rattle.text_label.specs.declared.rows.MpegH3dAudioTextLabel.{MpegH3dAudioTextLabel}
 use Rattle.text_label.specs.Rows.{entryColumns, entryRow, entryOf, languageColumns, languageRow, languageOf, Labels, Language, TextLabel, bounds, top, entriesOf, entriesIn, placed, languageAs, languageRows, tables}
 use Rattle.text_label.specs.Read.{language, parse}
-use Rattle.text_label.specs.Write.{entryAt, stored, bytesOf, idByte, entryActs, languageAt, countByte, letterActs, listActs, languageActs, languagesByte, acts, Label, label, listValue, languageValue, value, payloads, kind}
+use Rattle.text_label.specs.Write.{entryAt, bytesOf, idByte, entryActs, languageAt, letterActs, listActs, languageActs, acts, Label, label, listValue, languageValue, value, payloads, kind}
 use Rattle.text_label.proofs.Parsed.{language-run, labels-weigh, entries-long, body-run}
 use Rattle.text_label.proofs.Format.{labelsMeant, languageMeant, bodyMeant, labelListed, labelsListed, languageListed, bodyListed, format, format-reads, format-means, format-spans, format-acts, format-fits}
 use Rattle.text_label.proofs.Found.{entry-found, language-found, rows-counted, languages-found, Standing, Standing-all, entries-stand, languages-laid}
@@ -62,7 +62,7 @@ language-bare t store l m =
     let (b, c) = met-both s p r in
     ap (λ (q : List Act). letterActs (l .language) ++ q) (bare-append g (s ++ p) ∙ ap (λ (q : List Act). bare g ++ q) (bare-append s p) ∙ λ i. list-bare 7 t store (l .groups) a i ++ (list-bare 5 t store (l .«switch_groups») b i ++ list-bare 5 t store (l .presets) c i))
 
-body-bare : (m : MpegH3dAudioTextLabel) (lent : Lent) (store : List ℕ) → Met (acts m lent store) → bare (acts m lent store) ≡ bodyListed (value m lent store)
+pub body-bare : (m : MpegH3dAudioTextLabel) (lent : Lent) (store : List ℕ) → Met (acts m lent store) → bare (acts m lent store) ≡ bodyListed (value m lent store)
 unfolding acts value Met bare
 body-bare m lent store e =
     let f : ℕ → Language Label = λ i. languageValue (first (others lent)) store (languageAt (first lent) i) in

@@ -5,4 +5,5 @@ pub mod Found
 pub mod Sighted
 pub mod Stored
 pub mod Laws
+pub mod Largest
 pub mod Claims

@@ -17,12 +17,10 @@ use Rattle.wire.proofs.Loops.{many-weighs}
 use Rattle.wire.proofs.Nest.{flat-length}
 use Rattle.wire.proofs.Tables.{flat-of-map, rows-stored}
 use Rattle.frame.specs.Numbers.{accepted}
-use Rattle.frame.specs.Kind.{Lent}
 use Rattle.frame.specs.Entry.{Sound, Need, needs, first, others, room, lacking, filled, judging, sizes, onto}
 use Rattle.frame.specs.Sight.{Sight, sight, Seen, Roomy, Fills}
 use Rattle.frame.proofs.Judged.{ran-well, onto-sound}
 use Rattle.text_label.specs.declared.rows.TextLabelEntry.{TextLabelEntry}
-use Rattle.text_label.specs.declared.rows.TextLabelLanguage.{TextLabelLanguage}
 use Rattle.text_label.specs.declared.rows.MpegH3dAudioTextLabel.{MpegH3dAudioTextLabel}
 use Rattle.text_label.specs.Rows.{entryColumns, entryRow, entryOf, languageColumns, languageRow, languageOf, Language, TextLabel, top, entriesOf, entriesIn, languageAs, languageRows, tables}
 use Rattle.text_label.specs.Read.{language, parse}

@@ -1,23 +1,21 @@
 -- What the tests of a value that is written say: the rows of a list stand in table 7, a count or a length fits its byte, a label stands in the store; and an entry without a fault is seen at once.
 use Prim.Native.Nat.{ℕ, suc, _+_, _*_, _-_, _/_, _^_, _≤_, _<_}
-use mathlib.Core.Path.{_≡_, refl, sym, ap, _∙_}
+use mathlib.Core.Path.{_≡_, sym, ap, _∙_}
 use mathlib.Core.List.{List, [], _∷_, _++_, append-nil}
 use mathlib.Core.Bool.{Bool, true, false, _&&_, and-true}
 use native.Mathlib.Omega.{arith}
-use native.Mathlib.Nat.{add-sub-cancel-left}
-use lib.ListN.{length, set}
+use lib.ListN.{length}
 use lib.Dec.{leb, ltb}
 use borrow.Author.Tests.{leb-true, ltb-true}
-use Rattle.wire.specs.Bits.{Field, field, fit, join}
-use Rattle.wire.specs.Act.{Act, byte, copy, pick, rows}
-use Rattle.wire.specs.Pen.{look, glance, looks, Checked, Quick, clean, bytes, Ready, Filled}
-use Rattle.wire.specs.declared.pen.Fault.the-variants as F
+use Rattle.wire.specs.Bits.{fit}
+use Rattle.wire.specs.Act.{Act, copy}
+use Rattle.wire.specs.Pen.{look, Checked, Quick, clean, bytes}
 use Rattle.wire.specs.declared.pen.Pen.{Pen}
-use Rattle.wire.specs.declared.pen.Pen.the-variants.{At, Stop}
+use Rattle.wire.specs.declared.pen.Pen.the-variants.{At}
 use Rattle.wire.specs.declared.rows.Payload.{Payload}
 use Rattle.wire.specs.declared.rows.Range.{Range}
-use Rattle.wire.proofs.Fields.{fit-one, fits-cons, join-first}
-use Rattle.wire.proofs.Passes.{Filling, one, byte-ready, fill-byte, quick-clean, slice-long}
+use Rattle.wire.proofs.Fields.{fit-one}
+use Rattle.wire.proofs.Passes.{one, quick-clean, slice-long}
 use Rattle.wire.proofs.Acts.{and-both}
 use Rattle.text_label.specs.Rows.{entryColumns, languageColumns}
 use Rattle.text_label.specs.declared.rows.TextLabelEntry.{TextLabelEntry}
@@ -50,40 +48,9 @@ entryActsAt w entries store i = entryActs w store (entryAt entries i)
 abbrev pub languageActsAt : List ℕ → List ℕ → List ℕ → ℕ → List Act
 languageActsAt languages entries store i = languageActs entries store (languageAt languages i)
 
--- a loop from the first row to the end has gone through all of them
-module _ (f : ℕ → List Act) (first count : ℕ) where
-  pub all-checked : {k : ℕ} {p r : Pen} → Checked (rows f first (first + count - first)) k p r → Checked (rows f first count) k p r
-  all-checked w = rw add-sub-cancel-left at w
-
-  pub all-filled : {n r : ℕ} {l o : List ℕ} → Filled (rows f first (first + count - first)) n l r o → Filled (rows f first count) n l r o
-  all-filled w = rw add-sub-cancel-left at w
-
 -- the bytes of a list whose count is below `most`
 pub list-near : (count most : ℕ) → count < most → 1 + 257 * count ≤ 1 + 257 * (most - 1)
 list-near count most h = omega arith
-
--- ---- a byte that was passed
-
-at-fits : (b : Bool) (m n : ℕ) → pick b (At (m + 1)) (Stop F.Field m) ≡ At n → b ≡ true
-at-fits true m n e = refl
-at-fits false m n e = let z : _≡_ {A = ℕ} 0 1 = cc e in absurd (omega arith)
-
-pub byte-fits : {fs : List Field} {k n : ℕ} (p : Pen) {r : Pen} → Checked (byte fs ∷ []) k p r → r ≡ At n → fit fs ≡ true
-unfolding looks glance look
-byte-fits {fs} {n = n} (At m) w e = at-fits (fit fs) m n (sym (w .pens) ∙ e)
-byte-fits {fs} {n = n} (Stop f m) w e =
-    let s : Stop f m ≡ At n = sym (w .pens) ∙ e in
-    let z : _≡_ {A = ℕ} 0 1 = cc s in
-    absurd (omega arith)
-
--- ---- a byte of one column
-
-pub column-ready : {v n : ℕ} {q : List Act} {l : List ℕ} → Ready (byte (field 8 v ∷ []) ∷ q) n l → (v < 256) × (n < length l)
-column-ready {v} r = let b = byte-ready r in (fits-cons 8 v [] (b .0) .0, b .1)
-
-pub fill-column : {all q : List Act} {v n₀ n r : ℕ} {l o o′ : List ℕ} → Filling all (byte (field 8 v ∷ []) ∷ q) n₀ l n o → (r ≡ n + 1) × (o′ ≡ set o n v) → Filling all q n₀ l r o′
-unfolding join
-fill-column {v = v} w p = fill-byte w (sym (join-first 8 v [])) p
 
 -- ---- a label
 

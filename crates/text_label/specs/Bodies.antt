@@ -1,6 +1,6 @@
 -- Records and rows of text label bodies: what the claims and the starred list compare with.
 use Prim.Native.Nat.{ℕ}
-use mathlib.Core.List.{List, [], _∷_}
+use mathlib.Core.List.{List, _∷_}
 use Rattle.wire.specs.Prog.{span}
 use Rattle.text_label.specs.declared.rows.MpegH3dAudioTextLabel.{MpegH3dAudioTextLabel}
 

@@ -125,9 +125,9 @@ fn language_rows(body: &[u8], at: usize) -> Sum
     requires { ⌜ at ≤ length (now body) ⌝ }
     ensures { λ r. ⌜ Summed language (λ l. length (entriesOf l)) 381 (now (body .entry)) at r ⌝ }
 {
-    let a = run_at(body, at, 3);
-    let Run::Got(_, n1) = a else {
-        return Sum::Short(a.short());
+    let letters = run_at(body, at, 3);
+    let Run::Got(_, n1) = letters else {
+        return Sum::Short(letters.short());
     };
     let g = list_rows(body, n1, 7);
     let Sum::Got(groups, n2) = g else {

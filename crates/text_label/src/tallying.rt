@@ -86,9 +86,9 @@ fn language_zeros(body: &[u8], at: usize) -> Sum
     requires { ⌜ at ≤ length (now body) ⌝ }
     ensures { λ r. ⌜ Summed language languageTally 3072 (now (body .entry)) at r ⌝ }
 {
-    let a = run_at(body, at, 3);
-    let Run::Got(_, n1) = a else {
-        return Sum::Short(a.short());
+    let letters = run_at(body, at, 3);
+    let Run::Got(_, n1) = letters else {
+        return Sum::Short(letters.short());
     };
     let g = list_zeros(body, n1, 7);
     let Sum::Got(groups, n2) = g else {

@@ -5,17 +5,18 @@ use mathlib.Core.Path.{_≡_, refl, sym, ap, _∙_}
 use mathlib.Core.List.{List, [], _∷_, _++_, append-nil, flatten}
 use mathlib.Core.Bool.{Bool, true, false}
 use native.Mathlib.Omega.{arith}
-use native.Mathlib.Nat.{add-zero}
+use native.Mathlib.Nat.{add-zero, add-sub-cancel-left}
 use lib.ListN.{length, set, getD, take, drop, length-append, length-set}
 use lib.Seq.{sets, slice, length-slice, getD-drop, getD-take}
 use Rattle.wire.specs.Lists.{each}
-use Rattle.wire.specs.Bits.{Field, fit, join}
+use Rattle.wire.specs.Bits.{Field, field, fit, join}
 use Rattle.wire.specs.Act.{Act, demand, byte, copy, pick, rows, Settled, fault, image, ahead, settle}
 use Rattle.wire.specs.Pen.{look, glance, looks, reach, Checked, CheckedRun, Quick, clean, bytes, Ready, Filled}
 use Rattle.wire.specs.declared.pen.Fault.{Fault}
 use Rattle.wire.specs.declared.pen.Fault.the-variants as F
 use Rattle.wire.specs.declared.pen.Pen.{Pen}
 use Rattle.wire.specs.declared.pen.Pen.the-variants.{At, Stop}
+use Rattle.wire.proofs.Fields.{fits-cons, join-first}
 use Rattle.wire.proofs.Steps.{sets-turn, sets-end, sets-append, front-stored}
 use Rattle.wire.proofs.Acts.{and-both, bytes-append, clean-both, settles}
 
@@ -65,6 +66,19 @@ pub passed : (f : Fault) (n : ℕ) {q : List Act} {k : ℕ} {r : Pen} → Checke
 unfolding looks glance look
 passed f n w = record { pens = w .pens; near = w .near }
 
+-- a byte that was passed has fields that fit
+at-fits : (b : Bool) (m n : ℕ) → pick b (At (m + 1)) (Stop F.Field m) ≡ At n → b ≡ true
+at-fits true m n e = refl
+at-fits false m n e = let z : _≡_ {A = ℕ} 0 1 = cc e in absurd (omega arith)
+
+pub byte-fits : {fs : List Field} {k n : ℕ} (p : Pen) {r : Pen} → Checked (byte fs ∷ []) k p r → r ≡ At n → fit fs ≡ true
+unfolding looks glance look
+byte-fits {fs} {n = n} (At m) w e = at-fits (fit fs) m n (sym (w .pens) ∙ e)
+byte-fits {fs} {n = n} (Stop f m) w e =
+    let s : Stop f m ≡ At n = sym (w .pens) ∙ e in
+    let z : _≡_ {A = ℕ} 0 1 = cc s in
+    absurd (omega arith)
+
 -- ---- the fill pass
 
 -- what the first part requires, and what the rest requires after it
@@ -101,6 +115,10 @@ byte-ready {fs} {q} h = (and-both (fit fs) (clean q) (h .sound) .0, omega (arith
 pub byte-put : {fs : List Field} {n r b : ℕ} {l o : List ℕ} → b ≡ join 0 fs → r ≡ n + 1 → o ≡ set l n b → Filled (byte fs ∷ []) n l r o
 unfolding bytes
 byte-put e h g = record { place = h; holds = g ∙ rw e }
+
+-- a byte of one column
+pub column-ready : {v n : ℕ} {q : List Act} {l : List ℕ} → Ready (byte (field 8 v ∷ []) ∷ q) n l → (v < 256) × (n < length l)
+column-ready {v} r = let b = byte-ready r in (fits-cons 8 v [] (b .0) .0, b .1)
 
 -- ---- a part of the store, copied byte by byte
 
@@ -141,6 +159,14 @@ rows-turn f i n h = let e : n - i ≡ suc (n - (i + 1)) = omega arith in rw e
 pub rows-end : (f : ℕ → List Act) (i n : ℕ) → n ≤ i → rows f i (n - i) ≡ []
 unfolding rows each flatten
 rows-end f i n h = let e : n - i ≡ 0 = omega arith in rw e
+
+-- a loop from the first row to the end has gone through all of them
+module _ (f : ℕ → List Act) (first count : ℕ) where
+  pub all-checked : {k : ℕ} {p r : Pen} → Checked (rows f first (first + count - first)) k p r → Checked (rows f first count) k p r
+  all-checked w = rw add-sub-cancel-left at w
+
+  pub all-filled : {n r : ℕ} {l o : List ℕ} → Filled (rows f first (first + count - first)) n l r o → Filled (rows f first count) n l r o
+  all-filled w = rw add-sub-cancel-left at w
 
 -- within a loop: all the actions, from where it began, come to what is left of them, from here
 pub record Checking (all left : List Act) (k : ℕ) (p q : Pen) : Type 0 where
@@ -195,6 +221,10 @@ fill-demand v = record { ready = unskip (v .ready); size = v .size; place = v .p
 
 pub fill-byte : {all q : List Act} {fs : List Field} {n₀ n r b : ℕ} {l o o′ : List ℕ} → Filling all (byte fs ∷ q) n₀ l n o → b ≡ join 0 fs → (r ≡ n + 1) × (o′ ≡ set o n b) → Filling all q n₀ l r o′
 fill-byte {n = n} {b = b} {o = o} v e p = fill-turn v refl (ap length (p .1) ∙ length-set o n b) (byte-put e (p .0) (p .1))
+
+pub fill-column : {all q : List Act} {v n₀ n r : ℕ} {l o o′ : List ℕ} → Filling all (byte (field 8 v ∷ []) ∷ q) n₀ l n o → (r ≡ n + 1) × (o′ ≡ set o n v) → Filling all q n₀ l r o′
+unfolding join
+fill-column {v = v} w p = fill-byte w (sym (join-first 8 v [])) p
 
 -- what is left is filled by one call
 pub fill-last : {all left : List Act} {n₀ n r : ℕ} {l o o′ : List ℕ} → Filling all left n₀ l n o → Filled left n o r o′ → Filled all n₀ l r o′

@@ -1,5 +1,4 @@
 -- `text_label::parsing::entry_at` meets its contract: the bytes of an entry that is there, and its row.
-use mathlib.Core.Path.{sym, ap, _∙_}
 use native.Mathlib.Omega.{arith}
 use Rattle.text_label.proofs.Parsed.{entry-there, entry-is}
 use borrow.Author.Needs.{needs}

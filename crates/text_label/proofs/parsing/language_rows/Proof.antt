@@ -1,6 +1,6 @@
 -- `text_label::parsing::language_rows` meets its contract: the rows of the three lists, one after the other.
 use mathlib.Core.Path.{refl, ap, sym, _∙_}
-use Prim.Native.Nat.{ℕ, _+_}
+use Prim.Native.Nat.{_+_}
 use native.Mathlib.Omega.{arith}
 use Rattle.wire.specs.Reads.{runOut}
 use Rattle.wire.proofs.Loops.{summed-done, summed-short, summed-cut, sum-small, sum-onward, sum-cut-off}
@@ -15,8 +15,8 @@ use Rattle.text_label.proofs.parsing.language_rows.Tie as tie
 run-at-requires : tie.Need-run-at-requires
 run-at-requires c κs = search needs
 
-enum-known-a : tie.Need-enum-known-a
-enum-known-a c = search needs
+enum-known-letters : tie.Need-enum-known-letters
+enum-known-letters c = search needs
 
 enum-told : tie.Need-enum-told
 enum-told c = search needs
@@ -30,7 +30,7 @@ returns c =
 
 list-rows-requires : tie.Need-list-rows-requires
 list-rows-requires c κs =
-    (letters-place _ _ (c .before .before .before .before .before .pre) (c .before .before .before .run-at .ensures) (ap runOut (c .before .a .given .1)) .1 .inside, omega arith)
+    (letters-place _ _ (c .before .before .before .before .before .pre) (c .before .before .before .run-at .ensures) (ap runOut (c .before .letters .given .1)) .1 .inside, omega arith)
 
 enum-known-g : tie.Need-enum-known-g
 enum-known-g c = search needs
@@ -40,12 +40,12 @@ enum-told-2 c = search needs
 
 returns-2 : tie.Need-returns-2
 returns-2 c =
-    let (b, w) = letters-place _ _ (c .before .before .before .before .before .before .before .before .pre) (c .before .before .before .before .before .before .run-at .ensures) (ap runOut (c .before .before .before .before .a .given .1)) in
+    let (b, w) = letters-place _ _ (c .before .before .before .before .before .before .before .before .pre) (c .before .before .before .before .before .before .run-at .ensures) (ap runOut (c .before .before .before .before .letters .given .1)) in
     summed-cut (c .enum-told2 .given .1) (sum-cut-off (labels 7) (afterGroups b) w (c .before .before .list-rows .ensures) (c .enum-told2 .given .1))
 
 list-rows-requires-2 : tie.Need-list-rows-requires-2
 list-rows-requires-2 c κs =
-    let (b, w) = letters-place _ _ (c .before .before .before .before .before .before .before .before .before .pre) (c .before .before .before .before .before .before .before .run-at .ensures) (ap runOut (c .before .before .before .before .before .a .given .1)) in
+    let (b, w) = letters-place _ _ (c .before .before .before .before .before .before .before .before .before .pre) (c .before .before .before .before .before .before .before .run-at .ensures) (ap runOut (c .before .before .before .before .before .letters .given .1)) in
     (sum-onward (labels 7) (afterGroups b) w (c .before .before .before .list-rows .ensures) (c .before .g .given .1) .place .inside, omega arith)
 
 enum-known-s : tie.Need-enum-known-s
@@ -56,13 +56,13 @@ enum-told-3 c = search needs
 
 returns-3 : tie.Need-returns-3
 returns-3 c =
-    let (b, w) = letters-place _ _ (c .before .before .before .before .before .before .before .before .before .before .before .before .pre) (c .before .before .before .before .before .before .before .before .before .before .run-at .ensures) (ap runOut (c .before .before .before .before .before .before .before .before .a .given .1)) in
+    let (b, w) = letters-place _ _ (c .before .before .before .before .before .before .before .before .before .before .before .before .pre) (c .before .before .before .before .before .before .before .before .before .before .run-at .ensures) (ap runOut (c .before .before .before .before .before .before .before .before .letters .given .1)) in
     let g = sum-onward (labels 7) (afterGroups b) w (c .before .before .before .before .before .before .list-rows .ensures) (c .before .before .before .before .g .given .1) in
     summed-cut (c .enum-told3 .given .1) (sum-cut-off (labels 5) (afterLists b (g .value)) (g .place) (c .before .before .list-rows2 .ensures) (c .enum-told3 .given .1))
 
 list-rows-requires-3 : tie.Need-list-rows-requires-3
 list-rows-requires-3 c κs =
-    let (b, w) = letters-place _ _ (c .before .before .before .before .before .before .before .before .before .before .before .before .before .pre) (c .before .before .before .before .before .before .before .before .before .before .before .run-at .ensures) (ap runOut (c .before .before .before .before .before .before .before .before .before .a .given .1)) in
+    let (b, w) = letters-place _ _ (c .before .before .before .before .before .before .before .before .before .before .before .before .before .pre) (c .before .before .before .before .before .before .before .before .before .before .before .run-at .ensures) (ap runOut (c .before .before .before .before .before .before .before .before .before .letters .given .1)) in
     let g = sum-onward (labels 7) (afterGroups b) w (c .before .before .before .before .before .before .before .list-rows .ensures) (c .before .before .before .before .before .g .given .1) in
     (sum-onward (labels 5) (afterLists b (g .value)) (g .place) (c .before .before .before .list-rows2 .ensures) (c .before .s .given .1) .place .inside, omega arith)
 
@@ -74,7 +74,7 @@ enum-told-4 c = search needs
 
 returns-4 : tie.Need-returns-4
 returns-4 c =
-    let (b, w) = letters-place _ _ (c .before .before .before .before .before .before .before .before .before .before .before .before .before .before .before .before .pre) (c .before .before .before .before .before .before .before .before .before .before .before .before .before .before .run-at .ensures) (ap runOut (c .before .before .before .before .before .before .before .before .before .before .before .before .a .given .1)) in
+    let (b, w) = letters-place _ _ (c .before .before .before .before .before .before .before .before .before .before .before .before .before .before .before .before .pre) (c .before .before .before .before .before .before .before .before .before .before .before .before .before .before .run-at .ensures) (ap runOut (c .before .before .before .before .before .before .before .before .before .before .before .before .letters .given .1)) in
     let g = sum-onward (labels 7) (afterGroups b) w (c .before .before .before .before .before .before .before .before .before .before .list-rows .ensures) (c .before .before .before .before .before .before .before .before .g .given .1) in
     let s = sum-onward (labels 5) (afterLists b (g .value)) (g .place) (c .before .before .before .before .before .before .list-rows2 .ensures) (c .before .before .before .before .s .given .1) in
     summed-cut (c .enum-told4 .given .1) (sum-cut-off (labels 5) (λ p. ret (languageIs b (g .value) (s .value) p)) (s .place) (c .before .before .list-rows3 .ensures) (c .enum-told4 .given .1))
@@ -89,7 +89,7 @@ add-t16 c =
 
 returns-5 : tie.Need-returns-5
 returns-5 c =
-    let (b, w) = letters-place _ _ (c .before .before .before .before .before .before .before .before .before .before .before .before .before .before .before .before .before .pre) (c .before .before .before .before .before .before .before .before .before .before .before .before .before .before .before .run-at .ensures) (ap runOut (c .before .before .before .before .before .before .before .before .before .before .before .before .before .a .given .1)) in
+    let (b, w) = letters-place _ _ (c .before .before .before .before .before .before .before .before .before .before .before .before .before .before .before .before .before .pre) (c .before .before .before .before .before .before .before .before .before .before .before .before .before .before .before .run-at .ensures) (ap runOut (c .before .before .before .before .before .before .before .before .before .before .before .before .before .letters .given .1)) in
     let g = sum-onward (labels 7) (afterGroups b) w (c .before .before .before .before .before .before .before .before .before .before .before .list-rows .ensures) (c .before .before .before .before .before .before .before .before .before .g .given .1) in
     let s = sum-onward (labels 5) (afterLists b (g .value)) (g .place) (c .before .before .before .before .before .before .before .list-rows2 .ensures) (c .before .before .before .before .before .s .given .1) in
     let p = sum-onward (labels 5) (λ p. ret (languageIs b (g .value) (s .value) p)) (s .place) (c .before .before .before .list-rows3 .ensures) (c .before .p .given .1) in
@@ -101,7 +101,7 @@ language-rows-spec =
     tie.close
     (tie.spec
     run-at-requires
-    enum-known-a
+    enum-known-letters
     enum-told
     short-requires
     returns

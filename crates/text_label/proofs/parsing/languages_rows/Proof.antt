@@ -1,9 +1,8 @@
 -- `text_label::parsing::languages_rows` meets its contract: the rows of the languages so far, and those of the ones that are left.
 use borrow.Author.Needs.{needs}
-use mathlib.Core.Path.{sym}
 use native.Mathlib.Omega.{arith}
 use lib.ListN.{length}
-use Rattle.wire.proofs.Loops.{Summing, sum-start, sum-room, sum-turn, sum-cut, sum-end, sum-small, summed-as}
+use Rattle.wire.proofs.Loops.{Summing, sum-start, sum-turn, sum-cut, sum-end, sum-small, summed-as}
 use Rattle.text_label.specs.Rows.{entriesOf}
 use Rattle.text_label.specs.Read.{language}
 use Rattle.text_label.proofs.Parsed.{entries-summed}

@@ -1,6 +1,5 @@
 -- `text_label::parsing::list_rows` meets its contract: the count, and where that many entries end.
-use mathlib.Core.Path.{refl, ap}
-use native.Mathlib.Omega.{arith}
+use mathlib.Core.Path.{ap}
 use Rattle.wire.specs.Prog.{u8}
 use Rattle.wire.specs.Reads.{byteOut, endsOut}
 use Rattle.wire.proofs.Walk.{begun, onward, cut-off}

@@ -1,6 +1,6 @@
 -- `text_label::tallying::body_zeros` meets its contract: the bits before the count of the languages, and their tallies.
 use mathlib.Core.Path.{refl, sym, ap, _∙_}
-use Prim.Native.Nat.{ℕ, _+_}
+use Prim.Native.Nat.{_+_}
 use native.Mathlib.Omega.{arith}
 use Rattle.wire.specs.Prog.{ret, u8, many, done}
 use Rattle.wire.specs.Reads.{byteOut, mapOut, sumOut}

@@ -1,6 +1,6 @@
 -- `text_label::tallying::list_zeros` meets its contract: the bits before the count, and the tally of so many entries.
-use mathlib.Core.Path.{refl, sym, ap, _∙_}
-use Prim.Native.Nat.{ℕ, _+_}
+use mathlib.Core.Path.{refl, sym, ap}
+use Prim.Native.Nat.{_+_}
 use native.Mathlib.Omega.{arith}
 use Rattle.wire.specs.Prog.{ret, u8, many}
 use Rattle.wire.specs.Reads.{byteOut}

@@ -5,8 +5,8 @@ use native.Mathlib.Nat.{sub-self, mul-zero}
 use Rattle.wire.specs.Act.{rows}
 use Rattle.wire.specs.Pen.{Checked}
 use Rattle.wire.specs.declared.pen.Pen.the-variants.{At}
-use Rattle.wire.proofs.Passes.{Checking, rows-turn, rows-end, check-start, check-turn, check-odd, check-end}
-use Rattle.text_label.proofs.Stored.{inside-rows, entryActsAt, all-checked}
+use Rattle.wire.proofs.Passes.{Checking, rows-turn, rows-end, check-start, check-turn, check-odd, check-end, all-checked}
+use Rattle.text_label.proofs.Stored.{inside-rows, entryActsAt}
 use borrow.Author.Needs.{needs}
 use Rattle.text_label.proofs.writing.check_entries.Statement.{statement}
 use Rattle.text_label.proofs.writing.check_entries.Tie as tie

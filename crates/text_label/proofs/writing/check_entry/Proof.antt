@@ -7,9 +7,9 @@ use Rattle.wire.specs.Act.{byte}
 use Rattle.wire.specs.Pen.{Checked}
 use Rattle.wire.specs.declared.pen.Pen.the-variants.{At}
 use Rattle.wire.proofs.Fields.{fit-one, fits-cons}
-use Rattle.wire.proofs.Passes.{then, more, passed, refused, stopped}
+use Rattle.wire.proofs.Passes.{then, more, passed, refused, stopped, byte-fits}
 use Rattle.text_label.specs.Write.{idByte, lengthByte, entryActs}
-use Rattle.text_label.proofs.Stored.{byte-fits, label-looked}
+use Rattle.text_label.proofs.Stored.{label-looked}
 use borrow.Author.Needs.{needs}
 use Rattle.text_label.proofs.writing.check_entry.Statement.{statement}
 use Rattle.text_label.proofs.writing.check_entry.Tie as tie

@@ -8,10 +8,10 @@ use Rattle.wire.specs.Act.{byte}
 use Rattle.wire.specs.Pen.{Checked}
 use Rattle.wire.specs.declared.pen.Pen.the-variants.{At}
 use Rattle.wire.proofs.Fields.{fit-one, fits-cons}
-use Rattle.wire.proofs.Passes.{then, more, passed, refused, stopped, here}
+use Rattle.wire.proofs.Passes.{then, more, passed, refused, stopped, here, byte-fits}
 use Rattle.frame.specs.Entry.{first}
 use Rattle.text_label.specs.Write.{languagesByte, acts}
-use Rattle.text_label.proofs.Stored.{byte-fits, languages-rows}
+use Rattle.text_label.proofs.Stored.{languages-rows}
 use borrow.Author.Needs.{needs}
 use Rattle.text_label.proofs.writing.check_fields.Statement.{statement}
 use Rattle.text_label.proofs.writing.check_fields.Tie as tie

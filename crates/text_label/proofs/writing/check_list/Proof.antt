@@ -5,9 +5,9 @@ use native.Mathlib.Omega.{arith}
 use Rattle.wire.specs.Act.{byte}
 use Rattle.wire.specs.Pen.{Checked}
 use Rattle.wire.proofs.Fields.{fits-cons}
-use Rattle.wire.proofs.Passes.{then, more, stopped, here}
+use Rattle.wire.proofs.Passes.{then, more, stopped, here, byte-fits}
 use Rattle.text_label.specs.Write.{countByte, listActs}
-use Rattle.text_label.proofs.Stored.{byte-fits, list-near}
+use Rattle.text_label.proofs.Stored.{list-near}
 use borrow.Author.Needs.{needs}
 use Rattle.text_label.proofs.writing.check_list.Statement.{statement}
 use Rattle.text_label.proofs.writing.check_list.Tie as tie

@@ -3,8 +3,8 @@ use Prim.Native.Nat.{_-_, _≤_}
 use native.Mathlib.Omega.{arith}
 use native.Mathlib.Nat.{add-sub-cancel-left}
 use Rattle.wire.specs.Act.{rows}
-use Rattle.wire.proofs.Passes.{Filling, rows-turn, rows-end, fill-start, fill-row, fill-turn, fill-end}
-use Rattle.text_label.proofs.Stored.{inside-rows, entryActsAt, all-filled}
+use Rattle.wire.proofs.Passes.{Filling, rows-turn, rows-end, fill-start, fill-row, fill-turn, fill-end, all-filled}
+use Rattle.text_label.proofs.Stored.{inside-rows, entryActsAt}
 use borrow.Author.Needs.{needs}
 use Rattle.text_label.proofs.writing.fill_entries.Statement.{statement}
 use Rattle.text_label.proofs.writing.fill_entries.Tie as tie

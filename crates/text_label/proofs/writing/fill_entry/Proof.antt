@@ -5,9 +5,8 @@ use native.Mathlib.Omega.{arith}
 use lib.ListN.{length}
 use borrow.Author.Tests.{leb-true}
 use Rattle.wire.specs.Act.{Act, byte, copy}
-use Rattle.wire.proofs.Passes.{Filling, fill-start, fill-demand, fill-byte, fill-last, byte-ready, demanded, run-room}
+use Rattle.wire.proofs.Passes.{Filling, fill-start, fill-demand, fill-byte, fill-last, byte-ready, demanded, run-room, column-ready, fill-column}
 use Rattle.text_label.specs.Write.{bytesOf, idByte, lengthByte, entryActs}
-use Rattle.text_label.proofs.Stored.{column-ready, fill-column}
 use borrow.Author.Needs.{needs}
 use Rattle.text_label.proofs.writing.fill_entry.Statement.{statement}
 use Rattle.text_label.proofs.writing.fill_entry.Tie as tie

@@ -3,10 +3,10 @@ use mathlib.Core.List.{List, [], _∷_}
 use native.Mathlib.Omega.{arith}
 use Rattle.wire.specs.Bits.{field}
 use Rattle.wire.specs.Act.{Act, byte}
-use Rattle.wire.proofs.Passes.{Filling, fill-start, fill-demand, fill-byte, fill-last, byte-ready, demanded}
+use Rattle.wire.proofs.Passes.{Filling, fill-start, fill-demand, fill-byte, fill-last, byte-ready, demanded, column-ready, fill-column}
 use Rattle.frame.specs.Entry.{first}
 use Rattle.text_label.specs.Write.{languagesByte, rowsActs, acts}
-use Rattle.text_label.proofs.Stored.{languages-rows, column-ready, fill-column}
+use Rattle.text_label.proofs.Stored.{languages-rows}
 use borrow.Author.Needs.{needs}
 use Rattle.text_label.proofs.writing.fill_fields.Statement.{statement}
 use Rattle.text_label.proofs.writing.fill_fields.Tie as tie

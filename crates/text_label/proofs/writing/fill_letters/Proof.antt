@@ -3,9 +3,8 @@ use mathlib.Core.List.{[], _∷_}
 use mathlib.Core.Path.{refl}
 use Rattle.wire.specs.Bits.{field}
 use Rattle.wire.specs.Act.{byte}
-use Rattle.wire.proofs.Passes.{Filling, fill-start, fill-end}
+use Rattle.wire.proofs.Passes.{Filling, fill-start, fill-end, column-ready, fill-column}
 use Rattle.text_label.specs.Write.{letterActs}
-use Rattle.text_label.proofs.Stored.{column-ready, fill-column}
 use borrow.Author.Needs.{needs}
 use Rattle.text_label.proofs.writing.fill_letters.Statement.{statement}
 use Rattle.text_label.proofs.writing.fill_letters.Tie as tie
