@@ -9,6 +9,7 @@ use Rattle.frame.specs.Entry.{onto, into, needs, first, others, room, lacking, 
 use Rattle.base.specs.Read as BaseRead
 use Rattle.base.specs.Tally as BaseTally
 use Rattle.base.specs.Write as Base
+use Rattle.labels.specs.Read as LabelsRead
 use Rattle.text_label.specs.Rows as TextLabelRows
 use Rattle.text_label.specs.Read as TextLabelRead
 use Rattle.text_label.specs.Write as TextLabel
@@ -19,7 +20,7 @@ use Rattle.multi_stream.specs.Write as MultiStream
 use Rattle.starred.specs.Starred.{Holds, starred as stars, Starred}
 
 pub starred : Starred
-unfolding reading tallying onto into judging placing run u8 bytes pass many _>>=_ needs first others room lacking filled flatten flatMap sum firsts ones onesIn Base.kind BaseRead.parse BaseRead.fields BaseRead.sets BaseTally.tally TextLabel.kind TextLabelRows.tables TextLabelRows.languageAs TextLabelRead.parse TextLabelRead.language TextLabelRead.labels TextLabelRead.entry MultiStream.kind MultiStreamRows.tables MultiStreamRead.parse MultiStreamRead.main MultiStreamRead.group MultiStreamRead.auxiliary MultiStreamTally.mainTally
+unfolding reading tallying onto into judging placing run u8 bytes pass many _>>=_ needs first others room lacking filled flatten flatMap sum firsts ones onesIn Base.kind BaseRead.parse BaseRead.fields BaseRead.sets BaseTally.tally TextLabel.kind TextLabelRows.tables TextLabelRows.languageAs TextLabelRead.parse TextLabelRead.language LabelsRead.labels LabelsRead.entry MultiStream.kind MultiStreamRows.tables MultiStreamRead.parse MultiStreamRead.main MultiStreamRead.group MultiStreamRead.auxiliary MultiStreamTally.mainTally
 starred = record {
   all = every-each Holds stars (
     record { reads = refl; tallies = refl },

@@ -24,7 +24,7 @@ use Rattle.frame.proofs.Numbers.{refusal-once, tallied-once, written-once}
 use Rattle.frame.proofs.Judged.{not-refused, was, measured as was-measured}
 use Rattle.frame.proofs.Lawful.{Samples}
 use Rattle.frame.proofs.Proofs as P
-use Rattle.text_label.specs.declared.rows.TextLabelEntry.{TextLabelEntry}
+use Rattle.labels.specs.declared.rows.TextLabelEntry.{TextLabelEntry}
 use Rattle.text_label.specs.declared.rows.TextLabelLanguage.{TextLabelLanguage}
 use Rattle.text_label.specs.declared.rows.MpegH3dAudioTextLabel.{MpegH3dAudioTextLabel}
 use Rattle.text_label.specs.declared.Sizes as Label
@@ -32,13 +32,16 @@ use Rattle.text_label.specs.declared.Reading.{Reading}
 use Rattle.text_label.specs.declared.Reading.the-variants as R
 use Rattle.text_label.specs.declared.Measured.{Measured}
 use Rattle.text_label.specs.declared.Measured.the-variants as M
-use Rattle.text_label.specs.Rows.{entryColumns, entryRow, entryOf, languageColumns, languageRow, languageOf, Language, entriesOf, entriesIn, languageAs, languageRows, tables}
-use Rattle.text_label.specs.Read.{entry, labels, language, parse}
+use Rattle.labels.specs.Rows.{entryColumns, entryRow, entryOf}
+use Rattle.text_label.specs.Rows.{languageColumns, languageRow, languageOf, Language, entriesOf, entriesIn, languageAs, languageRows, tables}
+use Rattle.labels.specs.Read.{entry, labels}
+use Rattle.text_label.specs.Read.{language, parse}
 use Rattle.text_label.specs.Bodies.{onePreset, english, preset2, noLanguages}
 use Rattle.text_label.specs.Write.{languageAt, value, kind}
 use Rattle.text_label.specs.Contract.{needed, sized, read, measured}
 use Rattle.text_label.proofs.Parsed.{entries-long}
-use Rattle.text_label.proofs.Found.{entry-found, language-found, rows-counted, languages-found}
+use Rattle.labels.proofs.Found.{entry-found}
+use Rattle.text_label.proofs.Found.{language-found, rows-counted, languages-found}
 use Rattle.text_label.proofs.Laws.{lawful}
 
 samples : Samples kind

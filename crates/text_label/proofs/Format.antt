@@ -1,27 +1,27 @@
--- The text label body as a format of lawful pieces: two bytes, and the languages that the second counts; a language is three bytes and three lists;
--- a list is a byte and the entries that it counts; an entry is a byte and a label with its length.
+-- The text label body as a format of lawful pieces: two bytes, and the languages that the second counts; a language is three bytes and three lists.
 use Prim.Native.Nat.{ℕ, _+_, _-_}
 use mathlib.Core.List.{List, [], _∷_, _++_, map, map-append, flatMap}
 use mathlib.Core.Path.{_≡_, refl, sym, ap, _∙_}
 use native.Mathlib.Omega.{arith}
 use lib.ListN.{length, getD}
 use Rattle.wire.specs.Bits.{field}
-use Rattle.wire.specs.Prog.{ret, u8, bytes, pass, many, _>>=_}
-use Rattle.wire.specs.Act.{Act, byte, copy}
+use Rattle.wire.specs.Prog.{ret, u8, bytes, many, _>>=_}
+use Rattle.wire.specs.Act.{Act, byte}
 use Rattle.wire.specs.declared.rows.Payload.{Payload}
 use Rattle.wire.proofs.Lists.{every-all}
 use Rattle.wire.proofs.Runs.{bind-pair}
-use Rattle.wire.proofs.Tables.{flat-one, map-flat}
-use Rattle.wire.proofs.Codec.{Codec, one-byte, number, two, some-bytes, sized, sized-read, sized-acts, sized-fits, both, steer, then-read, then-means, then-spans, Then-fits, then-acts, list, Counted, seen-as, As-fits}
-use Rattle.text_label.specs.declared.rows.TextLabelEntry.{TextLabelEntry}
-use Rattle.text_label.specs.Rows.{letters, Labels, Language, TextLabel, entriesOf}
-use Rattle.text_label.specs.Read.{entry, labels, language, parse}
-use Rattle.text_label.specs.Write.{letterActs, Label, label, payloads}
+use Rattle.wire.proofs.Tables.{map-flat}
+use Rattle.wire.proofs.Codec.{Codec, one-byte, number, two, some-bytes, both, steer, then-read, then-means, then-spans, Then-fits, then-acts, list, Counted, seen-as, As-fits}
+use Rattle.labels.specs.declared.rows.TextLabelEntry.{TextLabelEntry}
+use Rattle.labels.specs.Rows.{Labels}
+use Rattle.labels.proofs.Format.{labelsMeant, labelsListed, lists, places, lists-fit, lists-acts, Pair}
+use Rattle.text_label.specs.Rows.{letters, Language, TextLabel, entriesOf}
+use Rattle.labels.specs.Read.{labels}
+use Rattle.text_label.specs.Read.{language, parse}
+use Rattle.labels.specs.Write.{Label}
+use Rattle.text_label.specs.Write.{letterActs, payloads}
 
 -- ---- what is read means the same with its labels by their bytes
-
-abbrev pub labelsMeant : List ℕ → Labels TextLabelEntry → Labels Label
-labelsMeant s d = record { reserved = d .reserved; entries = map (label s) (d .entries) }
 
 abbrev pub languageMeant : List ℕ → Language TextLabelEntry → Language Label
 languageMeant s l = record { language = l .language; groups = labelsMeant s (l .groups); «switch_groups» = labelsMeant s (l .«switch_groups»); presets = labelsMeant s (l .presets) }
@@ -29,13 +29,7 @@ languageMeant s l = record { language = l .language; groups = labelsMeant s (l .
 abbrev pub bodyMeant : List ℕ → TextLabel TextLabelEntry → TextLabel Label
 bodyMeant s t = record { «scene_info_id» = t .«scene_info_id»; reserved = t .reserved; languages = map (languageMeant s) (t .languages) }
 
--- ---- the actions that write a meaning; w is the width of the IDs and of the count
-
-abbrev pub labelListed : ℕ → Label → List Act
-labelListed w e = byte (field (8 - w) (e .reserved) ∷ field w (e .id) ∷ []) ∷ byte (field 8 (length (e .«data»)) ∷ []) ∷ copy (e .«data») ∷ []
-
-abbrev pub labelsListed : ℕ → Labels Label → List Act
-labelsListed w d = byte (field (8 - w) (d .reserved) ∷ field w (length (d .entries)) ∷ []) ∷ flatMap (labelListed w) (d .entries)
+-- ---- the actions that write a meaning
 
 abbrev pub languageListed : Language Label → List Act
 languageListed l = letterActs (l .language) ++ (labelsListed 7 (l .groups) ++ (labelsListed 5 (l .«switch_groups») ++ labelsListed 5 (l .presets)))
@@ -45,84 +39,6 @@ bodyListed v =
     byte (field 8 (v .«scene_info_id») ∷ [])
     ∷ byte (field 4 (v .reserved) ∷ field 4 (length (v .languages)) ∷ [])
     ∷ flatMap languageListed (v .languages)
-
--- ---- an entry and a list of them
-
--- the reserved bits, and the ID or the count
-abbrev Pair : Type 0
-Pair = ℕ × ℕ
-
-abbrev places : List TextLabelEntry → List Payload
-places l = map (λ e. e .«data») l
-
-abbrev entryIs : Pair × Payload → TextLabelEntry
-entryIs v = record { reserved = v .0 .0; id = v .0 .1; «data» = v .1 }
-
-abbrev labelIs : Pair × List ℕ → Label
-labelIs c = record { reserved = c .0 .0; id = c .0 .1; «data» = c .1 }
-
-abbrev ofLabel : Label → Pair × List ℕ
-ofLabel e = ((e .reserved, e .id), e .«data»)
-
-abbrev labelsIs : {Entry : Type 0} → Pair × List Entry → Labels Entry
-labelsIs v = record { reserved = v .0 .0; entries = v .1 }
-
-abbrev ofLabels : Labels Label → Pair × List Label
-ofLabels d = ((d .reserved, length (d .entries)), d .entries)
-
-module _ (w : ℕ) (full : 8 - w + w ≡ 8) where
-  entryPieces : Codec (Pair × Payload) (Pair × List ℕ)
-  entryPieces = both (two (8 - w) w full) sized
-
-  entry-reads : entryPieces .read >>= (λ v. ret (entryIs v)) ≡ entry w
-  unfolding entry entryPieces both steer then-read two one-byte sized seen-as sized-read pass u8 _>>=_
-  entry-reads = refl
-
-  entry-spans : (v : Pair × Payload) → entryPieces .spans v ≡ v .1 ∷ []
-  unfolding entryPieces both steer then-spans two one-byte sized seen-as
-  entry-spans v = refl
-
-  entry-means : (s : List ℕ) (v : Pair × Payload) → label s (entryIs v) ≡ labelIs (entryPieces .means s v)
-  unfolding entryPieces both steer then-means two one-byte sized seen-as
-  entry-means s v = refl
-
-  entries : Codec TextLabelEntry Label
-  entries = seen-as entryPieces entryIs (entry w) entry-reads (λ e. e .«data» ∷ []) entry-spans label labelIs ofLabel entry-means (λ c f e. refl)
-
-  entries-fit : (e : Label) → entries .Fits e
-  unfolding entries seen-as As-fits entryPieces both steer Then-fits two one-byte
-  entries-fit e = ((tt, sized-fits (e .«data»)), refl)
-
-  listPieces : Codec (Pair × List TextLabelEntry) (Pair × List Label)
-  unfolding two one-byte
-  listPieces = steer (two (8 - w) w full) (λ x. x .1) (λ x. x .1) (λ s x. refl) (list entries)
-
-  list-reads : listPieces .read >>= (λ v. ret (labelsIs v)) ≡ labels w
-  unfolding labels listPieces steer then-read two one-byte list entries seen-as u8 _>>=_
-  list-reads = bind-pair (two (8 - w) w full .read) (λ x. many (x .1) (entry w)) labelsIs
-
-  list-spans : (v : Pair × List TextLabelEntry) → listPieces .spans v ≡ places (v .1)
-  unfolding listPieces steer then-spans two one-byte list entries seen-as
-  list-spans v = flat-one (λ e. e .«data») (v .1)
-
-  list-means : (s : List ℕ) (v : Pair × List TextLabelEntry) → labelsMeant s (labelsIs v) ≡ labelsIs (listPieces .means s v)
-  unfolding listPieces steer then-means two one-byte list entries seen-as
-  list-means s v = refl
-
-  list-back : (c : Pair × List Label) → listPieces .Fits c → ofLabels (labelsIs c) ≡ c
-  unfolding listPieces steer Then-fits list Counted
-  list-back c f = λ i. ((c .0 .0, f .1 .0 i), c .1)
-
-  lists : Codec (Labels TextLabelEntry) (Labels Label)
-  lists = seen-as listPieces labelsIs (labels w) list-reads (λ d. places (d .entries)) list-spans labelsMeant labelsIs ofLabels list-means (λ c f e. list-back c f)
-
-  lists-fit : (d : Labels Label) → lists .Fits d
-  unfolding lists seen-as As-fits listPieces steer Then-fits two one-byte list Counted
-  lists-fit d = ((tt, (refl, every-all (entries .Fits) entries-fit (d .entries))), refl)
-
-  lists-acts : (d : Labels Label) → lists .acts d ≡ labelsListed w d
-  unfolding lists seen-as listPieces steer then-acts two one-byte list entries entryPieces both
-  lists-acts d = λ i. byte (field (8 - w) (d .reserved) ∷ field w (length (d .entries)) ∷ []) ∷ flatMap (λ e. byte (field (8 - w) (e .reserved) ∷ field w (e .id) ∷ []) ∷ sized-acts (e .«data») i) (d .entries)
 
 -- ---- a language
 

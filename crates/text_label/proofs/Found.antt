@@ -7,19 +7,16 @@ use lib.Seq.{getD-append-seam, getD-append-add}
 use Rattle.wire.specs.Lists.{Every, each, firsts}
 use Rattle.wire.proofs.Lists.{every-as}
 use Rattle.wire.proofs.Tables.{each-map, rows-found}
-use Rattle.wire.proofs.Nest.{firsts-length, map-firsts, Stands, stands-split, stand}
-use Rattle.text_label.specs.declared.rows.TextLabelEntry.{TextLabelEntry}
+use Rattle.wire.proofs.Nest.{firsts-length, map-firsts, stands-split, stand}
+use Rattle.labels.specs.declared.rows.TextLabelEntry.{TextLabelEntry}
+use Rattle.labels.proofs.Found.{Standing, list-laid, entry-found}
 use Rattle.text_label.specs.declared.rows.TextLabelLanguage.{TextLabelLanguage}
-use Rattle.text_label.specs.Rows.{entryColumns, entryRow, entryOf, languageColumns, languageRow, languageOf, Labels, Language, entriesOf, entriesIn, placed, languageAs, languageRows}
-use Rattle.text_label.specs.Write.{entryAt, languageAt, label, listValue, languageValue}
-use Rattle.text_label.proofs.Format.{labelsMeant, languageMeant}
+use Rattle.labels.specs.Rows.{entryColumns, entryRow, entryOf}
+use Rattle.text_label.specs.Rows.{languageColumns, languageRow, languageOf, Language, entriesOf, entriesIn, languageAs, languageRows}
+use Rattle.text_label.specs.Write.{languageAt, languageValue}
+use Rattle.text_label.proofs.Format.{languageMeant}
 
 -- ---- a row
-
-pub entry-found : (e : TextLabelEntry) (before behind : List ℕ) → entryOf (before ++ (entryRow e ++ behind)) (length before) ≡ e
-entry-found e before behind =
-    let s : List ℕ = entryRow e ++ behind in
-    rw (getD-append-seam before (e .reserved) (drop 1 s) 0, getD-append-add before s 1 0, getD-append-add before s 2 0, getD-append-add before s 3 0) refl
 
 pub language-found : (l : TextLabelLanguage) (before behind : List ℕ) → languageOf (before ++ (languageRow l ++ behind)) (length before) ≡ l
 language-found l before behind =
@@ -37,10 +34,7 @@ languages-found ls behind =
     let t : List ℕ = flatten (map languageRow (languageRows ls)) ++ behind in
     ap (each (languageAt t) 0) (sym (rows-counted ls) ∙ length-map (languageRows ls) languageRow) ∙ rows-found languageColumns languageOf languageRow (λ l. refl) language-found (languageRows ls) behind
 
--- a list whose entries stand in table 7 from its first row on, and a language
-abbrev pub Standing : List ℕ → ℕ → List TextLabelEntry → Type 0
-Standing t n l = Stands entryColumns entryOf t n l
-
+-- a language whose entries stand in table 7 from its first row on
 pub record Standing-all (t : List ℕ) (n : ℕ) (l : Language TextLabelEntry) : Type 0 where
   pub groups : Standing t n (l .groups .entries)
   pub «switch_groups» : Standing t (n + length (l .groups .entries)) (l .«switch_groups» .entries)
@@ -61,10 +55,6 @@ entries-stand ls behind =
     (stand entryColumns entryOf entryRow (λ e. refl) entry-found entriesOf ls behind)
 
 -- ---- what they mean
-
-list-laid : (t store : List ℕ) (n : ℕ) (d : Labels TextLabelEntry) → Standing t n (d .entries) → listValue t store (placed n d) ≡ labelsMeant store d
-unfolding listValue
-list-laid t store n d s = λ i. record { reserved = d .reserved; entries = (each-map (label store) (entryAt t) n (length (d .entries)) ∙ ap (map (label store)) (s .found)) i }
 
 language-laid : (t store : List ℕ) (n : ℕ) (l : Language TextLabelEntry) → Standing-all t n l → languageValue t store (languageAs n l) ≡ languageMeant store l
 unfolding languageValue languageAs

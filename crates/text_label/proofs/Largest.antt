@@ -1,52 +1,28 @@
 -- The largest image of the text label body: 15 languages with all lists full, every label of 255 bytes, and the longest trailing run make 794,222 bytes.
-use Prim.Native.Nat.{ℕ, _+_, _*_, _-_, _^_, _≤_, _<_}
-use mathlib.Core.List.{List, [], _∷_, _++_, flatMap, append-nil}
+use Prim.Native.Nat.{ℕ, _+_, _-_, _≤_, _<_}
+use mathlib.Core.List.{List, [], _∷_, _++_, append-nil}
 use mathlib.Core.Bool.{true}
 use mathlib.Core.Path.{_≡_, refl, sym, ap, subst, _∙_}
 use native.Mathlib.Omega.{arith}
-use native.Mathlib.Nat.{suc-mul, mul-le-mul-right}
 use lib.ListN.{length, length-append}
 use lib.Dec.{leb}
 use borrow.Author.Tests.{leb-true}
 use Rattle.wire.specs.Bits.{field, fit}
-use Rattle.wire.specs.Act.{Act, copy, image, settle}
+use Rattle.wire.specs.Act.{copy, image, settle}
 use Rattle.wire.specs.Pen.{clean, bytes}
 use Rattle.wire.proofs.Fields.{fits-cons}
-use Rattle.wire.proofs.Acts.{and-both, clean-both, bytes-append, clean-met, bytes-bare, settled}
+use Rattle.wire.proofs.Acts.{and-both, clean-both, listed-most, bytes-append, clean-met, bytes-bare, settled}
 use Rattle.wire.proofs.Passes.{slice-long}
 use Rattle.frame.specs.Kind.{Lent}
 use Rattle.frame.specs.Entry.{whole, trail}
+use Rattle.labels.proofs.Largest.{labels-most}
 use Rattle.text_label.specs.declared.rows.MpegH3dAudioTextLabel.{MpegH3dAudioTextLabel}
-use Rattle.text_label.specs.Rows.{Labels, Language, TextLabel}
-use Rattle.text_label.specs.Write.{acts, Label, value, kind}
-use Rattle.text_label.proofs.Format.{labelListed, labelsListed, languageListed, bodyListed}
+use Rattle.text_label.specs.Rows.{Language, TextLabel}
+use Rattle.labels.specs.Write.{Label}
+use Rattle.text_label.specs.Write.{acts, value, kind}
+use Rattle.labels.proofs.Format.{labelsListed}
+use Rattle.text_label.proofs.Format.{languageListed, bodyListed}
 use Rattle.text_label.proofs.Laws.{body-bare}
-
--- a list whose elements make at most k bytes each
-listed-most : {C : Type 0} (q : C → List Act) (k : ℕ) → ((c : C) → clean (q c) ≡ true → length (bytes (q c)) ≤ k) → (l : List C) → clean (flatMap q l) ≡ true → length (bytes (flatMap q l)) ≤ length l * k
-unfolding flatMap bytes
-listed-most q k h [] e = omega arith
-listed-most q k h (c ∷ l) e =
-    let (a, b) = clean-both (q c) (flatMap q l) e in
-    omega (arith, ap length (bytes-append (q c) (flatMap q l)) ∙ length-append (bytes (q c)) (bytes (flatMap q l)), h c a, listed-most q k h l b, suc-mul (length l) k)
-
-label-most : (w : ℕ) (e : Label) → clean (labelListed w e) ≡ true → length (bytes (labelListed w e)) ≤ 257
-unfolding clean bytes
-label-most w e c =
-    let (a, c₁) = and-both (fit (field (8 - w) (e .reserved) ∷ field w (e .id) ∷ [])) _ c in
-    let b = fits-cons 8 (length (e .«data»)) [] (and-both (fit (field 8 (length (e .«data»)) ∷ [])) _ c₁ .0) .0 in
-    omega (arith, b, ap length (append-nil (e .«data»)))
-
-labels-most : (w most : ℕ) (d : Labels Label) → 2 ^ w ≡ most + 1 → clean (labelsListed w d) ≡ true → length (bytes (labelsListed w d)) ≤ 1 + most * 257
-unfolding clean bytes
-labels-most w most d p c =
-    let (a, r) = and-both (fit (field (8 - w) (d .reserved) ∷ field w (length (d .entries)) ∷ [])) _ c in
-    let n : length (d .entries) < 2 ^ w = fits-cons w (length (d .entries)) [] (fits-cons (8 - w) (d .reserved) _ a .1) .0 in
-    let m : length (d .entries) ≤ most = below p n in
-    omega (arith, listed-most (labelListed w) 257 (label-most w) (d .entries) r, mul-le-mul-right {m = length (d .entries)} {n = most} 257 m)
-  where
-    below : {a b m : ℕ} → b ≡ m + 1 → a < b → a ≤ m
-    below e h = omega (arith, e, h)
 
 language-most : (l : Language Label) → clean (languageListed l) ≡ true → length (bytes (languageListed l)) ≤ 48579
 unfolding clean bytes

@@ -5,17 +5,16 @@ use mathlib.Core.Bool.{true}
 use mathlib.Core.Path.{_≡_, refl, sym, ap, subst, _∙_}
 use native.Mathlib.Omega.{arith}
 use lib.ListN.{length, drop, length-append, length-map}
-use borrow.Author.Tests.{leb-true, le-leb}
-use Rattle.wire.specs.Lists.{Every, all-nil, all-cons, each, sum, firsts, Column}
+use borrow.Author.Tests.{le-leb}
+use Rattle.wire.specs.Lists.{Every, all-nil, all-cons, sum, firsts, Column}
 use Rattle.wire.specs.Bits.{field, fit}
 use Rattle.wire.specs.Prog.{done, run, span, Within}
 use Rattle.wire.specs.declared.rows.Payload.{Payload}
-use Rattle.wire.specs.Act.{Act, byte, copy}
+use Rattle.wire.specs.Act.{Act, byte}
 use Rattle.wire.specs.Pen.{clean, bytes}
-use Rattle.wire.proofs.Fields.{fits-cons, wider}
+use Rattle.wire.proofs.Fields.{fits-cons}
 use Rattle.wire.proofs.Lists.{every-and, every-as, every-map, map-every, every-flat, flat-every, every-left, every-right, every-both, every-firsts}
 use Rattle.wire.proofs.Acts.{and-both, both-and, clean-both, clean-every, bare, Met, bare-append, met-both, both-met, clean-met, met-clean, bytes-bare, bare-rows, met-rows}
-use Rattle.wire.proofs.Passes.{slice-long}
 use Rattle.wire.proofs.Takes.{Takes, takes-run, here-append}
 use Rattle.wire.proofs.Loops.{many-weighs}
 use Rattle.wire.proofs.Tables.{each-length, laid-length, every-shaped}
@@ -24,33 +23,26 @@ use Rattle.wire.proofs.Codec.{Spells}
 use Rattle.frame.specs.Kind.{Lent, Rows, Held}
 use Rattle.frame.specs.Entry.{needs, total, first, others, filled}
 use Rattle.frame.proofs.Lawful.{Taken, Lawful}
-use Rattle.text_label.specs.declared.rows.TextLabelEntry.{TextLabelEntry}
-use Rattle.text_label.specs.declared.rows.Descriptions.{Descriptions}
+use Rattle.labels.specs.declared.rows.TextLabelEntry.{TextLabelEntry}
+use Rattle.labels.proofs.Laws.{list-bare, inside-so, Small, small, list-met}
 use Rattle.text_label.specs.declared.rows.TextLabelLanguage.{TextLabelLanguage}
 use Rattle.text_label.specs.declared.rows.MpegH3dAudioTextLabel.{MpegH3dAudioTextLabel}
-use Rattle.text_label.specs.Rows.{entryColumns, entryRow, entryOf, languageColumns, languageRow, languageOf, Labels, Language, TextLabel, bounds, top, entriesOf, entriesIn, placed, languageAs, languageRows, tables}
+use Rattle.labels.specs.Rows.{entryColumns, entryRow, entryOf, placed}
+use Rattle.text_label.specs.Rows.{languageColumns, languageRow, languageOf, Language, TextLabel, bounds, top, entriesOf, entriesIn, languageAs, languageRows, tables}
 use Rattle.text_label.specs.Read.{language, parse}
-use Rattle.text_label.specs.Write.{entryAt, bytesOf, idByte, entryActs, languageAt, letterActs, listActs, languageActs, acts, Label, label, listValue, languageValue, value, payloads, kind}
-use Rattle.text_label.proofs.Parsed.{language-run, labels-weigh, entries-long, body-run}
-use Rattle.text_label.proofs.Format.{labelsMeant, languageMeant, bodyMeant, labelListed, labelsListed, languageListed, bodyListed, format, format-reads, format-means, format-spans, format-acts, format-fits}
-use Rattle.text_label.proofs.Found.{entry-found, language-found, rows-counted, languages-found, Standing, Standing-all, entries-stand, languages-laid}
+use Rattle.labels.specs.Write.{listActs, Label}
+use Rattle.text_label.specs.Write.{languageAt, letterActs, languageActs, acts, languageValue, value, payloads, kind}
+use Rattle.labels.proofs.Parsed.{labels-weigh}
+use Rattle.text_label.proofs.Parsed.{language-run, entries-long, body-run}
+use Rattle.labels.proofs.Format.{labelsMeant, labelsListed}
+use Rattle.text_label.proofs.Format.{languageMeant, bodyMeant, languageListed, bodyListed, format, format-reads, format-means, format-spans, format-acts, format-fits}
+use Rattle.labels.proofs.Found.{entry-found}
+use Rattle.text_label.proofs.Found.{language-found, rows-counted, languages-found, Standing-all, entries-stand, languages-laid}
 
 apart : (P : TextLabelEntry → Type 0) (a b : List TextLabelEntry) → Every P (a ++ b) → Every P a × Every P b
 apart P a b h = (every-left P a b h, every-right P a b h)
 
 -- ---- actions whose demands are met are, without them, those of the meaning
-
-entry-bare : (w : ℕ) (store : List ℕ) (e : TextLabelEntry) → Met (entryActs w store e) → bare (entryActs w store e) ≡ labelListed w (label store e)
-unfolding entryActs Met bare
-entry-bare w store e m =
-    ap (λ (n : ℕ). byte (idByte w e) ∷ byte (field 8 n ∷ []) ∷ copy (bytesOf (e .«data») store) ∷ []) (sym (slice-long (e .«data» .offset) (e .«data» .length) store (leb-true _ _ (m .0))))
-
-list-bare : (w : ℕ) (t store : List ℕ) (d : Descriptions) → Met (listActs w t store d) → bare (listActs w t store d) ≡ labelsListed w (listValue t store d)
-unfolding listActs listValue Met bare
-list-bare w t store d m =
-    let l : List Label = each (λ i. label store (entryAt t i)) (d .entries .first) (d .entries .count) in
-    let r = bare-rows (λ i. entryActs w store (entryAt t i)) (labelListed w) (λ i. label store (entryAt t i)) (λ i. entry-bare w store (entryAt t i)) (d .entries .first) (d .entries .count) m in
-    λ i. byte (field (8 - w) (d .reserved) ∷ field w (sym (each-length (λ i. label store (entryAt t i)) (d .entries .first) (d .entries .count)) i) ∷ []) ∷ r i
 
 language-bare : (t store : List ℕ) (l : TextLabelLanguage) → Met (languageActs t store l) → bare (languageActs t store l) ≡ languageListed (languageValue t store l)
 unfolding languageActs languageValue Met bare
@@ -89,15 +81,6 @@ unfolding value filled tables first others
 laid t r lent store = λ i. record { «scene_info_id» = t .«scene_info_id»; reserved = t .reserved; languages = languages-laid (t .languages) (drop (length (flatten (map languageRow (languageRows (t .languages))))) (first lent)) (drop (length (flatten (map entryRow (entriesIn (t .languages))))) (first (others lent))) store i }
 
 -- ---- and is written without a fault: every demand is met
-
-list-met : (w : ℕ) (t store : List ℕ) (n : ℕ) (d : Labels TextLabelEntry) → Standing t n (d .entries) → Every (λ (e : TextLabelEntry). Within store (e .«data»)) (d .entries) → Met (listActs w t store (placed n d))
-unfolding listActs Met entryActs
-list-met w t store n d s h =
-    met-rows (entryActs w store) (entryAt t) n (length (d .entries))
-    (subst (Every (λ (e : TextLabelEntry). Met (entryActs w store e))) (sym (s .found)) (every-as (λ (e : TextLabelEntry). Within store (e .«data»)) (λ (e : TextLabelEntry). Met (entryActs w store e)) (λ e i. (le-leb _ _ i, tt)) h))
-
-inside-so : {t : List ℕ} {n : ℕ} {l : List TextLabelEntry} → Standing t n l → n + length l ≤ length t / entryColumns
-inside-so s = omega (arith, s .inside)
 
 language-met : (t store : List ℕ) (n : ℕ) (l : Language TextLabelEntry) → Standing-all t n l → Every (λ (e : TextLabelEntry). Within store (e .«data»)) (entriesOf l) → Met (languageActs t store (languageAs n l))
 unfolding languageActs languageAs Met
@@ -157,33 +140,6 @@ few t bs d =
     omega (arith, sum-suc (λ (l : Language TextLabelEntry). length (entriesOf l)) (t .languages), flat-length entriesOf (t .languages), many-weighs language (bs ++ []) (λ l. 1 + length (entriesOf l)) (heavy (bs ++ [])) _ 2 (t .languages) _ (r .reads))
 
 -- ---- and what the code's types can hold
-
--- the fields of a list, and of its entries
-record Small (w : ℕ) (s : List ℕ) (d : Labels TextLabelEntry) : Type 0 where
-  reserved : d .reserved < 65536
-  count : length (d .entries) < 65536
-  entries : Every (λ (e : TextLabelEntry). (e .reserved < 65536) × (e .id < 65536)) (d .entries)
-
-two-small : (w : ℕ) (a b : ℕ) → w ≤ 8 → fit (field (8 - w) a ∷ field w b ∷ []) ≡ true → (a < 65536) × (b < 65536)
-two-small w a b h e =
-    let (x, f) = fits-cons (8 - w) a _ e in
-    (wider (8 - w) 16 (omega arith) x, wider w 16 (omega arith) (fits-cons w b [] f .0))
-
-entry-small : (w : ℕ) (s : List ℕ) (e : TextLabelEntry) → w ≤ 8 → clean (labelListed w (label s e)) ≡ true → (e .reserved < 65536) × (e .id < 65536)
-unfolding clean
-entry-small w s e h c = two-small w (e .reserved) (e .id) h (and-both (fit (field (8 - w) (e .reserved) ∷ field w (e .id) ∷ [])) _ c .0)
-
-small : (w : ℕ) (s : List ℕ) (d : Labels TextLabelEntry) → w ≤ 8 → clean (labelsListed w (labelsMeant s d)) ≡ true → Small w s d
-unfolding clean
-small w s d h c =
-    let (f, r) = and-both (fit (field (8 - w) (d .reserved) ∷ field w (length (map (label s) (d .entries))) ∷ [])) _ c in
-    let (x, y) = two-small w (d .reserved) (length (map (label s) (d .entries))) h f in
-    record {
-      reserved = x;
-      count = omega (arith, y, length-map (d .entries) (label s));
-      entries = every-as (λ (e : TextLabelEntry). clean (labelListed w (label s e)) ≡ true) (λ (e : TextLabelEntry). (e .reserved < 65536) × (e .id < 65536)) (λ e i. entry-small w s e h i)
-          (map-every (label s) (λ (l : Label). clean (labelListed w l) ≡ true) (d .entries) (clean-every (labelListed w) (map (label s) (d .entries)) r));
-    }
 
 record Language-small (s : List ℕ) (l : Language TextLabelEntry) : Type 0 where
   first-letter : l .language .0 < 65536

@@ -20,15 +20,18 @@ use Rattle.frame.specs.Numbers.{accepted}
 use Rattle.frame.specs.Entry.{Sound, Need, needs, first, others, room, lacking, filled, judging, sizes, onto}
 use Rattle.frame.specs.Sight.{Sight, sight, Seen, Roomy, Fills}
 use Rattle.frame.proofs.Judged.{ran-well, onto-sound}
-use Rattle.text_label.specs.declared.rows.TextLabelEntry.{TextLabelEntry}
+use Rattle.labels.specs.declared.rows.TextLabelEntry.{TextLabelEntry}
 use Rattle.text_label.specs.declared.rows.MpegH3dAudioTextLabel.{MpegH3dAudioTextLabel}
-use Rattle.text_label.specs.Rows.{entryColumns, entryRow, entryOf, languageColumns, languageRow, languageOf, Language, TextLabel, top, entriesOf, entriesIn, languageAs, languageRows, tables}
+use Rattle.labels.specs.Rows.{entryColumns, entryRow, entryOf}
+use Rattle.text_label.specs.Rows.{languageColumns, languageRow, languageOf, Language, TextLabel, top, entriesOf, entriesIn, languageAs, languageRows, tables}
 use Rattle.text_label.specs.Read.{language, parse}
 use Rattle.text_label.specs.Write.{kind}
 use Rattle.text_label.specs.Contract.{needed, sized}
 use Rattle.text_label.proofs.Parsed.{language-weighs, body-run}
-use Rattle.text_label.proofs.Filled.{rows-append, sizeOf, rowOf, colsOf}
-use Rattle.text_label.proofs.Found.{rows-counted, entry-found, language-found}
+use Rattle.labels.proofs.Filled.{rows-append}
+use Rattle.text_label.proofs.Filled.{sizeOf, rowOf, colsOf}
+use Rattle.labels.proofs.Found.{entry-found}
+use Rattle.text_label.proofs.Found.{rows-counted, language-found}
 
 -- ---- what is seen
 

@@ -1,19 +1,17 @@
 -- The code's answers as the specification's: outcomes of the reading program, and document 01's numbers and values.
 use Prim.Native.Nat.{ℕ}
 use mathlib.Core.List.{List, [], _∷_}
-use mathlib.Core.Path.{_≡_}
 use lib.ListN.{length}
 use Rattle.wire.specs.Bits.{part}
-use Rattle.wire.specs.Prog.{Prog, Out, done, short, run, span}
-use Rattle.wire.specs.Reads.{endsOut, endOf}
-use Rattle.wire.specs.declared.reads.Ends.{Ends}
+use Rattle.wire.specs.Prog.{Out, done, short, span}
 use Rattle.frame.specs.Numbers.{Answer, accepted, refused, refusal}
 use Rattle.frame.specs.Entry as E
 use Rattle.frame.specs.Entry.{Need}
 use Rattle.frame.specs.Sight.{Sight}
-use Rattle.text_label.specs.declared.rows.TextLabelEntry.{TextLabelEntry}
+use Rattle.labels.specs.declared.rows.TextLabelEntry.{TextLabelEntry}
+use Rattle.labels.specs.Rows.{entryColumns}
 use Rattle.text_label.specs.declared.rows.MpegH3dAudioTextLabel.{MpegH3dAudioTextLabel}
-use Rattle.text_label.specs.Rows.{languageColumns, entryColumns, TextLabel, top, entriesIn}
+use Rattle.text_label.specs.Rows.{languageColumns, TextLabel, top, entriesIn}
 use Rattle.text_label.specs.declared.parsing.Parsed.{Parsed}
 use Rattle.text_label.specs.declared.parsing.Parsed.the-variants as P
 use Rattle.text_label.specs.declared.parsing.Judged.{Judged}
@@ -23,10 +21,6 @@ use Rattle.text_label.specs.declared.Reading.{Reading}
 use Rattle.text_label.specs.declared.Reading.the-variants as R
 use Rattle.text_label.specs.declared.Measured.{Measured}
 use Rattle.text_label.specs.declared.Measured.the-variants as M
-
--- where a program ends that does not mind the width w
-pub record AnyWidth {A : Type 0} (p : ℕ → Prog A) (s : List ℕ) (at : ℕ) (r : Ends) : Type 0 where
-  pub of : (w : ℕ) → endsOut r ≡ endOf (run (p w) s at)
 
 -- the fields of the two bytes before the languages, which are only counted
 abbrev pub headed : ℕ → ℕ → MpegH3dAudioTextLabel

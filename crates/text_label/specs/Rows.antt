@@ -1,39 +1,20 @@
--- The rows of tables 6 and 7, the top record of the text label body, and the Rust's structs, their entries as rows or as what these mean.
+-- The rows of table 6, the top record of the text label body, the Rust's structs, their entries as rows or as what these mean, and both tables.
 use Prim.Native.Nat.{ℕ, _+_}
 use mathlib.Core.List.{List, [], _∷_, _++_, map, flatMap}
 use lib.ListN.{length, getD}
 use Rattle.wire.specs.Lists.{firsts}
-use Rattle.wire.specs.Prog.{span}
 use Rattle.wire.specs.declared.rows.Payload.{Payload}
-use Rattle.wire.specs.declared.rows.Range.{Range}
+use Rattle.labels.specs.declared.rows.TextLabelEntry.{TextLabelEntry}
+use Rattle.labels.specs.Rows.{entryColumns, entryRow, range, descriptions, Labels, placed}
 use Rattle.frame.specs.Kind.{Rows, Bound, bounded}
-use Rattle.text_label.specs.declared.rows.TextLabelEntry.{TextLabelEntry}
 use Rattle.text_label.specs.declared.rows.DescriptionLanguage.{DescriptionLanguage}
-use Rattle.text_label.specs.declared.rows.Descriptions.{Descriptions}
 use Rattle.text_label.specs.declared.rows.TextLabelLanguage.{TextLabelLanguage}
 use Rattle.text_label.specs.declared.rows.MpegH3dAudioTextLabel.{MpegH3dAudioTextLabel}
-
--- ---- a row of table 7: how many columns it has, and which; and the row whose first column is b
-
-abbrev pub entryColumns : ℕ
-entryColumns = 4
-
-abbrev pub entryRow : TextLabelEntry → List ℕ
-entryRow e = e .reserved ∷ e .id ∷ e .«data» .offset ∷ e .«data» .length ∷ []
-
-abbrev pub entryOf : List ℕ → ℕ → TextLabelEntry
-entryOf t b = record { reserved = getD t b 0; id = getD t (b + 1) 0; «data» = span (getD t (b + 2) 0) (getD t (b + 3) 0) }
 
 -- ---- a row of table 6
 
 abbrev pub letters : ℕ → ℕ → ℕ → DescriptionLanguage
 letters a b c = record { 0 = a; 1 = b; 2 = c }
-
-abbrev pub range : ℕ → ℕ → Range
-range i k = record { first = i; count = k }
-
-abbrev pub descriptions : ℕ → Range → Descriptions
-descriptions r e = record { reserved = r; entries = e }
 
 abbrev pub languageColumns : ℕ
 languageColumns = 12
@@ -73,10 +54,6 @@ bounds m =
 
 -- ---- the Rust's structs; Entry is a row of table 7, or what it means
 
-pub record Labels (Entry : Type 0) : Type 0 where
-  pub reserved : ℕ
-  pub entries : List Entry
-
 pub record Language (Entry : Type 0) : Type 0 where
   pub language : DescriptionLanguage
   pub groups : Labels Entry
@@ -99,10 +76,7 @@ entriesOf l = l .groups .entries ++ (l .«switch_groups» .entries ++ l .presets
 abbrev pub entriesIn : {Entry : Type 0} → List (Language Entry) → List Entry
 entriesIn ls = flatMap entriesOf ls
 
--- a list from its first row on, and a language whose entries begin at row n
-abbrev pub placed : ℕ → Labels TextLabelEntry → Descriptions
-placed n d = descriptions (d .reserved) (range n (length (d .entries)))
-
+-- a language whose entries begin at row n
 unfoldable pub languageAs : ℕ → Language TextLabelEntry → TextLabelLanguage
 languageAs n l = record {
   language = l .language;

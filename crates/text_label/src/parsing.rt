@@ -1,51 +1,38 @@
 // Reading the text label body: the reads in the Rust's order. One pass measures and touches nothing, one fills tables 6 and 7.
 ghost use mathlib.Core.Path.{_≡_};
-ghost use mathlib.Core.Bool.{true};
 ghost use mathlib.Core.List.{[], _∷_, flatMap};
-ghost use Prim.Native.Nat.{_+_, _*_, _<_, _≤_, _^_};
+ghost use Prim.Native.Nat.{_+_, _*_, _<_, _≤_};
 ghost use lib.ListN.{length};
-ghost use lib.Seq.{sets};
-ghost use Rattle.wire.specs.Prog.{done, run, many};
-ghost use Rattle.wire.specs.Reads.{mapOut, isDone, posOf, rowsOf, Summed};
+ghost use Rattle.wire.specs.Prog.{run, many};
+ghost use Rattle.wire.specs.Reads.{mapOut, Summed};
 ghost use Rattle.wire.specs.Nest.{Fillable, Nested, Nests};
 ghost use Rattle.frame.specs.Entry.{onto, judging};
 ghost use Rattle.frame.specs.Sight.{sight, Seen, Roomy, Fills};
-ghost use Rattle.text_label.specs.Rows.{entryColumns, entryRow, languageColumns, languageRow, entriesOf, entriesIn, placed, languageAs};
-ghost use Rattle.text_label.specs.Read.{entry, labels, language, parse};
+ghost use Rattle.labels.specs.Rows.{entryColumns, entryRow};
+ghost use Rattle.text_label.specs.Rows.{languageColumns, languageRow, entriesOf, entriesIn, languageAs};
+ghost use Rattle.text_label.specs.Read.{language, parse};
 ghost use Rattle.text_label.specs.Write.{kind};
-ghost use Rattle.text_label.specs.Contract.{AnyWidth, seenOf, headed, parsedOut, judged};
+ghost use Rattle.text_label.specs.Contract.{seenOf, headed, parsedOut, judged};
 use super::rows::DescriptionLanguage;
-use super::rows::Descriptions;
-use super::rows::ENTRY_COLUMNS;
 use super::rows::LANGUAGE_COLUMNS;
 use super::rows::MpegH3dAudioTextLabel;
-use super::rows::TextLabelEntry;
 use super::rows::TextLabelLanguage;
 use frame::Refusal;
+use labels::parsing::fill_list;
+use labels::parsing::list_rows;
+use labels::parsing::row_after;
 use wire::bits::part;
 use wire::bits::wide;
 use wire::reads::Byte;
-use wire::reads::Ends;
 use wire::reads::Run;
 use wire::reads::Short;
 use wire::reads::Sum;
 use wire::reads::byte_at;
 use wire::reads::run_at;
 use wire::rows::Payload;
-use wire::rows::Range;
 use wire::rows::put_row;
 
-// What is known to be there, and the next position.
-struct PlacedEntry {
-    entry: TextLabelEntry,
-    next: usize,
-}
-
-struct PlacedList {
-    list: Descriptions,
-    next: usize,
-}
-
+// A language that is known to be there, and the next position.
 struct PlacedLanguage {
     language: TextLabelLanguage,
     next: usize,
@@ -64,61 +51,6 @@ pub enum Judged {
 }
 
 // ---- measuring
-
-// Where an entry ends, whatever the width of its ID.
-fn entry_end(body: &[u8], at: usize) -> Ends
-    requires { ⌜ at ≤ length (now body) ⌝ }
-    ensures { λ r. ⌜ AnyWidth entry (now (body .entry)) at r ⌝ }
-{
-    let a = byte_at(body, at);
-    let Byte::Got(_, n1) = a else {
-        return Ends::Short(a.short());
-    };
-    let b = byte_at(body, n1);
-    let Byte::Got(count, n2) = b else {
-        return Ends::Short(b.short());
-    };
-    let c = run_at(body, n2, count as usize);
-    let Run::Got(_, next) = c else {
-        return Ends::Short(c.short());
-    };
-    Ends::At(next)
-}
-
-// Where `count` entries end.
-fn entries_end(body: &[u8], at: usize, count: usize) -> Ends
-    requires { ⌜ at ≤ length (now body) ⌝ }
-    ensures { λ r. ⌜ AnyWidth (λ w. many count (entry w)) (now (body .entry)) at r ⌝ }
-{
-    let mut pos = at;
-    let mut left = count;
-    while 0 < left {
-        let a = entry_end(body, pos);
-        let Ends::At(next) = a else {
-            return a;
-        };
-        pos = next;
-        left -= 1;
-    }
-    Ends::At(pos)
-}
-
-// The entries of a list whose IDs have `w` bits, and where it ends.
-fn list_rows(body: &[u8], at: usize, w: u32) -> Sum
-    requires { ⌜ (at ≤ length (now body)) × (w < 8) ⌝ }
-    ensures { λ r. ⌜ Summed (labels w) (λ d. length (d .entries)) 127 (now (body .entry)) at r ⌝ }
-{
-    let a = byte_at(body, at);
-    let Byte::Got(b, n1) = a else {
-        return Sum::Short(a.short());
-    };
-    let count = part(b, 0, w) as usize;
-    let c = entries_end(body, n1, count);
-    let Ends::At(next) = c else {
-        return Sum::Short(c.short());
-    };
-    Sum::Got(count, next)
-}
 
 // The entries of a language, and where it ends.
 fn language_rows(body: &[u8], at: usize) -> Sum
@@ -165,87 +97,6 @@ fn languages_rows(body: &[u8], at: usize, count: usize) -> Sum
 }
 
 // ---- filling: nothing is left to test
-
-// An entry that was measured.
-fn entry_at(body: &[u8], at: usize, w: u32) -> PlacedEntry
-    requires { ⌜ (isDone (run (entry w) (now body) at) ≡ true) × (length (now body) < 2 ^ 16) × (w < 8) ⌝ }
-    ensures { λ r. ⌜ done (r .entry) (r .next) ≡ run (entry w) (now (body .entry)) at ⌝ }
-{
-    let b = wide(body[at]);
-    let length = wide(body[at + 1]);
-    let begins = at + 2;
-    PlacedEntry {
-        entry: TextLabelEntry {
-            reserved: part(b, w, 8 - w),
-            id: part(b, 0, w),
-            data: Payload {
-                offset: begins as u16,
-                length,
-            },
-        },
-        next: begins + (length as usize),
-    }
-}
-
-// Stores `count` entries that were measured as rows of table 7 from the column `column` on, and says where they end.
-fn fill_entries(
-    body: &[u8],
-    at: usize,
-    count: usize,
-    w: u32,
-    entries: &mut [u16],
-    column: usize,
-) -> usize
-    requires { ⌜ (at ≤ length (now body)) × (isDone (run (many count (entry w)) (now body) at) ≡ true) × (length (now body) < 2 ^ 16) × (w < 8) × (column + entryColumns * count ≤ length (now entries)) ⌝ }
-    ensures { λ r. ⌜ (r ≡ posOf (run (many count (entry w)) (now (body .entry)) at)) × (now (entries .exit) ≡ sets (now (entries .entry)) column (flatMap entryRow (rowsOf (run (many count (entry w)) (now (body .entry)) at)))) ⌝ }
-{
-    let mut pos = at;
-    let mut left = count;
-    let mut to = column;
-    while 0 < left {
-        let p = entry_at(body, pos, w);
-        let row = p.entry.columns();
-        put_row(entries, to, &row);
-        pos = p.next;
-        left -= 1;
-        to += ENTRY_COLUMNS;
-    }
-    pos
-}
-
-// Stores the entries of a list from row `first` on.
-fn fill_list(body: &[u8], at: usize, w: u32, entries: &mut [u16], first: usize) -> PlacedList
-    requires { ⌜ Fillable (labels w) entryColumns (λ d. length (d .entries)) (now body) at first (now entries) × (w < 8) ⌝ }
-    ensures { λ r. ⌜ Nested (labels w) entryColumns placed (λ d. flatMap entryRow (d .entries)) (now (body .entry)) at first (now (entries .entry)) (r .list) (r .next) (now (entries .exit)) ⌝ }
-{
-    let b = wide(body[at]);
-    let count = part(b, 0, w);
-    let next = fill_entries(
-        body,
-        at + 1,
-        count as usize,
-        w,
-        entries,
-        first * ENTRY_COLUMNS,
-    );
-    PlacedList {
-        list: Descriptions {
-            reserved: part(b, w, 8 - w),
-            entries: Range {
-                first: first as u16,
-                count,
-            },
-        },
-        next,
-    }
-}
-
-// The row behind those of a list.
-fn row_after(r: Range) -> usize
-    ensures { λ n. ⌜ n ≡ r .first + r .count ⌝ }
-{
-    (r.first as usize) + (r.count as usize)
-}
 
 // Stores the entries of a language from row `first` on, its three lists one after the other.
 fn fill_language(body: &[u8], at: usize, entries: &mut [u16], first: usize) -> PlacedLanguage

@@ -5,18 +5,18 @@ ghost use mathlib.Core.List.{[], _∷_};
 ghost use Prim.Native.Nat.{_+_, _*_, _-_, _<_, _≤_, _^_};
 ghost use lib.ListN.{length};
 ghost use Rattle.wire.specs.Bits.{fit, Packed};
-ghost use Rattle.wire.specs.Pen.{reach, Checked, Quick, Ready, Filled};
+ghost use Rattle.wire.specs.Pen.{Checked, Ready, Filled};
 ghost use Rattle.wire.specs.declared.pen.Pen.the-variants.{At};
 ghost use Rattle.frame.specs.Entry.{whole};
 ghost use Rattle.text_label.specs.Rows.{languageColumns};
-ghost use Rattle.text_label.specs.Write.{entryActs, inside, allInside, letterActs, entriesActs, listActs, languageActs, languagesByte, rowsActs, acts, kind};
+ghost use Rattle.text_label.specs.Write.{allInside, letterActs, languageActs, languagesByte, rowsActs, acts, kind};
 use super::rows::DescriptionLanguage;
-use super::rows::Descriptions;
 use super::rows::ENTRY_COLUMNS;
 use super::rows::LANGUAGE_COLUMNS;
 use super::rows::MpegH3dAudioTextLabel;
-use super::rows::TextLabelEntry;
 use super::rows::TextLabelLanguage;
+use labels::writing::check_list;
+use labels::writing::fill_list;
 use wire::bits::fits;
 use wire::bits::fits2;
 use wire::bits::pack2;
@@ -24,63 +24,9 @@ use wire::bits::wide;
 use wire::pen;
 use wire::pen::Fault;
 use wire::pen::Pen;
-use wire::rows::Range;
 use wire::rows::has_rows;
 use wire::rows::in_store;
 use wire::rows::in_table;
-
-// ---- a row of table 7, checked: its ID has `w` bits
-
-// The range, then the fields, then the label's bytes.
-fn check_entry(n: usize, e: TextLabelEntry, w: u32, store: &[u8]) -> Pen
-    requires { ⌜ (n < 2 ^ 31) × (w < 8) ⌝ }
-    ensures { λ r. ⌜ Checked (entryActs w (now (store .entry)) e) 257 (At n) r ⌝ }
-{
-    if in_store(e.data, store) {
-        let count = e.data.length;
-        let p1 = pen::byte(Pen::At(n), fits2(e.reserved, 8 - w, e.id, w));
-        let p2 = pen::byte(p1, fits(count, 8));
-        let Pen::At(begins) = p2 else {
-            return p2;
-        };
-        Pen::At(begins + (count as usize))
-    } else {
-        Pen::Stop(Fault::Range, n)
-    }
-}
-
-// The bytes of an entry, or 0 if it has a fault: in almost every row nothing is wrong, and this is seen at once.
-fn plain_bytes(e: TextLabelEntry, w: u32, store: &[u8]) -> usize
-    requires { ⌜ w < 8 ⌝ }
-    ensures { λ r. ⌜ Quick (entryActs w (now (store .entry)) e) 257 r ⌝ }
-{
-    let count = e.data.length;
-    if in_store(e.data, store) & (fits2(e.reserved, 8 - w, e.id, w) & fits(count, 8)) {
-        2 + (count as usize)
-    } else {
-        0
-    }
-}
-
-// The rows of a list; a row with a fault ends it, and is looked at again to name the fault.
-fn check_entries(n: usize, entries: &[u16], r: Range, w: u32, store: &[u8]) -> Pen
-    requires { ⌜ (inside r (now entries) ≡ true) × (r .count < 2 ^ w) × (n < 2 ^ 30) × (w < 8) ⌝ }
-    ensures { λ p. ⌜ Checked (entriesActs w (now (entries .entry)) (now (store .entry)) r) (257 * r .count) (At n) p ⌝ }
-{
-    let end = (r.first as usize) + (r.count as usize);
-    let mut at = n;
-    let mut i = r.first as usize;
-    while i < end {
-        let e = TextLabelEntry::of_columns(entries, i * ENTRY_COLUMNS);
-        let bytes = plain_bytes(e, w, store);
-        if bytes == 0 {
-            return check_entry(at, e, w, store);
-        }
-        at += bytes;
-        i += 1;
-    }
-    Pen::At(at)
-}
 
 // ---- a row of table 6, checked
 
@@ -91,18 +37,6 @@ fn check_letters(n: usize, l: DescriptionLanguage) -> Pen
     let p1 = pen::byte(Pen::At(n), fits(l.0, 8));
     let p2 = pen::byte(p1, fits(l.1, 8));
     pen::byte(p2, fits(l.2, 8))
-}
-
-// A list whose IDs have `w` bits: its count, and its entries if the count fits.
-fn check_list(p: Pen, d: Descriptions, w: u32, entries: &[u16], store: &[u8]) -> Pen
-    requires { ⌜ (inside (d .entries) (now entries) ≡ true) × (reach p < 2 ^ 29) × (w < 8) ⌝ }
-    ensures { λ r. ⌜ Checked (listActs w (now (entries .entry)) (now (store .entry)) d) (1 + 257 * (2 ^ w - 1)) p r ⌝ }
-{
-    let p1 = pen::byte(p, fits2(d.reserved, 8 - w, d.entries.count, w));
-    let Pen::At(n) = p1 else {
-        return p1;
-    };
-    check_entries(n, entries, d.entries, w, store)
 }
 
 // Whether the entries of its three lists stand in the table.
@@ -183,34 +117,6 @@ pub fn check(m: MpegH3dAudioTextLabel, languages: &[u16], entries: &[u16], store
 
 // ---- the fill pass
 
-// An entry whose ID has `w` bits: its fields, and the label's bytes from the store.
-fn fill_entry(e: TextLabelEntry, w: u32, store: &[u8], out: &mut [u8], n: usize) -> usize
-    requires { ⌜ Ready (entryActs w (now store) e) n (now out) × (w < 8) ⌝ }
-    ensures { λ r. ⌜ Filled (entryActs w (now (store .entry)) e) n (now (out .entry)) r (now (out .exit)) ⌝ }
-{
-    let from = e.data.offset;
-    let count = e.data.length;
-    let n1 = pen::put(out, n, pack2(e.reserved, 8 - w, e.id, w));
-    let n2 = pen::put(out, n1, count);
-    pen::copy(out, n2, store, from as usize, count as usize)
-}
-
-// The rows of a list.
-fn fill_entries(entries: &[u16], r: Range, w: u32, store: &[u8], out: &mut [u8], n: usize) -> usize
-    requires { ⌜ (inside r (now entries) ≡ true) × Ready (entriesActs w (now entries) (now store) r) n (now out) × (w < 8) ⌝ }
-    ensures { λ k. ⌜ Filled (entriesActs w (now (entries .entry)) (now (store .entry)) r) n (now (out .entry)) k (now (out .exit)) ⌝ }
-{
-    let end = (r.first as usize) + (r.count as usize);
-    let mut at = n;
-    let mut i = r.first as usize;
-    while i < end {
-        let e = TextLabelEntry::of_columns(entries, i * ENTRY_COLUMNS);
-        at = fill_entry(e, w, store, out, at);
-        i += 1;
-    }
-    at
-}
-
 fn fill_letters(l: DescriptionLanguage, out: &mut [u8], n: usize) -> usize
     requires { ⌜ Ready (letterActs l) n (now out) ⌝ }
     ensures { λ r. ⌜ Filled (letterActs l) n (now (out .entry)) r (now (out .exit)) ⌝ }
@@ -218,22 +124,6 @@ fn fill_letters(l: DescriptionLanguage, out: &mut [u8], n: usize) -> usize
     let n1 = pen::put(out, n, l.0);
     let n2 = pen::put(out, n1, l.1);
     pen::put(out, n2, l.2)
-}
-
-// A list whose IDs have `w` bits.
-fn fill_list(
-    d: Descriptions,
-    w: u32,
-    entries: &[u16],
-    store: &[u8],
-    out: &mut [u8],
-    n: usize,
-) -> usize
-    requires { ⌜ (inside (d .entries) (now entries) ≡ true) × Ready (listActs w (now entries) (now store) d) n (now out) × (w < 8) ⌝ }
-    ensures { λ r. ⌜ Filled (listActs w (now (entries .entry)) (now (store .entry)) d) n (now (out .entry)) r (now (out .exit)) ⌝ }
-{
-    let n1 = pen::put(out, n, pack2(d.reserved, 8 - w, d.entries.count, w));
-    fill_entries(entries, d.entries, w, store, out, n1)
 }
 
 fn fill_language(

@@ -1,6 +1,6 @@
 -- `text_label::parsing::fill_language` meets its contract: its three bytes, and its three lists one after the other.
 use native.Mathlib.Omega.{arith}
-use Rattle.text_label.proofs.Filled.{letters-there, groups-ask, switch-groups-ask, presets-ask, language-filled}
+use Rattle.text_label.proofs.Filled.{groups-ask, switch-groups-ask, presets-ask, language-filled, letters-there}
 use borrow.Author.Needs.{needs}
 use Rattle.text_label.proofs.parsing.fill_language.Statement.{statement}
 use Rattle.text_label.proofs.parsing.fill_language.Tie as tie

@@ -6,7 +6,7 @@ use Rattle.wire.specs.Prog.{ret}
 use Rattle.wire.specs.Reads.{runOut}
 use Rattle.wire.proofs.Walk.{finished}
 use Rattle.wire.proofs.Loops.{summed-done, summed-short, summed-cut, sum-small, sum-onward, sum-cut-off}
-use Rattle.text_label.specs.Read.{labels}
+use Rattle.labels.specs.Read.{labels}
 use Rattle.text_label.proofs.Parsed.{languageIs, afterLists, afterGroups, letters-short, letters-place}
 use borrow.Author.Needs.{needs}
 use Rattle.text_label.proofs.tallying.language_zeros.Statement.{statement}

@@ -4,7 +4,8 @@ use mathlib.Core.Path.{refl}
 use native.Mathlib.Omega.{arith}
 use Rattle.wire.specs.Act.{Act}
 use Rattle.wire.proofs.Passes.{Filling, fill-start, fill-demand, fill-row, fill-turn, fill-last, demanded}
-use Rattle.text_label.specs.Write.{letterActs, listActs, languageActs}
+use Rattle.labels.specs.Write.{listActs}
+use Rattle.text_label.specs.Write.{letterActs, languageActs}
 use Rattle.text_label.proofs.Stored.{Inside, all-three}
 use borrow.Author.Needs.{needs}
 use Rattle.text_label.proofs.writing.fill_language.Statement.{statement}

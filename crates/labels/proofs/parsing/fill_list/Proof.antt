@@ -1,0 +1,61 @@
+-- `labels::parsing::fill_list` meets its contract: the count, and so many entries.
+use Rattle.labels.proofs.Filled.{list-there, entries-ask, list-filled}
+use borrow.Author.Needs.{needs}
+use Rattle.labels.proofs.parsing.fill_list.Statement.{statement}
+use Rattle.labels.proofs.parsing.fill_list.Tie as tie
+
+shared-slice-read-wide : tie.Need-shared-slice-read-wide
+shared-slice-read-wide c =
+    list-there _ _ _ _ _ (c .before .before .before .pre .0)
+
+wide-requires : tie.Need-wide-requires
+wide-requires c κs = search needs
+
+part-requires : tie.Need-part-requires
+part-requires c κs = search needs
+
+add-fill-entries : tie.Need-add-fill-entries
+add-fill-entries c = search needs
+
+cast-fill-entries : tie.Need-cast-fill-entries
+cast-fill-entries c = search needs
+
+mul-fill-entries : tie.Need-mul-fill-entries
+mul-fill-entries c = search needs
+
+fill-entries-requires : tie.Need-fill-entries-requires
+fill-entries-requires c κs =
+    entries-ask _ _ _ _ _ (c .before .before .before .before .before .before .pre .0) _ (c .before .before .wide .ensures) (c .before .part .ensures) (c .before .before .before .before .before .before .pre .1)
+
+sub-part : tie.Need-sub-part
+sub-part c = search needs
+
+part-requires-2 : tie.Need-part-requires-2
+part-requires-2 c κs = search needs
+
+cast-t18 : tie.Need-cast-t18
+cast-t18 c = search needs
+
+same-length : tie.Need-same-length
+same-length c = search needs
+
+returns : tie.Need-returns
+returns c =
+    list-filled _ _ _ _ _ (c .before .before .before .before .before .before .before .before .before .before .pre .0) _ (c .before .before .before .before .before .before .wide .ensures) (c .before .before .before .before .before .part .ensures) (c .part2 .ensures) (c .before .before .before .fill-entries .ensures .0) (c .before .before .before .fill-entries .ensures .1)
+
+pub fill-list-spec : {M : Type 1} → statement M
+fill-list-spec =
+    tie.close
+    (tie.spec
+    shared-slice-read-wide
+    wide-requires
+    part-requires
+    add-fill-entries
+    cast-fill-entries
+    mul-fill-entries
+    fill-entries-requires
+    sub-part
+    part-requires-2
+    cast-t18
+    same-length
+    returns)

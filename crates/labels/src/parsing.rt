@@ -1,0 +1,175 @@
+// Reading a list of labels: the reads of the Rust's `parse_entries`, after the byte with the count. One pass measures and touches nothing, one fills table 7.
+ghost use mathlib.Core.Path.{_≡_};
+ghost use mathlib.Core.Bool.{true};
+ghost use mathlib.Core.List.{flatMap};
+ghost use Prim.Native.Nat.{_+_, _*_, _<_, _≤_, _^_};
+ghost use lib.ListN.{length};
+ghost use lib.Seq.{sets};
+ghost use Rattle.wire.specs.Prog.{done, run, many};
+ghost use Rattle.wire.specs.Reads.{isDone, posOf, rowsOf, Summed};
+ghost use Rattle.wire.specs.Nest.{Fillable, Nested};
+ghost use Rattle.labels.specs.Rows.{entryColumns, entryRow, placed};
+ghost use Rattle.labels.specs.Read.{entry, labels};
+ghost use Rattle.labels.specs.Contract.{AnyWidth};
+use super::rows::Descriptions;
+use super::rows::ENTRY_COLUMNS;
+use super::rows::TextLabelEntry;
+use wire::bits::part;
+use wire::bits::wide;
+use wire::reads::Byte;
+use wire::reads::Ends;
+use wire::reads::Run;
+use wire::reads::Sum;
+use wire::reads::byte_at;
+use wire::reads::run_at;
+use wire::rows::Range;
+use wire::rows::payload_at;
+use wire::rows::put_row;
+
+// What is known to be there, and the next position.
+struct PlacedEntry {
+    entry: TextLabelEntry,
+    next: usize,
+}
+
+pub struct PlacedList {
+    pub list: Descriptions,
+    pub next: usize,
+}
+
+// ---- measuring
+
+// Where an entry ends, whatever the width of its ID.
+fn entry_end(body: &[u8], at: usize) -> Ends
+    requires { ⌜ at ≤ length (now body) ⌝ }
+    ensures { λ r. ⌜ AnyWidth entry (now (body .entry)) at r ⌝ }
+{
+    let a = byte_at(body, at);
+    let Byte::Got(_, n1) = a else {
+        return Ends::Short(a.short());
+    };
+    let b = byte_at(body, n1);
+    let Byte::Got(count, n2) = b else {
+        return Ends::Short(b.short());
+    };
+    let c = run_at(body, n2, count as usize);
+    let Run::Got(_, next) = c else {
+        return Ends::Short(c.short());
+    };
+    Ends::At(next)
+}
+
+// Where `count` entries end.
+fn entries_end(body: &[u8], at: usize, count: usize) -> Ends
+    requires { ⌜ at ≤ length (now body) ⌝ }
+    ensures { λ r. ⌜ AnyWidth (λ w. many count (entry w)) (now (body .entry)) at r ⌝ }
+{
+    let mut pos = at;
+    let mut left = count;
+    while 0 < left {
+        let a = entry_end(body, pos);
+        let Ends::At(next) = a else {
+            return a;
+        };
+        pos = next;
+        left -= 1;
+    }
+    Ends::At(pos)
+}
+
+// The entries of a list whose IDs have `w` bits, and where it ends.
+pub fn list_rows(body: &[u8], at: usize, w: u32) -> Sum
+    requires { ⌜ (at ≤ length (now body)) × (w < 8) ⌝ }
+    ensures { λ r. ⌜ Summed (labels w) (λ d. length (d .entries)) 127 (now (body .entry)) at r ⌝ }
+{
+    let a = byte_at(body, at);
+    let Byte::Got(b, n1) = a else {
+        return Sum::Short(a.short());
+    };
+    let count = part(b, 0, w) as usize;
+    let c = entries_end(body, n1, count);
+    let Ends::At(next) = c else {
+        return Sum::Short(c.short());
+    };
+    Sum::Got(count, next)
+}
+
+// ---- filling: nothing is left to test
+
+// An entry that was measured.
+fn entry_at(body: &[u8], at: usize, w: u32) -> PlacedEntry
+    requires { ⌜ (isDone (run (entry w) (now body) at) ≡ true) × (length (now body) < 2 ^ 16) × (w < 8) ⌝ }
+    ensures { λ r. ⌜ done (r .entry) (r .next) ≡ run (entry w) (now (body .entry)) at ⌝ }
+{
+    let b = wide(body[at]);
+    let length = wide(body[at + 1]);
+    let begins = at + 2;
+    PlacedEntry {
+        entry: TextLabelEntry {
+            reserved: part(b, w, 8 - w),
+            id: part(b, 0, w),
+            data: payload_at(begins, length),
+        },
+        next: begins + (length as usize),
+    }
+}
+
+// Stores `count` entries that were measured as rows of table 7 from the column `column` on, and says where they end.
+fn fill_entries(
+    body: &[u8],
+    at: usize,
+    count: usize,
+    w: u32,
+    entries: &mut [u16],
+    column: usize,
+) -> usize
+    requires { ⌜ (at ≤ length (now body)) × (isDone (run (many count (entry w)) (now body) at) ≡ true) × (length (now body) < 2 ^ 16) × (w < 8) × (column + entryColumns * count ≤ length (now entries)) ⌝ }
+    ensures { λ r. ⌜ (r ≡ posOf (run (many count (entry w)) (now (body .entry)) at)) × (now (entries .exit) ≡ sets (now (entries .entry)) column (flatMap entryRow (rowsOf (run (many count (entry w)) (now (body .entry)) at)))) ⌝ }
+{
+    let mut pos = at;
+    let mut left = count;
+    let mut to = column;
+    while 0 < left {
+        let p = entry_at(body, pos, w);
+        let row = p.entry.columns();
+        put_row(entries, to, &row);
+        pos = p.next;
+        left -= 1;
+        to += ENTRY_COLUMNS;
+    }
+    pos
+}
+
+// Stores the entries of a list from row `first` on.
+pub fn fill_list(body: &[u8], at: usize, w: u32, entries: &mut [u16], first: usize) -> PlacedList
+    requires { ⌜ Fillable (labels w) entryColumns (λ d. length (d .entries)) (now body) at first (now entries) × (w < 8) ⌝ }
+    ensures { λ r. ⌜ Nested (labels w) entryColumns placed (λ d. flatMap entryRow (d .entries)) (now (body .entry)) at first (now (entries .entry)) (r .list) (r .next) (now (entries .exit)) ⌝ }
+{
+    let b = wide(body[at]);
+    let count = part(b, 0, w);
+    let next = fill_entries(
+        body,
+        at + 1,
+        count as usize,
+        w,
+        entries,
+        first * ENTRY_COLUMNS,
+    );
+    PlacedList {
+        list: Descriptions {
+            reserved: part(b, w, 8 - w),
+            entries: Range {
+                first: first as u16,
+                count,
+            },
+        },
+        next,
+    }
+}
+
+// The row behind those of a list.
+pub fn row_after(r: Range) -> usize
+    ensures { λ n. ⌜ n ≡ r .first + r .count ⌝ }
+{
+    (r.first as usize) + (r.count as usize)
+}
