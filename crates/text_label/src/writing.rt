@@ -49,7 +49,7 @@ fn all_inside(l: TextLabelLanguage, entries: &[u16]) -> bool
     groups & (switch_groups & presets)
 }
 
-// The ranges, then the fields and lists.
+// The ranges, then the fields and lists. A language makes at most 48,579 bytes: 3, and 1 and 257 for each label of 127 groups, 31 switch groups and 31 presets.
 fn check_language(n: usize, l: TextLabelLanguage, entries: &[u16], store: &[u8]) -> Pen
     requires { ⌜ n < 2 ^ 24 ⌝ }
     ensures { λ r. ⌜ Checked (languageActs (now (entries .entry)) (now (store .entry)) l) 48579 (At n) r ⌝ }
@@ -102,7 +102,7 @@ fn check_fields(m: MpegH3dAudioTextLabel, languages: &[u16], entries: &[u16], st
     }
 }
 
-// The whole: its first fault, or its length.
+// The whole: its first fault, or its length, which is at most 794,222: 2, 15 languages, and the longest trailing run.
 pub fn check(m: MpegH3dAudioTextLabel, languages: &[u16], entries: &[u16], store: &[u8]) -> Pen
     ensures { λ r. ⌜ Checked (whole kind m (now (languages .entry) ∷ now (entries .entry) ∷ []) (now (store .entry))) 794222 (At 0) r ⌝ }
 {
