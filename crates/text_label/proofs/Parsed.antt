@@ -12,9 +12,11 @@ use Rattle.wire.specs.Prog.{Prog, ret, Out, done, short, run, u8, bytes, pass, 
 use Rattle.wire.proofs.Fields.{part-below}
 use Rattle.wire.proofs.Runs.{run-split, run-ret}
 use Rattle.wire.specs.declared.reads.Short.{Short}
-use Rattle.wire.specs.Reads.{shortOf, mapOut, endOf}
-use Rattle.wire.proofs.Walk.{From, begun, onward, as-done, cut-off-as, bytes-end, byte-taken, bytes-taken}
-use Rattle.wire.proofs.Loops.{many-long}
+use Rattle.wire.specs.declared.reads.Sum.{Sum}
+use Rattle.wire.specs.declared.reads.Sum.the-variants as S
+use Rattle.wire.specs.Reads.{shortOf, mapOut, endOf, Summed}
+use Rattle.wire.proofs.Walk.{From, begun, onward, finished, as-done, cut-off-as, bytes-end, byte-taken, bytes-taken}
+use Rattle.wire.proofs.Loops.{many-long, Went-on, sum-onward, sum-cut-off}
 use Rattle.wire.proofs.Nest.{flat-length}
 use Rattle.labels.specs.declared.rows.TextLabelEntry.{TextLabelEntry}
 use Rattle.labels.specs.Rows.{Labels}
@@ -39,6 +41,10 @@ abbrev pub afterLetters : List ℕ → Prog (Language TextLabelEntry)
 afterLetters l = labels 7 >>= λ g. afterGroups l g
 
 -- its three bytes are read
+pub record AfterLetters (s : List ℕ) (at n : ℕ) : Type 0 where
+  pub them : List ℕ
+  pub place : From language s at (afterLetters them) n
+
 module _ (s : List ℕ) (at : ℕ) (h : at ≤ length s) {o : Out ℕ} (e : o ≡ run (pass 3) s at) where
   ends-three : endOf o ≡ endOf (run (bytes 3) s at)
   ends-three = ap endOf e ∙ sym (bytes-end 3 s at)
@@ -47,9 +53,59 @@ module _ (s : List ℕ) (at : ℕ) (h : at ≤ length s) {o : Out ℕ} (e : o �
   unfolding language
   letters-short d q = cut-off-as (bytes 3) (λ l. tt) afterLetters (begun language s at h) ends-three (ap endOf d) (q ∙ ap shortOf d ∙ sym (ap (λ (o : Out ℕ). shortOf (endOf o)) d))
 
-  pub letters-place : {p m : ℕ} → o ≡ done p m → (l : List ℕ) × From language s at (afterLetters l) m
+  pub letters-place : {p m : ℕ} → o ≡ done p m → AfterLetters s at m
   unfolding language
-  letters-place d = let (l, r, q) = as-done (λ (l : List ℕ). tt) (run (bytes 3) s at) (sym ends-three ∙ ap endOf d) in (l, onward (bytes 3) afterLetters (begun language s at h) refl r)
+  letters-place d = let (l, r, q) = as-done (λ (l : List ℕ). tt) (run (bytes 3) s at) (sym ends-three ∙ ap endOf d) in record { them = l; place = onward (bytes 3) afterLetters (begun language s at h) refl r }
+
+-- a number f of each list, summed list by list: where code stands, and what it has in the end
+pub record Three (f₇ f₅ : Labels TextLabelEntry → ℕ) (s : List ℕ) (at m a b c : ℕ) : Type 0 where
+  pub all : Language TextLabelEntry
+  pub reads : done all m ≡ run language s at
+  pub groups : a ≡ f₇ (all .groups)
+  pub switch-groups : b ≡ f₅ (all .«switch_groups»)
+  pub presets : c ≡ f₅ (all .presets)
+
+module _ (f₇ f₅ : Labels TextLabelEntry → ℕ) {most : ℕ} (s : List ℕ) (at : ℕ) {n : ℕ} (w : AfterLetters s at n) {g : Sum} (x : Summed (labels 7) f₇ most s n g) where
+  pub groups-short : {y : Short} → g ≡ S.Short y → short y ≡ run language s at
+  groups-short e = sum-cut-off (labels 7) (afterGroups (w .them)) (w .place) x e
+
+  module _ {a n₂ : ℕ} (e : g ≡ S.Got a n₂) where
+    after-groups : Went-on (labels 7) f₇ (afterGroups (w .them)) language s at n a n₂
+    after-groups = sum-onward (labels 7) (afterGroups (w .them)) (w .place) x e
+
+    pub groups-there : n₂ ≤ length s
+    groups-there = after-groups .place .inside
+
+    module _ {sw : Sum} (y : Summed (labels 5) f₅ most s n₂ sw) where
+      pub switch-groups-short : {z : Short} → sw ≡ S.Short z → short z ≡ run language s at
+      switch-groups-short d = sum-cut-off (labels 5) (afterLists (w .them) (after-groups .value)) (after-groups .place) y d
+
+      module _ {b n₃ : ℕ} (d : sw ≡ S.Got b n₃) where
+        after-switch-groups : Went-on (labels 5) f₅ (afterLists (w .them) (after-groups .value)) language s at n₂ b n₃
+        after-switch-groups = sum-onward (labels 5) (afterLists (w .them) (after-groups .value)) (after-groups .place) y d
+
+        pub switch-groups-there : n₃ ≤ length s
+        switch-groups-there = after-switch-groups .place .inside
+
+        module _ {p : Sum} (z : Summed (labels 5) f₅ most s n₃ p) where
+          last : Labels TextLabelEntry → Prog (Language TextLabelEntry)
+          last p = ret (languageIs (w .them) (after-groups .value) (after-switch-groups .value) p)
+
+          pub presets-short : {q : Short} → p ≡ S.Short q → short q ≡ run language s at
+          unfolding last
+          presets-short c = sum-cut-off (labels 5) last (after-switch-groups .place) z c
+
+          pub three : {c m : ℕ} → p ≡ S.Got c m → Three f₇ f₅ s at m a b c
+          unfolding last
+          three c =
+              let q = sum-onward (labels 5) last (after-switch-groups .place) z c in
+              record {
+                all = languageIs (w .them) (after-groups .value) (after-switch-groups .value) (q .value);
+                reads = finished (q .place) refl;
+                groups = sym (after-groups .is);
+                switch-groups = sym (after-switch-groups .is);
+                presets = sym (q .is);
+              }
 
 pub record LanguageRun (s : List ℕ) (at : ℕ) (l : Language TextLabelEntry) (m : ℕ) : Type 0 where
   pub letters-there : at + 3 ≤ length s

@@ -1,13 +1,11 @@
 -- `text_label::parsing::language_rows` meets its contract: the rows of the three lists, one after the other.
-use mathlib.Core.Path.{refl, ap, sym, _∙_}
+use mathlib.Core.Path.{ap, sym, _∙_}
 use Prim.Native.Nat.{_+_}
 use native.Mathlib.Omega.{arith}
+use lib.ListN.{length}
 use Rattle.wire.specs.Reads.{runOut}
-use Rattle.wire.proofs.Loops.{summed-done, summed-short, summed-cut, sum-small, sum-onward, sum-cut-off}
-use Rattle.wire.specs.Prog.{ret}
-use Rattle.wire.proofs.Walk.{finished}
-use Rattle.labels.specs.Read.{labels}
-use Rattle.text_label.proofs.Parsed.{languageIs, afterLists, afterGroups, letters-short, letters-place, entries-long}
+use Rattle.wire.proofs.Loops.{summed-done, summed-short, summed-cut, sum-small}
+use Rattle.text_label.proofs.Parsed.{letters-short, letters-place, groups-short, groups-there, switch-groups-short, switch-groups-there, presets-short, three, entries-long}
 use borrow.Author.Needs.{needs}
 use Rattle.text_label.proofs.parsing.language_rows.Statement.{statement}
 use Rattle.text_label.proofs.parsing.language_rows.Tie as tie
@@ -30,7 +28,7 @@ returns c =
 
 list-rows-requires : tie.Need-list-rows-requires
 list-rows-requires c κs =
-    (letters-place _ _ (c .before .before .before .before .before .pre) (c .before .before .before .run-at .ensures) (ap runOut (c .before .letters .given .1)) .1 .inside, omega arith)
+    (letters-place _ _ (c .before .before .before .before .before .pre) (c .before .before .before .run-at .ensures) (ap runOut (c .before .letters .given .1)) .place .inside, omega arith)
 
 enum-known-g : tie.Need-enum-known-g
 enum-known-g c = search needs
@@ -40,13 +38,13 @@ enum-told-2 c = search needs
 
 returns-2 : tie.Need-returns-2
 returns-2 c =
-    let (b, w) = letters-place _ _ (c .before .before .before .before .before .before .before .before .pre) (c .before .before .before .before .before .before .run-at .ensures) (ap runOut (c .before .before .before .before .letters .given .1)) in
-    summed-cut (c .enum-told2 .given .1) (sum-cut-off (labels 7) (afterGroups b) w (c .before .before .list-rows .ensures) (c .enum-told2 .given .1))
+    let w = letters-place _ _ (c .before .before .before .before .before .before .before .before .pre) (c .before .before .before .before .before .before .run-at .ensures) (ap runOut (c .before .before .before .before .letters .given .1)) in
+    summed-cut (c .enum-told2 .given .1) (groups-short (λ d. length (d .entries)) (λ d. length (d .entries)) _ _ w (c .before .before .list-rows .ensures) (c .enum-told2 .given .1))
 
 list-rows-requires-2 : tie.Need-list-rows-requires-2
 list-rows-requires-2 c κs =
-    let (b, w) = letters-place _ _ (c .before .before .before .before .before .before .before .before .before .pre) (c .before .before .before .before .before .before .before .run-at .ensures) (ap runOut (c .before .before .before .before .before .letters .given .1)) in
-    (sum-onward (labels 7) (afterGroups b) w (c .before .before .before .list-rows .ensures) (c .before .g .given .1) .place .inside, omega arith)
+    let w = letters-place _ _ (c .before .before .before .before .before .before .before .before .before .pre) (c .before .before .before .before .before .before .before .run-at .ensures) (ap runOut (c .before .before .before .before .before .letters .given .1)) in
+    (groups-there (λ d. length (d .entries)) (λ d. length (d .entries)) _ _ w (c .before .before .before .list-rows .ensures) (c .before .g .given .1), omega arith)
 
 enum-known-s : tie.Need-enum-known-s
 enum-known-s c = search needs
@@ -56,15 +54,13 @@ enum-told-3 c = search needs
 
 returns-3 : tie.Need-returns-3
 returns-3 c =
-    let (b, w) = letters-place _ _ (c .before .before .before .before .before .before .before .before .before .before .before .before .pre) (c .before .before .before .before .before .before .before .before .before .before .run-at .ensures) (ap runOut (c .before .before .before .before .before .before .before .before .letters .given .1)) in
-    let g = sum-onward (labels 7) (afterGroups b) w (c .before .before .before .before .before .before .list-rows .ensures) (c .before .before .before .before .g .given .1) in
-    summed-cut (c .enum-told3 .given .1) (sum-cut-off (labels 5) (afterLists b (g .value)) (g .place) (c .before .before .list-rows2 .ensures) (c .enum-told3 .given .1))
+    let w = letters-place _ _ (c .before .before .before .before .before .before .before .before .before .before .before .before .pre) (c .before .before .before .before .before .before .before .before .before .before .run-at .ensures) (ap runOut (c .before .before .before .before .before .before .before .before .letters .given .1)) in
+    summed-cut (c .enum-told3 .given .1) (switch-groups-short (λ d. length (d .entries)) (λ d. length (d .entries)) _ _ w (c .before .before .before .before .before .before .list-rows .ensures) (c .before .before .before .before .g .given .1) (c .before .before .list-rows2 .ensures) (c .enum-told3 .given .1))
 
 list-rows-requires-3 : tie.Need-list-rows-requires-3
 list-rows-requires-3 c κs =
-    let (b, w) = letters-place _ _ (c .before .before .before .before .before .before .before .before .before .before .before .before .before .pre) (c .before .before .before .before .before .before .before .before .before .before .before .run-at .ensures) (ap runOut (c .before .before .before .before .before .before .before .before .before .letters .given .1)) in
-    let g = sum-onward (labels 7) (afterGroups b) w (c .before .before .before .before .before .before .before .list-rows .ensures) (c .before .before .before .before .before .g .given .1) in
-    (sum-onward (labels 5) (afterLists b (g .value)) (g .place) (c .before .before .before .list-rows2 .ensures) (c .before .s .given .1) .place .inside, omega arith)
+    let w = letters-place _ _ (c .before .before .before .before .before .before .before .before .before .before .before .before .before .pre) (c .before .before .before .before .before .before .before .before .before .before .before .run-at .ensures) (ap runOut (c .before .before .before .before .before .before .before .before .before .letters .given .1)) in
+    (switch-groups-there (λ d. length (d .entries)) (λ d. length (d .entries)) _ _ w (c .before .before .before .before .before .before .before .list-rows .ensures) (c .before .before .before .before .before .g .given .1) (c .before .before .before .list-rows2 .ensures) (c .before .s .given .1), omega arith)
 
 enum-known-p : tie.Need-enum-known-p
 enum-known-p c = search needs
@@ -74,10 +70,8 @@ enum-told-4 c = search needs
 
 returns-4 : tie.Need-returns-4
 returns-4 c =
-    let (b, w) = letters-place _ _ (c .before .before .before .before .before .before .before .before .before .before .before .before .before .before .before .before .pre) (c .before .before .before .before .before .before .before .before .before .before .before .before .before .before .run-at .ensures) (ap runOut (c .before .before .before .before .before .before .before .before .before .before .before .before .letters .given .1)) in
-    let g = sum-onward (labels 7) (afterGroups b) w (c .before .before .before .before .before .before .before .before .before .before .list-rows .ensures) (c .before .before .before .before .before .before .before .before .g .given .1) in
-    let s = sum-onward (labels 5) (afterLists b (g .value)) (g .place) (c .before .before .before .before .before .before .list-rows2 .ensures) (c .before .before .before .before .s .given .1) in
-    summed-cut (c .enum-told4 .given .1) (sum-cut-off (labels 5) (λ p. ret (languageIs b (g .value) (s .value) p)) (s .place) (c .before .before .list-rows3 .ensures) (c .enum-told4 .given .1))
+    let w = letters-place _ _ (c .before .before .before .before .before .before .before .before .before .before .before .before .before .before .before .before .pre) (c .before .before .before .before .before .before .before .before .before .before .before .before .before .before .run-at .ensures) (ap runOut (c .before .before .before .before .before .before .before .before .before .before .before .before .letters .given .1)) in
+    summed-cut (c .enum-told4 .given .1) (presets-short (λ d. length (d .entries)) (λ d. length (d .entries)) _ _ w (c .before .before .before .before .before .before .before .before .before .before .list-rows .ensures) (c .before .before .before .before .before .before .before .before .g .given .1) (c .before .before .before .before .before .before .list-rows2 .ensures) (c .before .before .before .before .s .given .1) (c .before .before .list-rows3 .ensures) (c .enum-told4 .given .1))
 
 add-t15 : tie.Need-add-t15
 add-t15 c =
@@ -89,12 +83,9 @@ add-t16 c =
 
 returns-5 : tie.Need-returns-5
 returns-5 c =
-    let (b, w) = letters-place _ _ (c .before .before .before .before .before .before .before .before .before .before .before .before .before .before .before .before .before .pre) (c .before .before .before .before .before .before .before .before .before .before .before .before .before .before .before .run-at .ensures) (ap runOut (c .before .before .before .before .before .before .before .before .before .before .before .before .before .letters .given .1)) in
-    let g = sum-onward (labels 7) (afterGroups b) w (c .before .before .before .before .before .before .before .before .before .before .before .list-rows .ensures) (c .before .before .before .before .before .before .before .before .before .g .given .1) in
-    let s = sum-onward (labels 5) (afterLists b (g .value)) (g .place) (c .before .before .before .before .before .before .before .list-rows2 .ensures) (c .before .before .before .before .before .s .given .1) in
-    let p = sum-onward (labels 5) (λ p. ret (languageIs b (g .value) (s .value) p)) (s .place) (c .before .before .before .list-rows3 .ensures) (c .before .p .given .1) in
-    summed-done (finished (p .place) refl) ((λ i. sym (g .is) i + (sym (s .is) i + sym (p .is) i)) ∙ sym (entries-long (languageIs b (g .value) (s .value) (p .value))))
-    (omega (arith, sum-small (c .before .before .before .before .before .before .before .before .before .before .before .list-rows .ensures) (c .before .before .before .before .before .before .before .before .before .g .given .1), sum-small (c .before .before .before .before .before .before .before .list-rows2 .ensures) (c .before .before .before .before .before .s .given .1), sum-small (c .before .before .before .list-rows3 .ensures) (c .before .p .given .1)))
+    let w = letters-place _ _ (c .before .before .before .before .before .before .before .before .before .before .before .before .before .before .before .before .before .pre) (c .before .before .before .before .before .before .before .before .before .before .before .before .before .before .before .run-at .ensures) (ap runOut (c .before .before .before .before .before .before .before .before .before .before .before .before .before .letters .given .1)) in
+    let t = three (λ d. length (d .entries)) (λ d. length (d .entries)) _ _ w (c .before .before .before .before .before .before .before .before .before .before .before .list-rows .ensures) (c .before .before .before .before .before .before .before .before .before .g .given .1) (c .before .before .before .before .before .before .before .list-rows2 .ensures) (c .before .before .before .before .before .s .given .1) (c .before .before .before .list-rows3 .ensures) (c .before .p .given .1) in
+    summed-done (t .reads) ((λ i. t .groups i + (t .switch-groups i + t .presets i)) ∙ sym (entries-long (t .all))) (omega (arith, sum-small (c .before .before .before .before .before .before .before .before .before .before .before .list-rows .ensures) (c .before .before .before .before .before .before .before .before .before .g .given .1), sum-small (c .before .before .before .before .before .before .before .list-rows2 .ensures) (c .before .before .before .before .before .s .given .1), sum-small (c .before .before .before .list-rows3 .ensures) (c .before .p .given .1)))
 
 pub language-rows-spec : {M : Type 1} → statement M
 language-rows-spec =

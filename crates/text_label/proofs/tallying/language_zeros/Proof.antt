@@ -1,13 +1,11 @@
 -- `text_label::tallying::language_zeros` meets its contract: the tallies of the three lists, one after the other.
-use mathlib.Core.Path.{refl, ap, sym}
+use mathlib.Core.Path.{ap}
 use Prim.Native.Nat.{_+_}
 use native.Mathlib.Omega.{arith}
-use Rattle.wire.specs.Prog.{ret}
 use Rattle.wire.specs.Reads.{runOut}
-use Rattle.wire.proofs.Walk.{finished}
-use Rattle.wire.proofs.Loops.{summed-done, summed-short, summed-cut, sum-small, sum-onward, sum-cut-off}
-use Rattle.labels.specs.Read.{labels}
-use Rattle.text_label.proofs.Parsed.{languageIs, afterLists, afterGroups, letters-short, letters-place}
+use Rattle.wire.proofs.Loops.{summed-done, summed-short, summed-cut, sum-small}
+use Rattle.labels.specs.Tally.{labelsTally}
+use Rattle.text_label.proofs.Parsed.{letters-short, letters-place, groups-short, groups-there, switch-groups-short, switch-groups-there, presets-short, three}
 use borrow.Author.Needs.{needs}
 use Rattle.text_label.proofs.tallying.language_zeros.Statement.{statement}
 use Rattle.text_label.proofs.tallying.language_zeros.Tie as tie
@@ -30,7 +28,7 @@ returns c =
 
 list-zeros-requires : tie.Need-list-zeros-requires
 list-zeros-requires c κs =
-    (letters-place _ _ (c .before .before .before .before .before .pre) (c .before .before .before .run-at .ensures) (ap runOut (c .before .letters .given .1)) .1 .inside, omega arith)
+    (letters-place _ _ (c .before .before .before .before .before .pre) (c .before .before .before .run-at .ensures) (ap runOut (c .before .letters .given .1)) .place .inside, omega arith)
 
 enum-known-g : tie.Need-enum-known-g
 enum-known-g c = search needs
@@ -40,13 +38,13 @@ enum-told-2 c = search needs
 
 returns-2 : tie.Need-returns-2
 returns-2 c =
-    let (b, w) = letters-place _ _ (c .before .before .before .before .before .before .before .before .pre) (c .before .before .before .before .before .before .run-at .ensures) (ap runOut (c .before .before .before .before .letters .given .1)) in
-    summed-cut (c .enum-told2 .given .1) (sum-cut-off (labels 7) (afterGroups b) w (c .before .before .list-zeros .ensures) (c .enum-told2 .given .1))
+    let w = letters-place _ _ (c .before .before .before .before .before .before .before .before .pre) (c .before .before .before .before .before .before .run-at .ensures) (ap runOut (c .before .before .before .before .letters .given .1)) in
+    summed-cut (c .enum-told2 .given .1) (groups-short (labelsTally 7) (labelsTally 5) _ _ w (c .before .before .list-zeros .ensures) (c .enum-told2 .given .1))
 
 list-zeros-requires-2 : tie.Need-list-zeros-requires-2
 list-zeros-requires-2 c κs =
-    let (b, w) = letters-place _ _ (c .before .before .before .before .before .before .before .before .before .pre) (c .before .before .before .before .before .before .before .run-at .ensures) (ap runOut (c .before .before .before .before .before .letters .given .1)) in
-    (sum-onward (labels 7) (afterGroups b) w (c .before .before .before .list-zeros .ensures) (c .before .g .given .1) .place .inside, omega arith)
+    let w = letters-place _ _ (c .before .before .before .before .before .before .before .before .before .pre) (c .before .before .before .before .before .before .before .run-at .ensures) (ap runOut (c .before .before .before .before .before .letters .given .1)) in
+    (groups-there (labelsTally 7) (labelsTally 5) _ _ w (c .before .before .before .list-zeros .ensures) (c .before .g .given .1), omega arith)
 
 enum-known-s : tie.Need-enum-known-s
 enum-known-s c = search needs
@@ -56,15 +54,13 @@ enum-told-3 c = search needs
 
 returns-3 : tie.Need-returns-3
 returns-3 c =
-    let (b, w) = letters-place _ _ (c .before .before .before .before .before .before .before .before .before .before .before .before .pre) (c .before .before .before .before .before .before .before .before .before .before .run-at .ensures) (ap runOut (c .before .before .before .before .before .before .before .before .letters .given .1)) in
-    let g = sum-onward (labels 7) (afterGroups b) w (c .before .before .before .before .before .before .list-zeros .ensures) (c .before .before .before .before .g .given .1) in
-    summed-cut (c .enum-told3 .given .1) (sum-cut-off (labels 5) (afterLists b (g .value)) (g .place) (c .before .before .list-zeros2 .ensures) (c .enum-told3 .given .1))
+    let w = letters-place _ _ (c .before .before .before .before .before .before .before .before .before .before .before .before .pre) (c .before .before .before .before .before .before .before .before .before .before .run-at .ensures) (ap runOut (c .before .before .before .before .before .before .before .before .letters .given .1)) in
+    summed-cut (c .enum-told3 .given .1) (switch-groups-short (labelsTally 7) (labelsTally 5) _ _ w (c .before .before .before .before .before .before .list-zeros .ensures) (c .before .before .before .before .g .given .1) (c .before .before .list-zeros2 .ensures) (c .enum-told3 .given .1))
 
 list-zeros-requires-3 : tie.Need-list-zeros-requires-3
 list-zeros-requires-3 c κs =
-    let (b, w) = letters-place _ _ (c .before .before .before .before .before .before .before .before .before .before .before .before .before .pre) (c .before .before .before .before .before .before .before .before .before .before .before .run-at .ensures) (ap runOut (c .before .before .before .before .before .before .before .before .before .letters .given .1)) in
-    let g = sum-onward (labels 7) (afterGroups b) w (c .before .before .before .before .before .before .before .list-zeros .ensures) (c .before .before .before .before .before .g .given .1) in
-    (sum-onward (labels 5) (afterLists b (g .value)) (g .place) (c .before .before .before .list-zeros2 .ensures) (c .before .s .given .1) .place .inside, omega arith)
+    let w = letters-place _ _ (c .before .before .before .before .before .before .before .before .before .before .before .before .before .pre) (c .before .before .before .before .before .before .before .before .before .before .before .run-at .ensures) (ap runOut (c .before .before .before .before .before .before .before .before .before .letters .given .1)) in
+    (switch-groups-there (labelsTally 7) (labelsTally 5) _ _ w (c .before .before .before .before .before .before .before .list-zeros .ensures) (c .before .before .before .before .before .g .given .1) (c .before .before .before .list-zeros2 .ensures) (c .before .s .given .1), omega arith)
 
 enum-known-p : tie.Need-enum-known-p
 enum-known-p c = search needs
@@ -74,10 +70,8 @@ enum-told-4 c = search needs
 
 returns-4 : tie.Need-returns-4
 returns-4 c =
-    let (b, w) = letters-place _ _ (c .before .before .before .before .before .before .before .before .before .before .before .before .before .before .before .before .pre) (c .before .before .before .before .before .before .before .before .before .before .before .before .before .before .run-at .ensures) (ap runOut (c .before .before .before .before .before .before .before .before .before .before .before .before .letters .given .1)) in
-    let g = sum-onward (labels 7) (afterGroups b) w (c .before .before .before .before .before .before .before .before .before .before .list-zeros .ensures) (c .before .before .before .before .before .before .before .before .g .given .1) in
-    let s = sum-onward (labels 5) (afterLists b (g .value)) (g .place) (c .before .before .before .before .before .before .list-zeros2 .ensures) (c .before .before .before .before .s .given .1) in
-    summed-cut (c .enum-told4 .given .1) (sum-cut-off (labels 5) (λ p. ret (languageIs b (g .value) (s .value) p)) (s .place) (c .before .before .list-zeros3 .ensures) (c .enum-told4 .given .1))
+    let w = letters-place _ _ (c .before .before .before .before .before .before .before .before .before .before .before .before .before .before .before .before .pre) (c .before .before .before .before .before .before .before .before .before .before .before .before .before .before .run-at .ensures) (ap runOut (c .before .before .before .before .before .before .before .before .before .before .before .before .letters .given .1)) in
+    summed-cut (c .enum-told4 .given .1) (presets-short (labelsTally 7) (labelsTally 5) _ _ w (c .before .before .before .before .before .before .before .before .before .before .list-zeros .ensures) (c .before .before .before .before .before .before .before .before .g .given .1) (c .before .before .before .before .before .before .list-zeros2 .ensures) (c .before .before .before .before .s .given .1) (c .before .before .list-zeros3 .ensures) (c .enum-told4 .given .1))
 
 add-t15 : tie.Need-add-t15
 add-t15 c =
@@ -89,12 +83,9 @@ add-t16 c =
 
 returns-5 : tie.Need-returns-5
 returns-5 c =
-    let (b, w) = letters-place _ _ (c .before .before .before .before .before .before .before .before .before .before .before .before .before .before .before .before .before .pre) (c .before .before .before .before .before .before .before .before .before .before .before .before .before .before .before .run-at .ensures) (ap runOut (c .before .before .before .before .before .before .before .before .before .before .before .before .before .letters .given .1)) in
-    let g = sum-onward (labels 7) (afterGroups b) w (c .before .before .before .before .before .before .before .before .before .before .before .list-zeros .ensures) (c .before .before .before .before .before .before .before .before .before .g .given .1) in
-    let s = sum-onward (labels 5) (afterLists b (g .value)) (g .place) (c .before .before .before .before .before .before .before .list-zeros2 .ensures) (c .before .before .before .before .before .s .given .1) in
-    let p = sum-onward (labels 5) (λ p. ret (languageIs b (g .value) (s .value) p)) (s .place) (c .before .before .before .list-zeros3 .ensures) (c .before .p .given .1) in
-    summed-done (finished (p .place) refl) (λ i. sym (g .is) i + sym (s .is) i + sym (p .is) i)
-    (omega (arith, sum-small (c .before .before .before .before .before .before .before .before .before .before .before .list-zeros .ensures) (c .before .before .before .before .before .before .before .before .before .g .given .1), sum-small (c .before .before .before .before .before .before .before .list-zeros2 .ensures) (c .before .before .before .before .before .s .given .1), sum-small (c .before .before .before .list-zeros3 .ensures) (c .before .p .given .1)))
+    let w = letters-place _ _ (c .before .before .before .before .before .before .before .before .before .before .before .before .before .before .before .before .before .pre) (c .before .before .before .before .before .before .before .before .before .before .before .before .before .before .before .run-at .ensures) (ap runOut (c .before .before .before .before .before .before .before .before .before .before .before .before .before .letters .given .1)) in
+    let t = three (labelsTally 7) (labelsTally 5) _ _ w (c .before .before .before .before .before .before .before .before .before .before .before .list-zeros .ensures) (c .before .before .before .before .before .before .before .before .before .g .given .1) (c .before .before .before .before .before .before .before .list-zeros2 .ensures) (c .before .before .before .before .before .s .given .1) (c .before .before .before .list-zeros3 .ensures) (c .before .p .given .1) in
+    summed-done (t .reads) (λ i. t .groups i + t .switch-groups i + t .presets i) (omega (arith, sum-small (c .before .before .before .before .before .before .before .before .before .before .before .list-zeros .ensures) (c .before .before .before .before .before .before .before .before .before .g .given .1), sum-small (c .before .before .before .before .before .before .before .list-zeros2 .ensures) (c .before .before .before .before .before .s .given .1), sum-small (c .before .before .before .list-zeros3 .ensures) (c .before .p .given .1)))
 
 pub language-zeros-spec : {M : Type 1} → statement M
 language-zeros-spec =
