@@ -1,4 +1,4 @@
--- The reading programs: what is left of one after its first reads, and what a run that is done says of the body.
+-- The reading programs of a list: what is left of one after its first reads, and what a run that is done says of the body.
 use Prim.Native.Nat.{ℕ, _+_, _-_, _^_, _≤_, _<_}
 use mathlib.Core.Path.{_≡_, refl, sym, ap, _∙_}
 use mathlib.Core.Bool.{true}

@@ -26,6 +26,10 @@ range i k = record { first = i; count = k }
 abbrev pub descriptions : ℕ → Range → Descriptions
 descriptions r e = record { reserved = r; entries = e }
 
+-- the list whose first column is b
+abbrev pub descriptionsOf : List ℕ → ℕ → Descriptions
+descriptionsOf t b = descriptions (getD t b 0) (range (getD t (b + 1) 0) (getD t (b + 2) 0))
+
 -- Entry is a row of table 7, or what it means
 pub record Labels (Entry : Type 0) : Type 0 where
   pub reserved : ℕ

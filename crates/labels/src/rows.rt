@@ -1,8 +1,8 @@
 // A list of labels and its rows of table 7 (H.222.0 2.6.112, Table 2-124), with their constructors.
 ghost use mathlib.Core.Path.{_≡_};
-ghost use Prim.Native.Nat.{_+_, _≤_};
+ghost use Prim.Native.Nat.{_+_, _-_, _^_, _≤_};
 ghost use lib.ListN.{length};
-ghost use Rattle.labels.specs.Rows.{entryColumns, entryRow, entryOf};
+ghost use Rattle.labels.specs.Rows.{entryColumns, entryRow, entryOf, descriptions, descriptionsOf};
 use wire::bits::ones;
 use wire::bits::wide;
 use wire::ids::GroupId;
@@ -81,4 +81,31 @@ impl TextLabelEntry {
 pub struct Descriptions {
     pub reserved: u16,
     pub entries: Range,
+}
+
+impl Descriptions {
+    // Reserved bits all ones, so many of them.
+    pub fn new(width: u32, entries: Range) -> Self
+        requires { ⌜ width ≤ 8 ⌝ }
+        ensures { λ r. ⌜ r ≡ descriptions (2 ^ width - 1) entries ⌝ }
+    {
+        Self {
+            reserved: wide(ones(width)),
+            entries,
+        }
+    }
+
+    // The list whose first column is `at`.
+    pub fn of_columns(table: &[u16], at: usize) -> Self
+        requires { ⌜ at + 3 ≤ length (now table) ⌝ }
+        ensures { λ r. ⌜ r ≡ descriptionsOf (now (table .entry)) at ⌝ }
+    {
+        Self {
+            reserved: table[at],
+            entries: Range {
+                first: table[at + 1],
+                count: table[at + 2],
+            },
+        }
+    }
 }

@@ -2,17 +2,17 @@
 use Prim.Native.Nat.{ℕ, _+_}
 use mathlib.Core.Path.{_≡_, refl, sym, ap, _∙_}
 use mathlib.Core.List.{List, _++_, map, map-map, flatten}
-use lib.ListN.{length, drop, length-map}
+use lib.ListN.{length, getD, drop, length-map}
 use lib.Seq.{getD-append-seam, getD-append-add}
 use Rattle.wire.specs.Lists.{Every, each, firsts}
 use Rattle.wire.proofs.Lists.{every-as}
 use Rattle.wire.proofs.Tables.{each-map, rows-found}
 use Rattle.wire.proofs.Nest.{firsts-length, map-firsts, stands-split, stand}
 use Rattle.labels.specs.declared.rows.TextLabelEntry.{TextLabelEntry}
-use Rattle.labels.proofs.Found.{Standing, list-laid, entry-found}
+use Rattle.labels.proofs.Found.{entry-found, list-found, Standing, list-laid}
 use Rattle.text_label.specs.declared.rows.TextLabelLanguage.{TextLabelLanguage}
 use Rattle.labels.specs.Rows.{entryColumns, entryRow, entryOf}
-use Rattle.text_label.specs.Rows.{languageColumns, languageRow, languageOf, Language, entriesOf, entriesIn, languageAs, languageRows}
+use Rattle.text_label.specs.Rows.{letters, languageColumns, languageRow, languageOf, Language, entriesOf, entriesIn, languageAs, languageRows}
 use Rattle.text_label.specs.Write.{languageAt, languageValue}
 use Rattle.text_label.proofs.Format.{languageMeant}
 
@@ -21,7 +21,9 @@ use Rattle.text_label.proofs.Format.{languageMeant}
 pub language-found : (l : TextLabelLanguage) (before behind : List ℕ) → languageOf (before ++ (languageRow l ++ behind)) (length before) ≡ l
 language-found l before behind =
     let s : List ℕ = languageRow l ++ behind in
-    rw (getD-append-seam before (l .language .0) (drop 1 s) 0, getD-append-add before s 1 0, getD-append-add before s 2 0, getD-append-add before s 3 0, getD-append-add before s 4 0, getD-append-add before s 5 0, getD-append-add before s 6 0, getD-append-add before s 7 0, getD-append-add before s 8 0, getD-append-add before s 9 0, getD-append-add before s 10 0, getD-append-add before s 11 0) refl
+    let c : letters (getD (before ++ s) (length before) 0) (getD (before ++ s) (length before + 1) 0) (getD (before ++ s) (length before + 2) 0) ≡ l .language =
+    rw (getD-append-seam before (l .language .0) (drop 1 s) 0, getD-append-add before s 1 0, getD-append-add before s 2 0) refl in
+    λ i. record { language = c i; groups = list-found before s 3 i; «switch_groups» = list-found before s 6 i; presets = list-found before s 9 i }
 
 -- ---- all rows
 

@@ -5,7 +5,7 @@ use lib.ListN.{length, getD}
 use Rattle.wire.specs.Lists.{firsts}
 use Rattle.wire.specs.declared.rows.Payload.{Payload}
 use Rattle.labels.specs.declared.rows.TextLabelEntry.{TextLabelEntry}
-use Rattle.labels.specs.Rows.{entryColumns, entryRow, range, descriptions, Labels, placed}
+use Rattle.labels.specs.Rows.{entryColumns, entryRow, descriptionsOf, Labels, placed}
 use Rattle.frame.specs.Kind.{Rows, Bound, bounded}
 use Rattle.text_label.specs.declared.rows.DescriptionLanguage.{DescriptionLanguage}
 use Rattle.text_label.specs.declared.rows.TextLabelLanguage.{TextLabelLanguage}
@@ -38,9 +38,9 @@ languageRow l =
 abbrev pub languageOf : List ℕ → ℕ → TextLabelLanguage
 languageOf t b = record {
   language = letters (getD t b 0) (getD t (b + 1) 0) (getD t (b + 2) 0);
-  groups = descriptions (getD t (b + 3) 0) (range (getD t (b + 4) 0) (getD t (b + 5) 0));
-  «switch_groups» = descriptions (getD t (b + 6) 0) (range (getD t (b + 7) 0) (getD t (b + 8) 0));
-  presets = descriptions (getD t (b + 9) 0) (range (getD t (b + 10) 0) (getD t (b + 11) 0));
+  groups = descriptionsOf t (b + 3);
+  «switch_groups» = descriptionsOf t (b + 6);
+  presets = descriptionsOf t (b + 9);
 }
 
 -- ---- the top record

@@ -9,7 +9,6 @@ pub use labels::rows::Descriptions;
 pub use labels::rows::ENTRY_COLUMNS;
 pub use labels::rows::TextLabelEntry;
 use wire::bits::ones;
-use wire::bits::wide;
 use wire::rows::Payload;
 use wire::rows::Range;
 
@@ -39,18 +38,9 @@ impl TextLabelLanguage {
     {
         Self {
             language,
-            groups: Descriptions {
-                reserved: wide(ones(1)),
-                entries: groups,
-            },
-            switch_groups: Descriptions {
-                reserved: wide(ones(3)),
-                entries: switch_groups,
-            },
-            presets: Descriptions {
-                reserved: wide(ones(3)),
-                entries: presets,
-            },
+            groups: Descriptions::new(1, groups),
+            switch_groups: Descriptions::new(3, switch_groups),
+            presets: Descriptions::new(3, presets),
         }
     }
 
@@ -80,27 +70,9 @@ impl TextLabelLanguage {
     {
         Self {
             language: DescriptionLanguage(table[at], table[at + 1], table[at + 2]),
-            groups: Descriptions {
-                reserved: table[at + 3],
-                entries: Range {
-                    first: table[at + 4],
-                    count: table[at + 5],
-                },
-            },
-            switch_groups: Descriptions {
-                reserved: table[at + 6],
-                entries: Range {
-                    first: table[at + 7],
-                    count: table[at + 8],
-                },
-            },
-            presets: Descriptions {
-                reserved: table[at + 9],
-                entries: Range {
-                    first: table[at + 10],
-                    count: table[at + 11],
-                },
-            },
+            groups: Descriptions::of_columns(table, at + 3),
+            switch_groups: Descriptions::of_columns(table, at + 6),
+            presets: Descriptions::of_columns(table, at + 9),
         }
     }
 }

@@ -3,35 +3,18 @@ use borrow.Author.Needs.{needs}
 use Rattle.text_label.proofs.rows.TextLabelLanguage.new.Statement.{statement}
 use Rattle.text_label.proofs.rows.TextLabelLanguage.new.Tie as tie
 
-ones-requires : tie.Need-ones-requires
-ones-requires c κs = search needs
+new-requires : tie.Need-new-requires
+new-requires c κs = search needs
 
-wide-requires : tie.Need-wide-requires
-wide-requires c κs = search needs
+new-requires-2 : tie.Need-new-requires-2
+new-requires-2 c κs = search needs
 
-ones-requires-2 : tie.Need-ones-requires-2
-ones-requires-2 c κs = search needs
-
-wide-requires-2 : tie.Need-wide-requires-2
-wide-requires-2 c κs = search needs
-
-ones-requires-3 : tie.Need-ones-requires-3
-ones-requires-3 c κs = search needs
-
-wide-requires-3 : tie.Need-wide-requires-3
-wide-requires-3 c κs = search needs
+new-requires-3 : tie.Need-new-requires-3
+new-requires-3 c κs = search needs
 
 returns : tie.Need-returns
-returns c = rw (c .before .before .before .before .wide .ensures, c .before .before .before .before .before .ones .ensures, c .before .before .wide2 .ensures, c .before .before .before .ones2 .ensures, c .wide3 .ensures, c .before .ones3 .ensures)
+returns c =
+    rw (c .before .before .new .ensures, c .before .new2 .ensures, c .new3 .ensures)
 
 pub new-spec : {M : Type 1} → statement M
-new-spec =
-    tie.close
-    (tie.spec
-    ones-requires
-    wide-requires
-    ones-requires-2
-    wide-requires-2
-    ones-requires-3
-    wide-requires-3
-    returns)
+new-spec = tie.close (tie.spec new-requires new-requires-2 new-requires-3 returns)
