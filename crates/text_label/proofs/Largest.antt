@@ -14,7 +14,10 @@ use Rattle.wire.proofs.Fields.{fits-cons}
 use Rattle.wire.proofs.Acts.{and-both, clean-both, listed-most, bytes-append, clean-met, bytes-bare, settled}
 use Rattle.wire.proofs.Passes.{slice-long}
 use Rattle.frame.specs.Kind.{Lent}
-use Rattle.frame.specs.Entry.{whole, trail}
+use Rattle.frame.specs.declared.Written.the-variants as W
+use Rattle.frame.specs.Numbers.{written}
+use Rattle.frame.specs.Entry.{Output, whole, trail, writing, Writes}
+use Rattle.frame.proofs.Output.{was-long}
 use Rattle.labels.proofs.Largest.{labels-most}
 use Rattle.text_label.specs.declared.rows.MpegH3dAudioTextLabel.{MpegH3dAudioTextLabel}
 use Rattle.text_label.specs.Rows.{Language, TextLabel}
@@ -52,10 +55,10 @@ body-most v c =
     let n = fits-cons 4 (length (v .languages)) [] (fits-cons 4 (v .reserved) _ b .1) .0 in
     omega (arith, n, listed-most languageListed 48579 language-most (v .languages) c₂)
 
--- whatever the tables and the store: an image that is not refused for a fault is no longer than that
-pub largest : (m : MpegH3dAudioTextLabel) (lent : Lent) (store b : List ℕ) → m .trailing .length < 65536 → settle (whole kind m lent store) 0 ≡ image b → length b ≤ 794222
+-- whatever the tables and the store: an image is no longer than that
+image-most : (m : MpegH3dAudioTextLabel) (lent : Lent) (store b : List ℕ) → m .trailing .length < 65536 → settle (whole kind m lent store) 0 ≡ image b → length b ≤ 794222
 unfolding whole kind clean bytes
-largest m lent store b h e =
+image-most m lent store b h e =
     let s = settled (whole kind m lent store) 0 e in
     let (r, c) = and-both (leb (m .trailing .offset + m .trailing .length) (length store)) _ (s .sound) in
     let (a, d) = clean-both (acts m lent store) (copy (trail kind m store) ∷ []) c in
@@ -69,3 +72,10 @@ largest m lent store b h e =
       ap length (s .is) ∙ ap length (bytes-append (acts m lent store) (copy (trail kind m store) ∷ [])) ∙ length-append (bytes (acts m lent store)) (trail kind m store ++ []),
       ap length (append-nil (trail kind m store)) ∙ slice-long (m .trailing .offset) (m .trailing .length) store (leb-true _ _ r),
     )
+
+-- so when writing answers 10, the length is at most that; `Writes` is the promise of `write`
+pub largest : (m : MpegH3dAudioTextLabel) (lent : Lent) (store out after : List ℕ) (n : ℕ) → m .trailing .length < 65536 → Writes kind m lent store out (written (W.TooLong n)) after → n ≤ 794222
+unfolding writing
+largest m lent store out after n h w =
+    let (b, e, l) = was-long out (settle (whole kind m lent store) 0) (sym (ap (λ (o : Output). o .answer) (w .promised))) in
+    subst (λ (k : ℕ). k ≤ 794222) l (image-most m lent store b h e)
