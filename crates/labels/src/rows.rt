@@ -1,6 +1,6 @@
 // A list of labels and its rows of table 7 (H.222.0 2.6.112, Table 2-124), with their constructors.
 ghost use mathlib.Core.Path.{_≡_};
-ghost use Prim.Native.Nat.{_+_, _-_, _^_, _≤_};
+ghost use Prim.Native.Nat.{_+_, _≤_};
 ghost use lib.ListN.{length};
 ghost use Rattle.labels.specs.Rows.{entryColumns, entryRow, entryOf, descriptions, descriptionsOf};
 use wire::bits::ones;
@@ -84,13 +84,22 @@ pub struct Descriptions {
 }
 
 impl Descriptions {
-    // Reserved bits all ones, so many of them.
-    pub fn new(width: u32, entries: Range) -> Self
-        requires { ⌜ width ≤ 8 ⌝ }
-        ensures { λ r. ⌜ r ≡ descriptions (2 ^ width - 1) entries ⌝ }
+    // Of groups: reserved bit 1.
+    pub fn of_groups(entries: Range) -> Self
+        ensures { λ r. ⌜ r ≡ descriptions 1 entries ⌝ }
     {
         Self {
-            reserved: wide(ones(width)),
+            reserved: wide(ones(1)),
+            entries,
+        }
+    }
+
+    // Of switch groups or presets: reserved bits all ones.
+    pub fn of_switch_groups_or_presets(entries: Range) -> Self
+        ensures { λ r. ⌜ r ≡ descriptions 7 entries ⌝ }
+    {
+        Self {
+            reserved: wide(ones(3)),
             entries,
         }
     }

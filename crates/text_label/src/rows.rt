@@ -38,9 +38,9 @@ impl TextLabelLanguage {
     {
         Self {
             language,
-            groups: Descriptions::new(1, groups),
-            switch_groups: Descriptions::new(3, switch_groups),
-            presets: Descriptions::new(3, presets),
+            groups: Descriptions::of_groups(groups),
+            switch_groups: Descriptions::of_switch_groups_or_presets(switch_groups),
+            presets: Descriptions::of_switch_groups_or_presets(presets),
         }
     }
 
