@@ -1,6 +1,8 @@
 -- The top record of the base body: its compatible sets, its trailing run, and the bounds that its types set.
+use Prim.Native.Nat.{ℕ}
 use mathlib.Core.List.{List, [], _∷_}
 use mathlib.Core.Bool.{true, false}
+use Rattle.wire.specs.Bits.{bit}
 use Rattle.wire.specs.Prog.{span}
 use Rattle.wire.specs.declared.rows.Payload.{Payload}
 use Rattle.frame.specs.Kind.{Bound, bounded}
@@ -28,3 +30,12 @@ unfoldable pub bounds : MpegH3dAudio → List Bound
 bounds m =
     bounded 256 (m .«profile_level_indication») ∷ bounded 65536 (m .«compatible_sets» .indications .offset) ∷ bounded 65536 (m .«compatible_sets» .indications .length)
     ∷ bounded 256 (m .«reserved_flags») ∷ bounded 256 (m .«reserved_layout») ∷ bounded 256 (m .«reference_channel_layout») ∷ bounded 65536 (m .trailing .offset) ∷ bounded 65536 (m .trailing .length) ∷ []
+
+-- the record as columns, in the Rust's order
+abbrev pub topColumns : ℕ
+topColumns = 10
+
+abbrev pub topRow : MpegH3dAudio → List ℕ
+topRow m =
+    m .«profile_level_indication» ∷ bit (m .«interactivity_enabled») ∷ bit (m .«compatible_sets» .present) ∷ m .«compatible_sets» .indications .offset
+    ∷ m .«compatible_sets» .indications .length ∷ m .«reserved_flags» ∷ m .«reserved_layout» ∷ m .«reference_channel_layout» ∷ m .trailing .offset ∷ m .trailing .length ∷ []

@@ -2,7 +2,8 @@
 ghost use mathlib.Core.Path.{_≡_};
 ghost use mathlib.Core.Bool.{true, false};
 ghost use Rattle.wire.specs.Prog.{span};
-ghost use Rattle.base.specs.Rows.{absentSets, listedSets};
+ghost use Rattle.base.specs.Rows.{absentSets, listedSets, topRow};
+use wire::bits::flag;
 use wire::bits::ones;
 use wire::rows::Payload;
 
@@ -45,6 +46,9 @@ pub struct MpegH3dAudio {
     pub trailing: Payload,
 }
 
+// The columns of the top record.
+pub const TOP_COLUMNS: usize = 10;
+
 impl MpegH3dAudio {
     // Reserved bits all ones, and no trailing run.
     pub fn new(
@@ -67,5 +71,22 @@ impl MpegH3dAudio {
                 length: 0,
             },
         }
+    }
+
+    pub fn columns(self) -> [u16; TOP_COLUMNS]
+        ensures { λ r. ⌜ r ≡ topRow self ⌝ }
+    {
+        [
+            self.profile_level_indication as u16,
+            flag(self.interactivity_enabled),
+            flag(self.compatible_sets.present),
+            self.compatible_sets.indications.offset,
+            self.compatible_sets.indications.length,
+            self.reserved_flags as u16,
+            self.reserved_layout as u16,
+            self.reference_channel_layout as u16,
+            self.trailing.offset,
+            self.trailing.length,
+        ]
     }
 }

@@ -4,6 +4,7 @@ use mathlib.Core.List.{List, [], _∷_, map}
 use mathlib.Core.Bool.{true, false}
 use mathlib.Core.Option.{Option, none, some}
 use lib.ListN.{length, getD}
+use Rattle.wire.specs.Bits.{bit}
 use Rattle.wire.specs.declared.ids.GroupId.{GroupId}
 use Rattle.wire.specs.declared.rows.Payload.{Payload}
 use Rattle.frame.specs.Kind.{Rows, Bound, bounded}
@@ -63,6 +64,15 @@ unfoldable pub bounds : MpegH3dAudioMultiStream → List Bound
 bounds m =
     bounded 256 (m .«this_stream_id») ∷ bounded 256 (m .main .part .«reserved_aux») ∷ bounded 256 (m .main .part .«num_auxiliary_streams») ∷ bounded 256 (m .main .part .«reserved_groups»)
     ∷ bounded 65536 (m .main .part .groups) ∷ bounded 65536 (m .trailing .offset) ∷ bounded 65536 (m .trailing .length) ∷ []
+
+-- the record as columns, in the Rust's order
+abbrev pub topColumns : ℕ
+topColumns = 8
+
+abbrev pub topRow : MpegH3dAudioMultiStream → List ℕ
+topRow m =
+    m .«this_stream_id» ∷ bit (m .main .present) ∷ m .main .part .«reserved_aux» ∷ m .main .part .«num_auxiliary_streams» ∷ m .main .part .«reserved_groups» ∷ m .main .part .groups
+    ∷ m .trailing .offset ∷ m .trailing .length ∷ []
 
 -- ---- the Rust's structs, the groups as rows
 

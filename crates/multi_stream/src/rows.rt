@@ -4,7 +4,7 @@ ghost use Prim.Native.Nat.{_+_, _≤_};
 ghost use lib.ListN.{length};
 ghost use Rattle.wire.specs.Bits.{bit};
 ghost use Rattle.wire.specs.Prog.{span};
-ghost use Rattle.multi_stream.specs.Rows.{absentAuxiliary, presentAuxiliary, inMain, inAuxiliary, groupColumns, row, groupOf, absentMain, presentMain};
+ghost use Rattle.multi_stream.specs.Rows.{absentAuxiliary, presentAuxiliary, inMain, inAuxiliary, groupColumns, row, groupOf, absentMain, presentMain, topRow};
 use wire::bits::flag;
 use wire::bits::ones;
 use wire::bits::wide;
@@ -180,6 +180,9 @@ pub struct MpegH3dAudioMultiStream {
     pub trailing: Payload,
 }
 
+// The columns of the top record.
+pub const TOP_COLUMNS: usize = 8;
+
 impl MpegH3dAudioMultiStream {
     // No trailing run.
     pub fn new(this_stream_id: u8, main: MainStream) -> Self
@@ -193,5 +196,20 @@ impl MpegH3dAudioMultiStream {
                 length: 0,
             },
         }
+    }
+
+    pub fn columns(self) -> [u16; TOP_COLUMNS]
+        ensures { λ r. ⌜ r ≡ topRow self ⌝ }
+    {
+        [
+            wide(self.this_stream_id),
+            flag(self.main.present),
+            wide(self.main.part.reserved_aux),
+            wide(self.main.part.num_auxiliary_streams),
+            wide(self.main.part.reserved_groups),
+            self.main.part.groups,
+            self.trailing.offset,
+            self.trailing.length,
+        ]
     }
 }

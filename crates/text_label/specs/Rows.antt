@@ -52,6 +52,13 @@ unfoldable pub bounds : MpegH3dAudioTextLabel → List Bound
 bounds m =
     bounded 256 (m .«scene_info_id») ∷ bounded 256 (m .reserved) ∷ bounded 65536 (m .languages) ∷ bounded 65536 (m .trailing .offset) ∷ bounded 65536 (m .trailing .length) ∷ []
 
+-- the record as columns, in the Rust's order
+abbrev pub topColumns : ℕ
+topColumns = 5
+
+abbrev pub topRow : MpegH3dAudioTextLabel → List ℕ
+topRow m = m .«scene_info_id» ∷ m .reserved ∷ m .languages ∷ m .trailing .offset ∷ m .trailing .length ∷ []
+
 -- ---- the Rust's structs; Entry is a row of table 7, or what it means
 
 pub record Language (Entry : Type 0) : Type 0 where

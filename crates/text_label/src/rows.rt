@@ -4,11 +4,12 @@ ghost use Prim.Native.Nat.{_+_, _≤_};
 ghost use lib.ListN.{length};
 ghost use Rattle.wire.specs.Prog.{span};
 ghost use Rattle.labels.specs.Rows.{descriptions};
-ghost use Rattle.text_label.specs.Rows.{languageColumns, languageRow, languageOf};
+ghost use Rattle.text_label.specs.Rows.{languageColumns, languageRow, languageOf, topRow};
 pub use labels::rows::Descriptions;
 pub use labels::rows::ENTRY_COLUMNS;
 pub use labels::rows::TextLabelEntry;
 use wire::bits::ones;
+use wire::bits::wide;
 use wire::rows::Payload;
 use wire::rows::Range;
 
@@ -85,6 +86,9 @@ pub struct MpegH3dAudioTextLabel {
     pub trailing: Payload,
 }
 
+// The columns of the top record.
+pub const TOP_COLUMNS: usize = 5;
+
 impl MpegH3dAudioTextLabel {
     // Reserved bits all ones, no trailing run.
     pub fn new(scene_info_id: u8, languages: u16) -> Self
@@ -99,5 +103,17 @@ impl MpegH3dAudioTextLabel {
                 length: 0,
             },
         }
+    }
+
+    pub fn columns(self) -> [u16; TOP_COLUMNS]
+        ensures { λ r. ⌜ r ≡ topRow self ⌝ }
+    {
+        [
+            wide(self.scene_info_id),
+            wide(self.reserved),
+            self.languages,
+            self.trailing.offset,
+            self.trailing.length,
+        ]
     }
 }
