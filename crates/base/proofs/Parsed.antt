@@ -1,19 +1,137 @@
--- What a base body that is read has for its reserved fields: they fit their widths.
-use Prim.Native.Nat.{ℕ, _<_}
-use mathlib.Core.Path.{_≡_, ap}
+-- The reading program of the base body: what is left of it after each byte, what a run that is done says of the body, and what is known of a body that was
+-- measured.
+use Prim.Native.Nat.{ℕ, _+_, _-_, _≤_, _<_}
+use mathlib.Core.Path.{_≡_, refl, sym, ap, _∙_}
 use mathlib.Core.List.{List}
+use mathlib.Core.Bool.{true, false}
 use native.Mathlib.Omega.{arith}
-use Rattle.wire.specs.Prog.{u8, done, run}
+use lib.ListN.{length, getD}
+use lib.Dec.{eqb}
+use Rattle.wire.specs.Bits.{part}
+use Rattle.wire.specs.Prog.{Prog, Out, ret, u8, pass, _>>=_, done, short, run, span}
+use Rattle.wire.specs.Reads.{shortOf, endOf, isDone, posOf}
+use Rattle.wire.specs.declared.reads.Short.{Short}
+use Rattle.wire.specs.declared.rows.Payload.{Payload}
 use Rattle.wire.proofs.Runs.{run-split, run-ret}
+use Rattle.wire.proofs.Walk.{From, onward, cut-off, finished, as-done, as-short, is-done, byte-taken, run-taken}
+use Rattle.frame.specs.Numbers.{accepted}
+use Rattle.frame.specs.Entry.{too-short, Sound, Sizes, needs, sizes, tail, judging, Measures}
+use Rattle.frame.specs.Sight.{Tops}
+use Rattle.frame.proofs.Judged.{ran-well}
+use Rattle.frame.proofs.Entries.{the-sound, measures-short, measures-done}
+use Rattle.base.specs.declared.rows.CompatibleSets.{CompatibleSets}
 use Rattle.base.specs.declared.rows.MpegH3dAudio.{MpegH3dAudio}
+use Rattle.base.specs.Rows.{absentSets, listedSets, retrail}
 use Rattle.base.specs.Read.{sets, fields, parse}
+use Rattle.base.specs.Write.{kind}
+use Rattle.base.specs.Contract.{sized}
 
-pub reserved-fit : (s : List ℕ) (at : ℕ) {m : MpegH3dAudio} {k : ℕ} → run parse s at ≡ done m k → (m .«reserved_flags» < 64) × (m .«reserved_layout» < 4)
-unfolding parse fields
-reserved-fit s at e =
-    let x = run-split u8 _ s at _ _ e in
-    let y = run-split u8 _ s (x .middle) _ _ (x .second) in
-    let z = run-split u8 _ s (y .middle) _ _ (y .second) in
-    let w = run-split (sets _) _ s (z .middle) _ _ (z .second) in
-    let q = run-ret _ s (w .middle) (w .second) .0 in
-    (omega (arith, ap (λ (m : MpegH3dAudio). m .«reserved_flags») q), omega (arith, ap (λ (m : MpegH3dAudio). m .«reserved_layout») q))
+-- a program whose last part is this one ends where that ends
+pub end-last : {A B : Type 0} (p : Prog A) (g : A → B) {whole : Prog B} {s : List ℕ} {start at : ℕ} → From whole s start (p >>= λ a. ret (g a)) at → endOf (run p s at) ≡ endOf (run whole s start)
+end-last {A} p g {whole} {s} {start} {at} w = go (run p s at) refl
+  where
+    go : (o : Out A) → run p s at ≡ o → endOf o ≡ endOf (run whole s start)
+    go (done a n) e = ap endOf (finished (onward p (λ a. ret (g a)) w refl e) refl)
+    go (short x) e = ap endOf (cut-off p (λ a. ret (g a)) w refl e (sym (ap shortOf e)))
+
+-- ---- the compatible sets
+
+abbrev pub afterCount : ℕ → Prog CompatibleSets
+afterCount count = pass count >>= λ at. ret (listedSets (span at count))
+
+-- what is taken of them without a test
+module _ (s : List ℕ) (q : isDone (run (sets false) s 3) ≡ true) where
+  listed : (3 < length s) × (done (listedSets (span 4 (getD s 3 0))) (posOf (run (sets false) s 3)) ≡ run (sets false) s 3)
+  unfolding sets
+  listed =
+      let (o, k, e) = is-done (run (sets false) s 3) q in
+      let (h, e₁) = byte-taken s 3 afterCount e in
+      let (l, e₂) = run-taken s 4 (getD s 3 0) (λ at. ret (listedSets (span at (getD s 3 0)))) e₁ in
+      let (z, n) = run-ret _ s (4 + getD s 3 0) e₂ in
+      (h, rw e (ap (λ (o : CompatibleSets). done o k) z))
+
+  pub count-there : 3 < length s
+  count-there = listed .0
+
+  pub sets-listed : {c : ℕ} → c ≡ getD s 3 0 → done (listedSets (span 4 c)) (posOf (run (sets false) s 3)) ≡ run (sets false) s 3
+  sets-listed e = rw e (listed .1)
+
+pub sets-absent : (s : List ℕ) → done absentSets (posOf (run (sets true) s 3)) ≡ run (sets true) s 3
+unfolding sets run
+sets-absent s = refl
+
+-- ---- the body
+
+abbrev pub afterThree : ℕ → ℕ → ℕ → Prog MpegH3dAudio
+afterThree profile b1 b2 = sets (eqb (part 6 1 b1) 1) >>= λ s. ret (fields profile b1 b2 s)
+
+abbrev pub afterTwo : ℕ → ℕ → Prog MpegH3dAudio
+afterTwo profile b1 = u8 >>= afterThree profile b1
+
+abbrev pub afterOne : ℕ → Prog MpegH3dAudio
+afterOne profile = u8 >>= afterTwo profile
+
+-- a body that was read: its three bytes, and the sets that the second steers
+record BodyRun (s : List ℕ) (m : MpegH3dAudio) (k : ℕ) : Type 0 where
+  inside : 2 < length s
+  listing : CompatibleSets
+  reads : run (sets (eqb (part 6 1 (getD s 1 0)) 1)) s 3 ≡ done listing k
+  is : m ≡ fields (getD s 0 0) (getD s 1 0) (getD s 2 0) listing
+
+body-so : (s : List ℕ) {m : MpegH3dAudio} {k n : ℕ} (l : CompatibleSets) → 2 < length s → run (sets (eqb (part 6 1 (getD s 1 0)) 1)) s 3 ≡ done l n
+    → fields (getD s 0 0) (getD s 1 0) (getD s 2 0) l ≡ m → n ≡ k → BodyRun s m k
+body-so s l h e q n = rw (← n) (record { inside = h; listing = l; reads = e; is = sym q })
+
+body-run : (s : List ℕ) {m : MpegH3dAudio} {k : ℕ} → run parse s 0 ≡ done m k → BodyRun s m k
+unfolding parse
+body-run s {m} {k} e =
+    let (h, e₁) = byte-taken s 0 afterOne e in
+    let (h₁, e₂) = byte-taken s 1 (afterTwo (getD s 0 0)) e₁ in
+    let (h₂, e₃) = byte-taken s 2 (afterThree (getD s 0 0) (getD s 1 0)) e₂ in
+    let x = run-split (sets (eqb (part 6 1 (getD s 1 0)) 1)) (λ l. ret (fields (getD s 0 0) (getD s 1 0) (getD s 2 0) l)) s 3 m k e₃ in
+    let (q, n) = run-ret _ s (x .middle) (x .second) in
+    body-so s (x .value) h₂ (x .first) q n
+
+-- what the walk along a body says is what it needs
+module _ (body : List ℕ) (h : length body ≤ 65535) where
+  pub measures-walked : {k : ℕ} → done tt k ≡ endOf (run parse body 0) → Measures kind body (accepted (sized k))
+  unfolding kind sizes needs
+  measures-walked w = let (t, e, q) = as-done (λ (t : MpegH3dAudio). tt) (run parse body 0) (sym w) in measures-done kind body h e
+
+  pub measures-cut : {x : Short} → short x ≡ endOf (run parse body 0) → Measures kind body (too-short x)
+  unfolding kind
+  measures-cut w = measures-short kind body h (as-short (λ (t : MpegH3dAudio). tt) (run parse body 0) (sym w))
+
+-- ---- a body that was measured: its record
+
+module _ (body : List ℕ) {k : ℕ} (w : Measures kind body (accepted (sized k))) where
+  abbrev sound : Sound MpegH3dAudio
+  sound = the-sound kind body w .0
+
+  judges : judging kind body ≡ accepted sound
+  judges = the-sound kind body w .1
+
+  ran : run parse body 0 ≡ done (sound .tree) (sound .before)
+  unfolding kind
+  ran = ran-well kind body sound judges .reads
+
+  pub sets-sound : (2 < length body) × (isDone (run (sets (eqb (part 6 1 (getD body 1 0)) 1)) body 3) ≡ true)
+  sets-sound = let r = body-run body ran in (r .inside, ap isDone (r .reads))
+
+  pub tops-are : {l : CompatibleSets} {p : Payload} {m : MpegH3dAudio} (x : ℕ) → done l x ≡ run (sets (eqb (part 6 1 (getD body 1 0)) 1)) body 3 → p ≡ span k (length body - k)
+      → m ≡ retrail (fields (getD body 0 0) (getD body 1 0) (getD body 2 0) l) p → Tops kind body m
+  unfolding kind sizes
+  tops-are {l} {p} {m} x f g d =
+      let r = body-run body ran in
+      let z : done l x ≡ done (r .listing) (sound .before) = f ∙ r .reads in
+      let v : l ≡ r .listing = cc z in
+      let b : sound .before ≡ k = ap (λ (z : Sizes). z .before) (the-sound kind body w .2) in
+      let t : m ≡ retrail (sound .tree) (tail (sound .before) body) =
+      d ∙ (λ i. retrail (fields (getD body 0 0) (getD body 1 0) (getD body 2 0) (v i)) ((g ∙ ap (λ (k : ℕ). span k (length body - k)) (sym b)) i))
+      ∙ ap (λ (t : MpegH3dAudio). retrail t (tail (sound .before) body)) (sym (r .is)) in
+      record { tops = λ s j. let y : accepted sound ≡ accepted s = sym judges ∙ j in let q : sound ≡ s = cc y in t ∙ ap (λ (s : Sound MpegH3dAudio). retrail (s .tree) (tail (s .before) body)) q }
+
+  -- its reserved fields fit their widths
+  pub reserved-small : {m : MpegH3dAudio} → Tops kind body m → (m .«reserved_flags» < 64) × (m .«reserved_layout» < 4)
+  unfolding kind fields
+  reserved-small {m} t = let r = body-run body ran in rw (t .tops sound judges, r .is) (omega arith, omega arith)

@@ -1,49 +1,32 @@
--- The code's answers as the specification's: outcomes of the reading program, and document 01's numbers and values.
+-- The code's answers as the specification's: document 01's numbers and values; and what checking the sets promises.
 use Prim.Native.Nat.{ℕ}
 use mathlib.Core.List.{List, []}
 use lib.ListN.{length}
 use mathlib.Core.Path.{_≡_}
-use Rattle.wire.specs.Prog.{Out, done, short}
 use Rattle.wire.specs.Act.{pick}
 use Rattle.wire.specs.Pen.{Checked}
 use Rattle.wire.specs.declared.pen.Pen.{Pen}
 use Rattle.frame.specs.Numbers.{Answer, accepted, refused, refusal}
 use Rattle.frame.specs.Entry as E
-use Rattle.frame.specs.Entry.{Sound}
 use Rattle.base.specs.declared.rows.CompatibleSets.{CompatibleSets}
 use Rattle.base.specs.declared.rows.MpegH3dAudio.{MpegH3dAudio}
 use Rattle.base.specs.Write.{setsActs}
-use Rattle.base.specs.declared.parsing.SetsAt.{SetsAt}
-use Rattle.base.specs.declared.parsing.SetsAt.the-variants as S
-use Rattle.base.specs.declared.parsing.Parsed.{Parsed}
-use Rattle.base.specs.declared.parsing.Parsed.the-variants as P
-use Rattle.base.specs.declared.parsing.Judged.{Judged}
-use Rattle.base.specs.declared.parsing.Judged.the-variants as J
 use Rattle.base.specs.declared.Sizes.{Sizes}
 use Rattle.base.specs.declared.Reading.{Reading}
 use Rattle.base.specs.declared.Reading.the-variants as R
 use Rattle.base.specs.declared.Measured.{Measured}
 use Rattle.base.specs.declared.Measured.the-variants as M
 
-abbrev pub setsOut : SetsAt → Out CompatibleSets
-setsOut (S.Got s n) = done s n
-setsOut (S.Short x) = short x
-
-abbrev pub parsedOut : Parsed → Out MpegH3dAudio
-parsedOut (P.Got m k) = done m k
-parsedOut (P.Short x) = short x
-
-abbrev pub judged : Judged → Answer (Sound MpegH3dAudio)
-judged (J.Sound m k) = accepted (record { tree = m; before = k })
-judged (J.Refused r) = refused (refusal r)
+-- the base has no tables
+abbrev pub sized : ℕ → E.Sizes
+sized k = record { tables = []; before = k }
 
 abbrev pub read : Reading → Answer MpegH3dAudio
 read (R.Done m) = accepted m
 read (R.Refused r) = refused (refusal r)
 
--- the base has no tables
 abbrev pub measured : Measured → Answer E.Sizes
-measured (M.Done s) = accepted (record { tables = []; before = s .k })
+measured (M.Done s) = accepted (sized (s .k))
 measured (M.Refused r) = refused (refusal r)
 
 -- what checking the sets promises, whatever their bytes are

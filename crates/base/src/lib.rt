@@ -14,10 +14,10 @@ ghost use Rattle.base.specs.Contract.{read, measured};
 use frame::Refusal;
 use frame::Tallied;
 use frame::Written;
-use parsing::Judged;
 use rows::MpegH3dAudio;
 use wire::bits;
 use wire::pen::Pen;
+use wire::reads::Ends;
 
 // What reading answers: the top record, its trailing run included.
 pub enum Reading {
@@ -35,29 +35,28 @@ pub enum Measured {
     Refused(Refusal),
 }
 
-// The record of a body, or 2, or 1.
-pub fn read(body: &[u8]) -> Reading
-    ensures { λ r. ⌜ Reads kind (now (body .entry)) [] (read r) [] ⌝ }
-{
-    let j = parsing::judge(body);
-    match j {
-        Judged::Sound(m, k) => {
-            let mut done = m;
-            done.trailing = wire::rows::trailing_run(k, body.len());
-            Reading::Done(done)
-        }
-        Judged::Refused(r) => Reading::Refused(r),
-    }
-}
-
 // What the body needs, or 2, or 1.
 pub fn measure(body: &[u8]) -> Measured
     ensures { λ r. ⌜ Measures kind (now (body .entry)) (measured r) ⌝ }
 {
-    let j = parsing::judge(body);
-    match j {
-        Judged::Sound(_, k) => Measured::Done(Sizes { k }),
-        Judged::Refused(r) => Measured::Refused(r),
+    if 65535 < body.len() {
+        return Measured::Refused(Refusal::TooLong(body.len()));
+    }
+    let e = parsing::end(body);
+    match e {
+        Ends::At(k) => Measured::Done(Sizes { k }),
+        Ends::Short(x) => Measured::Refused(Refusal::Short(x)),
+    }
+}
+
+// The record of a body, or 2, or 1.
+pub fn read(body: &[u8]) -> Reading
+    ensures { λ r. ⌜ Reads kind (now (body .entry)) [] (read r) [] ⌝ }
+{
+    let m = measure(body);
+    match m {
+        Measured::Done(s) => Reading::Done(parsing::record_at(body, s)),
+        Measured::Refused(r) => Reading::Refused(r),
     }
 }
 
@@ -65,10 +64,10 @@ pub fn measure(body: &[u8]) -> Measured
 pub fn tally(body: &[u8]) -> Tallied
     ensures { λ r. ⌜ Tallies kind (now (body .entry)) (tallied r) ⌝ }
 {
-    let j = parsing::judge(body);
-    match j {
-        Judged::Sound(m, _) => Tallied::Done(zero_bits(m)),
-        Judged::Refused(r) => Tallied::Refused(r),
+    let m = measure(body);
+    match m {
+        Measured::Done(s) => Tallied::Done(zero_bits(parsing::record_at(body, s))),
+        Measured::Refused(r) => Tallied::Refused(r),
     }
 }
 

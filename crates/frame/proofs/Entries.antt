@@ -6,8 +6,9 @@ use mathlib.Core.Path.{_≡_, refl, sym, ap, subst, _∙_}
 use native.Mathlib.Omega.{arith}
 use lib.ListN.{length, drop}
 use borrow.Author.Tests.{le-leb}
-use Rattle.wire.specs.Prog.{Out, done, short, run, span}
+use Rattle.wire.specs.Prog.{Out, done, short, run}
 use Rattle.wire.specs.Reads.{mapOut}
+use Rattle.wire.specs.declared.reads.Short.{Short}
 use Rattle.wire.specs.declared.rows.Payload.{Payload}
 use Rattle.wire.specs.Pen.{Checked, Filled, bytes}
 use Rattle.wire.specs.declared.pen.Pen.{Pen}
@@ -17,9 +18,9 @@ use Rattle.wire.proofs.Passes.{imaged, stopped-at, filled-front}
 use Rattle.frame.specs.declared.Written.the-variants as W
 use Rattle.frame.specs.Numbers.{Numbered, Answer, accepted, refused, written}
 use Rattle.frame.specs.Kind.{Kind, Lent}
-use Rattle.frame.specs.Entry.{too-long, no-room, onto, ran, Sound, Need, needs, lacking, filled, tail, judging, sizes, measuring, tallying, put, puts, whole, writing, Reads, Measures, Tallies, Writes}
-use Rattle.frame.specs.Sight.{Sight, sight, Seen, Roomy, Fills}
-use Rattle.frame.proofs.Judged.{judged, ran-well, reads-so, lacks-so, refused-so, onto-sound, onto-refused, refused-onto}
+use Rattle.frame.specs.Entry.{too-short, too-long, no-room, onto, ran, Sound, Sizes, Need, needs, lacking, filled, tail, judging, sizes, measuring, tallying, put, puts, whole, writing, Reads, Measures, Tallies, Writes}
+use Rattle.frame.specs.Sight.{Tops, Roomy, Fills}
+use Rattle.frame.proofs.Judged.{judged, judged-short, ran-well, reads-so, lacks-so, refused-so, onto-refused, refused-onto, measured}
 use Rattle.frame.proofs.More.{judge-long, end-within}
 use Rattle.frame.proofs.Output.{put-done, put-short, put-long}
 
@@ -49,44 +50,22 @@ module _ {Tree Top Value : Type 0} (K : Kind Tree Top Value) where
       → Reads K body lent (accepted (K .top (s .tree) (tail (s .before) body))) (filled (K .tables (s .tree)) lent)
   reads-done body lent {s} e f = record { promised = sym (reads-so K body lent s (sym e) f) }
 
-  pub measures : (body : List ℕ) {j : Answer (Sound Tree)} → j ≡ judging K body → Measures K body (onto (sizes K) j)
+  -- what a walk along the body says, where it knows the tree by its sizes
+  pub measures-long : (body : List ℕ) → 65535 < length body → Measures K body (too-long (length body))
   unfolding measuring
-  measures body e = record { promised = ap (onto (sizes K)) e }
+  measures-long body h = record { promised = sym (refused-onto K (sizes K) body _ (judge-long K body h)) }
+
+  pub measures-short : (body : List ℕ) {x : Short} → length body ≤ 65535 → run (K .program) body 0 ≡ short x → Measures K body (too-short x)
+  unfolding measuring
+  measures-short body h e = record { promised = sym (refused-onto K (sizes K) body _ (judged-short K body _ h e)) }
+
+  pub measures-done : (body : List ℕ) {t : Tree} {k : ℕ} → length body ≤ 65535 → run (K .program) body 0 ≡ done t k → Measures K body (accepted (sizes K (record { tree = t; before = k })))
+  unfolding measuring onto
+  measures-done body {t} {k} h e = record { promised = sym (ap (onto (sizes K)) (judged K body t k h e)) }
 
   pub tallies : (body : List ℕ) {j : Answer (Sound Tree)} → j ≡ judging K body → Tallies K body (onto (λ s. K .zeros (s .tree)) j)
   unfolding tallying
   tallies body e = record { promised = ap (onto (λ (s : Sound Tree). K .zeros (s .tree))) e }
-
-  -- ---- the same where code knows a sound body only by sight: its record with no trailing run, what its tables need, and k
-
-  pub sights : (body : List ℕ) (t : Tree) (k : ℕ) → length body ≤ 65535 → run (K .program) body 0 ≡ done t k → accepted (sight K (record { tree = t; before = k })) ≡ onto (sight K) (judging K body)
-  unfolding onto
-  sights body t k h e = sym (ap (onto (sight K)) (judged K body t k h e))
-
-  pub sights-refused : (body : List ℕ) {x : Numbered} → refused x ≡ judging K body → refused x ≡ onto (sight K) (judging K body)
-  sights-refused body {x} e = sym (refused-onto K (sight K) body x (sym e))
-
-  unsighted : (body : List ℕ) {x : Numbered} → refused x ≡ onto (sight K) (judging K body) → refused x ≡ judging K body
-  unsighted body {x} e = sym (onto-refused K (sight K) body x (sym e))
-
-  pub reads-unseen : (body : List ℕ) (lent : Lent) {x : Numbered} → refused x ≡ onto (sight K) (judging K body) → Reads K body lent (refused x) lent
-  reads-unseen body lent e = reads-refused body lent (unsighted body e)
-
-  then-onto : {A B C : Type 0} (f : B → C) (g : A → B) (a : Answer A) → onto f (onto g a) ≡ onto (λ x. f (g x)) a
-  unfolding onto
-  then-onto f g (accepted a) = refl
-  then-onto f g (refused x) = refl
-
-  pub measures-seen : (body : List ℕ) {j : Answer (Sight Top)} → j ≡ onto (sight K) (judging K body) → Measures K body (onto (λ v. v .sizes) j)
-  unfolding measuring sight
-  measures-seen body e = record { promised = ap (onto (λ (v : Sight Top). v .sizes)) e ∙ then-onto (λ v. v .sizes) (sight K) (judging K body) }
-
-  -- a tally that the record alone decides
-  pub tallies-seen : (f : Top → ℕ) → ((t : Tree) → f (K .top t (span 0 0)) ≡ K .zeros t) → (body : List ℕ) {j : Answer (Sight Top)} → j ≡ onto (sight K) (judging K body) → Tallies K body (onto (λ v. f (v .top)) j)
-  unfolding tallying sight
-  tallies-seen f q body e = record {
-    promised = ap (onto (λ (v : Sight Top). f (v .top))) e ∙ then-onto (λ v. f (v .top)) (sight K) (judging K body) ∙ ap (λ (g : Sound Tree → ℕ). onto g (judging K body)) (λ i s. q (s .tree) i);
-  }
 
   -- a tally that was summed up along the body
   pub tallies-summed : (body : List ℕ) {o : Out ℕ} → length body ≤ 65535 → o ≡ mapOut (K .zeros) (run (K .program) body 0) → Tallies K body (onto (λ s. s .tree) (ran o))
@@ -97,42 +76,61 @@ module _ {Tree Top Value : Type 0} (K : Kind Tree Top Value) where
       mapped (done t k) = refl
       mapped (short x) = refl
 
-  module _ (body : List ℕ) {v : Sight Top} (e : accepted v ≡ onto (sight K) (judging K body)) where
-    the-sound : (s : Sound Tree) × (judging K body ≡ accepted s) × (sight K s ≡ v)
-    the-sound = onto-sound K (sight K) body v (sym e)
+  -- ---- after a body was measured
 
-    pub seen : Seen K body (v .top)
-    unfolding sight
-    seen = let (s, j, q) = the-sound in record { sound = s; judges = j; is = ap (λ (v : Sight Top). v .top) q }
+  module _ (body : List ℕ) {x : Numbered} (m : Measures K body (refused x)) where
+    unmeasured : judging K body ≡ refused x
+    unfolding measuring
+    unmeasured = onto-refused K (sizes K) body x (sym (m .promised))
 
-    pub within-seen : Within body (v .sizes .before)
-    unfolding sight sizes
-    within-seen = let (s, j, q) = the-sound in subst (λ (v : Sight Top). Within body (v .sizes .before)) q (within body (sym j))
+    pub reads-unmeasured : (lent : Lent) → Reads K body lent (refused x) lent
+    reads-unmeasured lent = reads-refused body lent (sym unmeasured)
 
-    pub roomy : (lent : Lent) → lacking (v .sizes .tables) lent ≡ none → Roomy K body lent
-    unfolding sight sizes
+    pub tallies-unmeasured : Tallies K body (refused x)
+    unfolding tallying
+    tallies-unmeasured = record { promised = sym (refused-onto K (λ s. K .zeros (s .tree)) body x unmeasured) }
+
+  module _ (body : List ℕ) {z : Sizes} (m : Measures K body (accepted z)) where
+    pub the-sound : (s : Sound Tree) × (judging K body ≡ accepted s) × (sizes K s ≡ z)
+    the-sound = measured K body z (sym (m .promised))
+
+    pub within-measured : Within body (z .before)
+    unfolding sizes
+    within-measured = let (s, j, q) = the-sound in subst (λ (z : Sizes). Within body (z .before)) q (within body (sym j))
+
+    pub roomy : (lent : Lent) → lacking (z .tables) lent ≡ none → Roomy K body lent
+    unfolding sizes
     roomy lent f =
         let (s, j, q) = the-sound in
         record {
-          room = λ s′ j′. let z : accepted s ≡ accepted s′ = sym j ∙ j′ in let w : s ≡ s′ = cc z in ap (λ (s : Sound Tree). lacking (needs (K .tables (s .tree))) lent) (sym w) ∙ ap (λ (v : Sight Top). lacking (v .sizes .tables) lent) q ∙ f;
+          room = λ s′ j′. let w : accepted s ≡ accepted s′ = sym j ∙ j′ in let e : s ≡ s′ = cc w in ap (λ (s : Sound Tree). lacking (needs (K .tables (s .tree))) lent) (sym e) ∙ ap (λ (z : Sizes). lacking (z .tables) lent) q ∙ f;
         }
 
-    pub reads-lacking : (lent : Lent) (n : Need) → lacking (v .sizes .tables) lent ≡ some n → Reads K body lent (no-room (n .number) (n .rows)) lent
-    unfolding sight sizes
+    pub reads-lacking : (lent : Lent) (n : Need) → lacking (z .tables) lent ≡ some n → Reads K body lent (no-room (n .number) (n .rows)) lent
+    unfolding sizes
     reads-lacking lent n f =
         let (s, j, q) = the-sound in
-        record { promised = sym (lacks-so K body lent s n j (ap (λ (v : Sight Top). lacking (v .sizes .tables) lent) q ∙ f)) }
+        record { promised = sym (lacks-so K body lent s n j (ap (λ (z : Sizes). lacking (z .tables) lent) q ∙ f)) }
 
-    -- the record gets its trailing run, and the tables are filled
-    pub reads-filled : ((t : Tree) (r p : Payload) → K .retrail (K .top t r) p ≡ K .top t p) → (lent after : Lent) → lacking (v .sizes .tables) lent ≡ none → Fills K body lent after
-        → Reads K body lent (accepted (K .retrail (v .top) (tail (v .sizes .before) body))) after
-    unfolding sight sizes
-    reads-filled retrailed lent after f g =
+    -- the record is that of the body, and the tables are filled
+    pub reads-filled : {top : Top} (lent after : Lent) → lacking (z .tables) lent ≡ none → Fills K body lent after → Tops K body top → Reads K body lent (accepted top) after
+    unfolding sizes
+    reads-filled lent after f g t =
         let (s, j, q) = the-sound in
-        let d = reads-done body lent (sym j) (ap (λ (v : Sight Top). lacking (v .sizes .tables) lent) q ∙ f) in
-        let r : K .retrail (v .top) (tail (v .sizes .before) body) ≡ K .top (s .tree) (tail (s .before) body) =
-        sym (ap (λ (v : Sight Top). K .retrail (v .top) (tail (v .sizes .before) body)) q) ∙ retrailed (s .tree) (span 0 0) (tail (s .before) body) in
-        rw (r, g .fills s j) d
+        rw (t .tops s j, g .fills s j) (reads-done body lent (sym j) (ap (λ (z : Sizes). lacking (z .tables) lent) q ∙ f))
+
+    -- a tally that the record alone decides
+    pub tallies-topped : (f : Top → ℕ) → ((t : Tree) (p : Payload) → f (K .top t p) ≡ K .zeros t) → {top : Top} → Tops K body top → Tallies K body (accepted (f top))
+    unfolding tallying onto
+    tallies-topped f e t =
+        let (s, j, q) = the-sound in
+        record { promised = ap (λ (x : Top). accepted (f x)) (t .tops s j) ∙ ap accepted (e (s .tree) _) ∙ sym (ap (onto (λ (s : Sound Tree). K .zeros (s .tree))) j) }
+
+    -- of one sound body all is said
+    pub tops-so : {top : Top} → ((s : Sound Tree) → judging K body ≡ accepted s → sizes K s ≡ z → top ≡ K .top (s .tree) (tail (s .before) body)) → Tops K body top
+    tops-so f =
+        let (s, j, q) = the-sound in
+        record { tops = λ s′ j′. let w : accepted s ≡ accepted s′ = sym j ∙ j′ in let e : s ≡ s′ = cc w in f s′ j′ (sym (ap (sizes K) e) ∙ q) }
 
   -- ---- writing: the pen after the check pass
 

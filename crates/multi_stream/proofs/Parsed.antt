@@ -10,14 +10,15 @@ use lib.Dec.{eqb}
 use borrow.Author.Tests.{eqb-true, eqb-false}
 use Rattle.wire.specs.Bits.{part}
 use Rattle.wire.specs.Prog.{Prog, ret, done, run, u8, many, _>>=_}
-use Rattle.wire.specs.Reads.{mapOut, isDone}
-use Rattle.wire.proofs.Runs.{run-split, run-ret, u8-done}
-use Rattle.wire.proofs.Walk.{From, onward, finished, ends, byte-there, byte-next, run-ret as run-done}
-use Rattle.wire.proofs.Loops.{many-long}
+use Rattle.wire.specs.Reads.{mapOut, isDone, posOf, Summed}
+use Rattle.wire.specs.declared.reads.Sum.{Sum}
+use Rattle.wire.specs.declared.reads.Sum.the-variants as S
+use Rattle.wire.proofs.Runs.{run-split, run-ret}
+use Rattle.wire.proofs.Walk.{From, finished, byte-there, byte-next, byte-taken, is-done, run-ret as run-done}
+use Rattle.wire.proofs.Loops.{many-long, summed-done, summed-cut, sum-onward, sum-cut-off, sum-small}
 use Rattle.multi_stream.specs.declared.rows.MultiStreamGroup.{MultiStreamGroup}
-use Rattle.multi_stream.specs.Rows.{groupId, located, inMain, inAuxiliary, presentMain, Main, MultiStream, counted}
+use Rattle.multi_stream.specs.Rows.{groupId, located, inMain, inAuxiliary, absentMain, presentMain, Main, MultiStream, counted, groupsOf}
 use Rattle.multi_stream.specs.Read.{auxiliary, group, mainOf, main, parse}
-use Rattle.multi_stream.specs.Contract.{headed}
 
 -- ---- a group, after its first byte
 
@@ -62,73 +63,110 @@ module _ (s : List ℕ) (at : ℕ) (q : isDone (run group s at) ≡ true) where
           let n : at + 1 + 1 ≡ at + 2 = omega arith in
           sym (after-flag ∙ byte-next rest s (at + 1) second-there v ∙ run-done g s (at + 1 + 1) ∙ ap (done g) n)
 
--- ---- the main part, after its two bytes
+-- ---- the main part
 
 abbrev pub afterTwo : ℕ → ℕ → Prog (Option Main)
 afterTwo a g = many (part 0 7 g) group >>= λ l. ret (some (mainOf a g l))
 
--- as many groups as the count says
-pub main-done : (s : List ℕ) (at a g : ℕ) {n k : ℕ} {l : List MultiStreamGroup} → From (main true) s at (afterTwo a g) n → run (many (part 0 7 g) group) s n ≡ done l k
-    → done (presentMain (headed a g)) k ≡ mapOut counted (run (main true) s at)
-main-done s at a g {n} {k} {l} w e =
-    let f = finished (onward (many (part 0 7 g) group) (λ l. ret (some (mainOf a g l))) w refl e) refl in
-    rw (many-long group s (part 0 7 g) n l k e) at (ap (mapOut counted) f)
+abbrev pub afterOne : ℕ → Prog (Option Main)
+afterOne a = u8 >>= afterTwo a
 
--- ---- a run that is done
+-- a main part that was read: its two bytes, and as many groups as the count says
+pub record MainThere (s : List ℕ) (at : ℕ) (o : Option Main) (k : ℕ) : Type 0 where
+  pub inside : at + 1 < length s
+  pub groups : List MultiStreamGroup
+  pub is : o ≡ some (mainOf (getD s at 0) (getD s (at + 1) 0) groups)
+  pub count : length groups ≡ part 0 7 (getD s (at + 1) 0)
+  pub reads : run (many (length groups) group) s (at + 2) ≡ done groups k
 
-data MainRun (s : List ℕ) (at : ℕ) (o : Option Main) (k : ℕ) : Type 0 where
-  aside : o ≡ none → MainRun s at o k
-  there : (a g : ℕ) (l : List MultiStreamGroup) → o ≡ some (mainOf a g l) → run (many (part 0 7 g) group) s (at + 2) ≡ done l k → at + 2 ≤ length s → MainRun s at o k
+there-so : (s : List ℕ) (at : ℕ) {o : Option Main} {k m : ℕ} (l : List MultiStreamGroup) → at + 1 < length s → run (many (part 0 7 (getD s (at + 1) 0)) group) s (at + 1 + 1) ≡ done l m
+    → some (mainOf (getD s at 0) (getD s (at + 1) 0) l) ≡ o → m ≡ k → MainThere s at o k
+there-so s at {o} l h e q n =
+    let c = many-long group s (part 0 7 (getD s (at + 1) 0)) (at + 1 + 1) l _ e in
+    let w : at + 1 + 1 ≡ at + 2 = omega arith in
+    rw (← n) (record { inside = h; groups = l; is = sym q; count = c; reads = rw (c, ← w) e })
 
--- the same of another position and another end that are equal
-moved : {s : List ℕ} {at at′ k k′ : ℕ} {o o′ : Option Main} → at ≡ at′ → o ≡ o′ → k ≡ k′ → MainRun s at o k → MainRun s at′ o′ k′
-moved a b c r = rw (← a, ← b, ← c) r
-
-two-on : {s : List ℕ} {at n k k′ : ℕ} {o : Option Main} (a g : ℕ) (l : List MultiStreamGroup) → n ≡ at + 2 → k′ ≡ k → o ≡ some (mainOf a g l) → run (many (part 0 7 g) group) s n ≡ done l k′ → n ≤ length s → MainRun s at o k
-two-on a g l m q e r i = there a g l e (rw (← m, ← q) r) (rw (← m) i)
-
-main-run : (b : Bool) (s : List ℕ) (at : ℕ) {o : Option Main} {k : ℕ} → at ≤ length s → run (main b) s at ≡ done o k → MainRun s at o k
+pub main-there : (s : List ℕ) (at : ℕ) {o : Option Main} {k : ℕ} → run (main true) s at ≡ done o k → MainThere s at o k
 unfolding main
-main-run false s at h e = aside (sym (run-ret _ s at e .0))
-main-run true s at {k = k} h e =
-    let x = run-split u8 _ s at _ _ e in
-    let y = run-split u8 _ s (x .middle) _ _ (x .second) in
-    let z = run-split (many _ group) _ s (y .middle) _ _ (y .second) in
-    let q = run-ret _ s (z .middle) (z .second) in
-    let m : y .middle ≡ at + 2 = omega (arith, u8-done s at (x .first) .1, u8-done s (x .middle) (y .first) .1) in
-    let i = ends u8 s (x .middle) (ends u8 s at h refl (x .first)) refl (y .first) in
-    two-on (x .value) (y .value) (z .value) m (q .1) (sym (q .0)) (z .first) i
+main-there s at {o} {k} e =
+    let (h, e₁) = byte-taken s at afterOne e in
+    let (h₁, e₂) = byte-taken s (at + 1) (afterTwo (getD s at 0)) e₁ in
+    let x = run-split (many (part 0 7 (getD s (at + 1) 0)) group) (λ l. ret (some (mainOf (getD s at 0) (getD s (at + 1) 0) l))) s (at + 1 + 1) o k e₂ in
+    let (q, n) = run-ret _ s (x .middle) (x .second) in
+    there-so s at (x .value) h₁ (x .first) q n
 
-body-run : (s : List ℕ) {t : MultiStream} {k : ℕ} → run parse s 0 ≡ done t k → MainRun s 1 (t .main) k
+pub main-aside : (s : List ℕ) (at : ℕ) {o : Option Main} {k : ℕ} → run (main false) s at ≡ done o k → o ≡ none
+unfolding main
+main-aside s at e = sym (run-ret _ s at e .0)
+
+-- what is taken of it without a test
+module _ (s : List ℕ) (q : isDone (run (main true) s 1) ≡ true) where
+  the-main : (o : Option Main) × (k : ℕ) × (run (main true) s 1 ≡ done o k)
+  the-main = is-done (run (main true) s 1) q
+
+  pub two-there : 2 < length s
+  two-there = main-there s 1 (the-main .2) .inside
+
+  pub main-placed : {a g : ℕ} → a ≡ getD s 1 0 → g ≡ getD s 2 0
+      → done (presentMain (record { «reserved_aux» = part 7 1 a; «num_auxiliary_streams» = part 0 7 a; «reserved_groups» = part 7 1 g; groups = part 0 7 g })) (posOf (run (main true) s 1)) ≡ mapOut counted (run (main true) s 1)
+  main-placed e f =
+      let (o, k, r) = the-main in
+      let w = main-there s 1 r in
+      rw (r, e, f, w .is, ← w .count) refl
+
+pub aside-placed : (s : List ℕ) → done absentMain (posOf (run (main false) s 1)) ≡ mapOut counted (run (main false) s 1)
+unfolding main
+aside-placed s = rw (run-done {A = Option Main} none s 1) refl
+
+-- ---- the body
+
+abbrev pub afterStream : ℕ → Prog MultiStream
+afterStream b = main (eqb (part 7 1 b) 1) >>= λ m. ret (record { «this_stream_id» = part 0 7 b; main = m })
+
+-- its groups are those of the main part
+pub body-summed : (b : ℕ) {s : List ℕ} {n : ℕ} {r : Sum} → From parse s 0 (afterStream b) n → Summed (main (eqb (part 7 1 b) 1)) (λ o. length (groupsOf o)) 127 s n r → Summed parse (λ t. length (groupsOf (t .main))) 127 s 0 r
+body-summed b {s} {n} {r} w x = go r refl
+  where
+    go : (y : Sum) → r ≡ y → Summed parse (λ t. length (groupsOf (t .main))) 127 s 0 r
+    go (S.Got v m) e = let g = sum-onward (main (eqb (part 7 1 b) 1)) _ w x e in rw e (summed-done (finished (g .place) refl) (sym (g .is)) (sum-small x e))
+    go (S.Short y) e = summed-cut e (sum-cut-off (main (eqb (part 7 1 b) 1)) _ w x e)
+
+-- a body that was read: its first byte, and the main part that this steers
+pub record BodyRun (s : List ℕ) (t : MultiStream) (k : ℕ) : Type 0 where
+  pub inside : 0 < length s
+  pub reads : run (main (eqb (part 7 1 (getD s 0 0)) 1)) s 1 ≡ done (t .main) k
+  pub stream : t .«this_stream_id» ≡ part 0 7 (getD s 0 0)
+
+body-so : (s : List ℕ) {t : MultiStream} {k m : ℕ} (o : Option Main) → 0 < length s → run (main (eqb (part 7 1 (getD s 0 0)) 1)) s 1 ≡ done o m
+    → record { «this_stream_id» = part 0 7 (getD s 0 0); main = o } ≡ t → m ≡ k → BodyRun s t k
+body-so s o h e q n = rw (← q, ← n) (record { inside = h; reads = e; stream = refl })
+
+pub body-run : (s : List ℕ) {t : MultiStream} {k : ℕ} → run parse s 0 ≡ done t k → BodyRun s t k
 unfolding parse
-body-run s e =
-    let x = run-split u8 _ s 0 _ _ e in
-    let y = run-split (main _) _ s (x .middle) _ _ (x .second) in
-    let q = run-ret _ s (y .middle) (y .second) in
-    let m : x .middle ≡ 1 = u8-done s 0 (x .first) .1 in
-    let r = main-run _ s (x .middle) (ends u8 s 0 (omega arith) refl (x .first)) (y .first) in
-    moved m (ap (λ (t : MultiStream). t .main) (q .0)) (q .1) r
+body-run s {t} {k} e =
+    let (h, e₁) = byte-taken s 0 afterStream e in
+    let b = getD s 0 0 in
+    let x = run-split (main (eqb (part 7 1 b) 1)) (λ m. ret (record { «this_stream_id» = part 0 7 b; main = m })) s 1 t k e₁ in
+    let (q, n) = run-ret _ s (x .middle) (x .second) in
+    body-so s (x .value) h (x .first) q n
 
--- the groups begin behind the third byte
-pub record Groups (s : List ℕ) (m : Main) (k : ℕ) : Type 0 where
+-- the groups, if there are any, begin behind the third byte
+pub record Groups (s : List ℕ) (l : List MultiStreamGroup) (k : ℕ) : Type 0 where
   pub inside : 3 ≤ length s
-  pub reads : run (many (length (m .groups)) group) s 3 ≡ done (m .groups) k
+  pub reads : run (many (length l) group) s 3 ≡ done l k
 
-pub groups-run : (s : List ℕ) {t : MultiStream} {k : ℕ} (m : Main) → run parse s 0 ≡ done t k → t .main ≡ some m → Groups s m k
-groups-run s {t} {k} m e q = go (body-run s e)
-  where
-    go : MainRun s 1 (t .main) k → Groups s m k
-    go (aside n) = absurd (let z : none ≡ some m = sym n ∙ q in let w : _≡_ {A = ℕ} 0 1 = cc z in omega arith)
-    go (there a g l n r i) =
-        let z : some (mainOf a g l) ≡ some m = sym n ∙ q in
-        let w : mainOf a g l ≡ m = cc z in
-        let x : Groups s (mainOf a g l) k = record { inside = i; reads = rw (many-long group s _ 3 l k r) r } in
-        rw w at x
+module _ (s : List ℕ) {t : MultiStream} {k : ℕ} (e : run parse s 0 ≡ done t k) where
+  pub groups-run : 0 < length (groupsOf (t .main)) → Groups s (groupsOf (t .main)) k
+  groups-run h = go (eqb (part 7 1 (getD s 0 0)) 1) (body-run s e .reads)
+    where
+      go : (b : Bool) → run (main b) s 1 ≡ done (t .main) k → Groups s (groupsOf (t .main)) k
+      go false r = absurd (omega (arith, h, ap (λ (o : Option Main). length (groupsOf o)) (main-aside s 1 r)))
+      go true r = let w = main-there s 1 r in rw (w .is) (record { inside = omega (arith, w .inside); reads = w .reads })
 
--- the reserved fields fit their widths
-pub reserved-fit : (s : List ℕ) {t : MultiStream} {k : ℕ} → run parse s 0 ≡ done t k → (counted (t .main) .part .«reserved_aux» < 2) × (counted (t .main) .part .«reserved_groups» < 2)
-reserved-fit s {t} {k} e = go (body-run s e)
-  where
-    go : MainRun s 1 (t .main) k → (counted (t .main) .part .«reserved_aux» < 2) × (counted (t .main) .part .«reserved_groups» < 2)
-    go (aside n) = rw n (omega arith, omega arith)
-    go (there a g l n r i) = rw n (omega arith, omega arith)
+  -- the reserved fields fit their widths
+  pub reserved-fit : (counted (t .main) .part .«reserved_aux» < 2) × (counted (t .main) .part .«reserved_groups» < 2)
+  reserved-fit = go (eqb (part 7 1 (getD s 0 0)) 1) (body-run s e .reads)
+    where
+      go : (b : Bool) → run (main b) s 1 ≡ done (t .main) k → (counted (t .main) .part .«reserved_aux» < 2) × (counted (t .main) .part .«reserved_groups» < 2)
+      go false r = rw (main-aside s 1 r) (omega arith, omega arith)
+      go true r = let w = main-there s 1 r in rw (w .is) (omega arith, omega arith)

@@ -1,39 +1,55 @@
--- What code knows of a sound body before table 8 is filled, and that filling it gives the rows of the tree.
-use Prim.Native.Nat.{ℕ, _*_, _/_, _≤_, _<_}
+-- What is known of a body that was measured: the rows of its table, its record, and that filling table 8 gives the rows of the tree.
+use Prim.Native.Nat.{ℕ, _*_, _/_, _-_, _≤_, _<_}
 use mathlib.Core.Path.{_≡_, refl, sym, ap, _∙_}
 use mathlib.Core.List.{List, [], _∷_, _++_, map, flatten, flatMap}
 use mathlib.Core.Bool.{true, false}
-use mathlib.Core.Option.{Option, none, some}
+use mathlib.Core.Option.{none, some}
 use native.Mathlib.Omega.{arith}
-use lib.ListN.{length, drop, length-map}
-use lib.Dec.{leb}
+use lib.ListN.{length, getD, drop, length-map}
+use lib.Dec.{leb, eqb}
 use lib.Seq.{sets, getD-append-seam, getD-append-add}
+use Rattle.wire.specs.Bits.{part}
 use Rattle.wire.specs.Prog.{done, run, many, span}
-use Rattle.wire.specs.Reads.{isDone, rowsOf}
+use Rattle.wire.specs.Reads.{mapOut, isDone, rowsOf, Summed}
+use Rattle.wire.specs.declared.reads.Short.{Short}
+use Rattle.wire.specs.declared.reads.Sum.the-variants as S
+use Rattle.wire.specs.declared.rows.Payload.{Payload}
+use Rattle.wire.proofs.Walk.{as-done, as-short}
 use Rattle.wire.proofs.Tables.{rows-stored}
 use Rattle.frame.specs.Numbers.{accepted}
-use Rattle.frame.specs.Kind.{Lent}
-use Rattle.frame.specs.Entry.{Sound, needs, first, others, room, lacking, filled, sizes}
-use Rattle.frame.specs.Sight.{sight, Seen, Fills}
+use Rattle.frame.specs.Entry.{too-short, Sound, Sizes, needs, first, others, room, lacking, filled, sizes, tail, judging, Measures}
+use Rattle.frame.specs.Sight.{Tops, Fills}
 use Rattle.frame.proofs.Judged.{ran-well}
+use Rattle.frame.proofs.Entries.{the-sound, measures-short, measures-done}
 use Rattle.multi_stream.specs.declared.rows.MultiStreamGroup.{MultiStreamGroup}
 use Rattle.multi_stream.specs.declared.rows.MainStream.{MainStream}
 use Rattle.multi_stream.specs.declared.rows.MpegH3dAudioMultiStream.{MpegH3dAudioMultiStream}
-use Rattle.multi_stream.specs.Rows.{groupColumns, row, groupOf, Main, MultiStream, counted, groupsOf, top, tables}
-use Rattle.multi_stream.specs.Read.{group, parse}
+use Rattle.multi_stream.specs.Rows.{groupColumns, row, groupOf, MultiStream, counted, groupsOf, top, tables}
+use Rattle.multi_stream.specs.Read.{group, main, parse}
 use Rattle.multi_stream.specs.Write.{kind}
 use Rattle.multi_stream.specs.Contract.{needed, sized}
-use Rattle.multi_stream.proofs.Parsed.{groups-run, reserved-fit}
+use Rattle.multi_stream.proofs.Parsed.{body-run, groups-run, reserved-fit}
 
--- ---- what is seen
+-- ---- the rows
 
-rows-counted : (o : Option Main) → length (map row (groupsOf o)) ≡ counted o .part .groups
-rows-counted none = refl
-rows-counted (some m) = length-map (m .groups) row
+pub sizes-are : (t : MultiStream) (k : ℕ) → sizes kind (record { tree = t; before = k }) ≡ sized (length (groupsOf (t .main))) k
+unfolding sizes kind tables needs
+sizes-are t k = λ i. sized (length-map (groupsOf (t .main)) row i) k
 
-pub sight-is : (t : MultiStream) (k : ℕ) → sight kind (record { tree = t; before = k }) ≡ record { top = top t (span 0 0); sizes = sized (counted (t .main) .part .groups) k }
-unfolding sight sizes kind tables needs
-sight-is t k = λ i. record { top = top t (span 0 0); sizes = sized (rows-counted (t .main) i) k }
+-- what the walk along a body says is what it needs
+module _ (body : List ℕ) (h : length body ≤ 65535) where
+  pub measures-walked : {n k : ℕ} → Summed parse (λ t. length (groupsOf (t .main))) 127 body 0 (S.Got n k) → Measures kind body (accepted (sized n k))
+  unfolding kind
+  measures-walked {n} {k} w =
+      let (t, e, q) = as-done (λ (t : MultiStream). length (groupsOf (t .main))) (run parse body 0) (sym (w .is)) in
+      rw (← q, ← sizes-are t k) (measures-done kind body h e)
+
+  pub measures-cut : {x : Short} → Summed parse (λ t. length (groupsOf (t .main))) 127 body 0 (S.Short x) → Measures kind body (too-short x)
+  unfolding kind
+  measures-cut w = measures-short kind body h (as-short (λ (t : MultiStream). length (groupsOf (t .main))) (run parse body 0) (sym (w .is)))
+
+abbrev firstRows : Sizes → ℕ
+firstRows z = elim (z .tables) [ [] ↦ 0 | n ∷ ns ↦ n .rows ]
 
 -- table 8 has the rows that it needs, or not
 pub has-room : (t : List ℕ) (n : ℕ) → leb n (length t / groupColumns) ≡ true → lacking (needed n) (t ∷ []) ≡ none
@@ -51,7 +67,7 @@ row-found g before behind =
     let s : List ℕ = row g ++ behind in
     rw (getD-append-seam before (g .«group_id» .0) (drop 1 s) 0, getD-append-add before s 1 0, getD-append-add before s 2 0, getD-append-add before s 3 0, getD-append-add before s 4 0) refl
 
--- ---- a body that was judged: its groups stand behind the third byte
+-- ---- a body that was measured: its groups stand behind the third byte
 
 pub record Fillable (body : List ℕ) (count : ℕ) : Type 0 where
   pub inside : 3 ≤ length body
@@ -60,58 +76,68 @@ pub record Fillable (body : List ℕ) (count : ℕ) : Type 0 where
 abbrev Rows-of : List ℕ → ℕ → List MultiStreamGroup
 Rows-of body count = rowsOf (run (many count group) body 3)
 
-rows-are : (body : List ℕ) {n count k : ℕ} {l : List MultiStreamGroup} → n ≡ count → run (many n group) body 3 ≡ done l k → Rows-of body count ≡ l
-rows-are body e r = ap (Rows-of body) (sym e) ∙ ap rowsOf r
+module _ (body : List ℕ) {n k : ℕ} (w : Measures kind body (accepted (sized n k))) where
+  abbrev sound : Sound MultiStream
+  sound = the-sound kind body w .0
 
-there : (o : Option Main) {p : MainStream} → counted o ≡ p → p .present ≡ true → (x : Main) × (o ≡ some x) × (length (x .groups) ≡ p .part .groups)
-there none e p = absurd (let z : false ≡ true = ap (λ (s : MainStream). s .present) e ∙ p in let n : _≡_ {A = ℕ} 0 1 = cc z in omega arith)
-there (some x) e p = (x, refl, ap (λ (s : MainStream). s .part .groups) e)
+  judges : judging kind body ≡ accepted sound
+  judges = the-sound kind body w .1
 
-aside : (o : Option Main) {p : MainStream} → counted o ≡ p → p .present ≡ false → o ≡ none
-aside none e p = refl
-aside (some x) e p = absurd (let z : true ≡ false = ap (λ (s : MainStream). s .present) e ∙ p in let n : _≡_ {A = ℕ} 0 1 = cc z in omega arith)
-
-module _ (body : List ℕ) (m : MpegH3dAudioMultiStream) (w : Seen kind body m) where
-  main-is : counted (w .sound .tree .main) ≡ m .main
+  ran : run parse body 0 ≡ done (sound .tree) (sound .before)
   unfolding kind
-  main-is = ap (λ (m : MpegH3dAudioMultiStream). m .main) (w .is)
+  ran = ran-well kind body sound judges .reads
 
-  ran : run parse body 0 ≡ done (w .sound .tree) (w .sound .before)
+  count-is : length (groupsOf (sound .tree .main)) ≡ n
   unfolding kind
-  ran = ran-well kind body (w .sound) (w .judges) .reads
-
-  pub fillable : m .main .present ≡ true → Fillable body (m .main .part .groups)
-  fillable p =
-      let (x, q, n) = there (w .sound .tree .main) main-is p in
-      let g = groups-run body x ran q in
-      record { inside = g .inside; sound = rw (← n) (ap isDone (g .reads)) }
+  count-is = ap firstRows (sym (sizes-are (sound .tree) (sound .before)) ∙ the-sound kind body w .2)
 
   -- the sound body is one
-  fills-so : (lent after : Lent) → after ≡ filled (tables (w .sound .tree)) lent → Fills kind body lent after
-  unfolding kind
-  fills-so lent after e = record {
-    fills = λ s j. let z : accepted (w .sound) ≡ accepted s = sym (w .judges) ∙ j in let q : w .sound ≡ s = cc z in e ∙ ap (λ (s : Sound MultiStream). filled (tables (s .tree)) lent) q;
-  }
+  one-sound : (s : Sound MultiStream) → judging kind body ≡ accepted s → sound ≡ s
+  one-sound s j = let z : accepted sound ≡ accepted s = sym judges ∙ j in cc z
 
-  table-of : (o : Option Main) → w .sound .tree .main ≡ o → (t : List ℕ) → filled (tables (w .sound .tree)) (t ∷ []) ≡ (flatten (map row (groupsOf o)) ++ drop (length (flatten (map row (groupsOf o)))) t) ∷ []
-  unfolding filled tables first others
-  table-of o q t = ap (λ (o : Option Main). (flatten (map row (groupsOf o)) ++ drop (length (flatten (map row (groupsOf o)))) t) ∷ []) q
+  pub fillable : 0 < n → Fillable body n
+  fillable h =
+      let g = groups-run body ran (omega (arith, h, count-is)) in
+      record { inside = g .inside; sound = rw (← count-is) (ap isDone (g .reads)) }
 
-  pub filled-there : m .main .present ≡ true → (t after : List ℕ) → m .main .part .groups ≤ length t / groupColumns → after ≡ sets t 0 (flatMap row (Rows-of body (m .main .part .groups)))
-      → Fills kind body (t ∷ []) (after ∷ [])
+  pub filled-so : (t after : List ℕ) → after ≡ flatten (map row (groupsOf (sound .tree .main))) ++ drop (length (flatten (map row (groupsOf (sound .tree .main))))) t → Fills kind body (t ∷ []) (after ∷ [])
+  unfolding kind filled tables first others
+  filled-so t after e = record { fills = λ s j. ap (λ (a : List ℕ). a ∷ []) e ∙ ap (λ (s : Sound MultiStream). filled (tables (s .tree)) (t ∷ [])) (one-sound s j) }
+
+  pub filled-there : 0 < n → (t after : List ℕ) → n ≤ length t / groupColumns → after ≡ sets t 0 (flatMap row (Rows-of body n)) → Fills kind body (t ∷ []) (after ∷ [])
   filled-there p t after h e =
-      let (x, q, n) = there (w .sound .tree .main) main-is p in
-      let g = groups-run body x ran q in
-      let r : Rows-of body (m .main .part .groups) ≡ x .groups = rows-are body n (g .reads) in
-      let l : length (x .groups) * groupColumns ≤ length t = omega (arith, n, h) in
-      let f : after ≡ flatten (map row (x .groups)) ++ drop (length (flatten (map row (x .groups)))) t =
-      e ∙ ap (λ (l : List MultiStreamGroup). sets t 0 (flatMap row l)) r ∙ rows-stored groupColumns groupOf row (λ g. refl) row-found (x .groups) t l in
-      fills-so (t ∷ []) (after ∷ []) (ap (λ (a : List ℕ). a ∷ []) f ∙ sym (table-of (some x) q t))
+      let l = groupsOf (sound .tree .main) in
+      let g = groups-run body ran (omega (arith, p, count-is)) in
+      let r : Rows-of body n ≡ l = ap (Rows-of body) (sym count-is) ∙ ap rowsOf (g .reads) in
+      let m : length l * groupColumns ≤ length t = omega (arith, count-is, h) in
+      filled-so t after (e ∙ ap (λ (l : List MultiStreamGroup). sets t 0 (flatMap row l)) r ∙ rows-stored groupColumns groupOf row (λ g. refl) row-found l t m)
 
-  pub filled-aside : m .main .present ≡ false → (t : List ℕ) → Fills kind body (t ∷ []) (t ∷ [])
+  pub filled-none : n ≤ 0 → (t : List ℕ) → Fills kind body (t ∷ []) (t ∷ [])
   unfolding flatten
-  filled-aside p t = fills-so (t ∷ []) (t ∷ []) (sym (table-of none (aside (w .sound .tree .main) main-is p) t))
+  filled-none h t = filled-so t t (go (groupsOf (sound .tree .main)) (omega (arith, h, count-is)))
+    where
+      go : (l : List MultiStreamGroup) → length l ≡ 0 → t ≡ flatten (map row l) ++ drop (length (flatten (map row l))) t
+      go [] e = refl
+      go (g ∷ l) e = absurd (omega arith)
+
+  -- ---- its record
+
+  pub main-sound : (0 < length body) × (isDone (run (main (eqb (part 7 1 (getD body 0 0)) 1)) body 1) ≡ true)
+  main-sound = let r = body-run body ran in (r .inside, ap isDone (r .reads))
+
+  pub tops-are : {id : ℕ} {m : MainStream} {p : Payload} → id ≡ part 0 7 (getD body 0 0)
+      → (x : ℕ) → done m x ≡ mapOut counted (run (main (eqb (part 7 1 (getD body 0 0)) 1)) body 1) → p ≡ span k (length body - k) → Tops kind body (record { «this_stream_id» = id; main = m; trailing = p })
+  unfolding kind sizes
+  tops-are {id} {m} {p} e x f g =
+      let r = body-run body ran in
+      let z : done m x ≡ done (counted (sound .tree .main)) (sound .before) = f ∙ ap (mapOut counted) (r .reads) in
+      let v : m ≡ counted (sound .tree .main) = cc z in
+      let b : sound .before ≡ k = ap (λ (z : Sizes). z .before) (the-sound kind body w .2) in
+      record {
+        tops = λ s j. (λ i. record { «this_stream_id» = (e ∙ sym (r .stream)) i; main = v i; trailing = (g ∙ ap (λ (k : ℕ). span k (length body - k)) (sym b)) i }) ∙ ap (λ (s : Sound MultiStream). top (s .tree) (tail (s .before) body)) (one-sound s j);
+      }
 
   -- the reserved fields that stand in the body fit, and so do the zeros of a part that is absent
-  pub seen-reserved : (m .main .part .«reserved_aux» < 2) × (m .main .part .«reserved_groups» < 2)
-  seen-reserved = rw main-is at (reserved-fit body ran)
+  pub reserved-small : {m : MpegH3dAudioMultiStream} → Tops kind body m → (m .main .part .«reserved_aux» < 2) × (m .main .part .«reserved_groups» < 2)
+  unfolding kind
+  reserved-small {m} t = rw (t .tops sound judges) (reserved-fit body ran)

@@ -14,12 +14,12 @@ ghost use Rattle.multi_stream.specs.Contract.{read, measured};
 use frame::Refusal;
 use frame::Tallied;
 use frame::Written;
-use parsing::Judged;
 use rows::GROUP_COLUMNS;
 use rows::MainStream;
 use rows::MpegH3dAudioMultiStream;
 use wire::bits;
 use wire::pen::Pen;
+use wire::reads::Sum;
 use wire::rows::has_rows;
 
 // What reading answers: the top record, its trailing run included.
@@ -30,7 +30,7 @@ pub enum Reading {
 
 // What a body needs: the rows of table 8, and k, the bytes before the trailing run.
 pub struct Sizes {
-    pub groups: usize,
+    pub groups: u16,
     pub k: usize,
 }
 
@@ -39,20 +39,35 @@ pub enum Measured {
     Refused(Refusal),
 }
 
+// What the body needs, or 2, or 1.
+pub fn measure(body: &[u8]) -> Measured
+    ensures { λ r. ⌜ Measures kind (now (body .entry)) (measured r) ⌝ }
+{
+    if 65535 < body.len() {
+        return Measured::Refused(Refusal::TooLong(body.len()));
+    }
+    let r = parsing::rows(body);
+    match r {
+        Sum::Got(groups, k) => Measured::Done(Sizes {
+            groups: groups as u16,
+            k,
+        }),
+        Sum::Short(x) => Measured::Refused(Refusal::Short(x)),
+    }
+}
+
 // The record of a body, its groups in table 8; or 2, or 1, or 3. The table is touched when all of the body is known to be sound.
 pub fn read(body: &[u8], groups: &mut [u16]) -> Reading
     ensures { λ r. ⌜ Reads kind (now (body .entry)) (now (groups .entry) ∷ []) (read r) (now (groups .exit) ∷ []) ⌝ }
 {
-    let j = parsing::judge(body);
-    match j {
-        Judged::Refused(r) => Reading::Refused(r),
-        Judged::Sound(m, k) => {
-            let rows = m.main.part.groups as usize;
+    let m = measure(body);
+    match m {
+        Measured::Refused(r) => Reading::Refused(r),
+        Measured::Done(s) => {
+            let rows = s.groups as usize;
             if has_rows(groups, GROUP_COLUMNS, rows) {
-                parsing::fill(body, m, groups);
-                let mut done = m;
-                done.trailing = wire::rows::trailing_run(k, body.len());
-                Reading::Done(done)
+                parsing::fill(body, s, groups);
+                Reading::Done(parsing::record_at(body, s))
             } else {
                 Reading::Refused(Refusal::NoRoom(8, rows))
             }
@@ -60,28 +75,17 @@ pub fn read(body: &[u8], groups: &mut [u16]) -> Reading
     }
 }
 
-// What the body needs, or 2, or 1.
-pub fn measure(body: &[u8]) -> Measured
-    ensures { λ r. ⌜ Measures kind (now (body .entry)) (measured r) ⌝ }
-{
-    let j = parsing::judge(body);
-    match j {
-        Judged::Sound(m, k) => Measured::Done(Sizes {
-            groups: m.main.part.groups as usize,
-            k,
-        }),
-        Judged::Refused(r) => Measured::Refused(r),
-    }
-}
-
 // The reserved bits at 0, or 2, or 1.
 pub fn tally(body: &[u8]) -> Tallied
     ensures { λ r. ⌜ Tallies kind (now (body .entry)) (tallied r) ⌝ }
 {
-    let j = parsing::judge(body);
-    match j {
-        Judged::Sound(m, _) => Tallied::Done(zero_bits(m.main)),
-        Judged::Refused(r) => Tallied::Refused(r),
+    let m = measure(body);
+    match m {
+        Measured::Done(s) => {
+            let t = parsing::record_at(body, s);
+            Tallied::Done(zero_bits(t.main))
+        }
+        Measured::Refused(r) => Tallied::Refused(r),
     }
 }
 

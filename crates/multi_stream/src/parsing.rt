@@ -1,67 +1,42 @@
-// Reading the multi-stream body: the reads in the Rust's order. One pass measures and touches nothing, one fills table 8.
+// Reading the multi-stream body: the reads in the Rust's order. One pass measures and touches nothing, one takes the record and fills table 8 and tests nothing.
 ghost use mathlib.Core.Path.{_≡_};
 ghost use mathlib.Core.Bool.{true};
 ghost use mathlib.Core.List.{[], _∷_, flatMap};
-ghost use Prim.Native.Nat.{_*_, _<_, _≤_, _/_, _^_};
+ghost use Prim.Native.Nat.{_*_, _<_, _≤_, _/_};
 ghost use lib.ListN.{length};
 ghost use lib.Seq.{sets};
 ghost use lib.Dec.{eqb};
 ghost use Rattle.wire.specs.Bits.{part};
-ghost use Rattle.wire.specs.Prog.{done, run, many, span};
-ghost use Rattle.wire.specs.Reads.{shortOf, mapOut, endOf, isDone, rowsOf, endsOut};
-ghost use Rattle.frame.specs.Entry.{onto, judging};
-ghost use Rattle.frame.specs.Sight.{sight, Seen, Fills};
-ghost use Rattle.multi_stream.specs.Rows.{groupColumns, row, counted, top};
+ghost use Rattle.wire.specs.Prog.{done, run, many};
+ghost use Rattle.wire.specs.Reads.{mapOut, endOf, isDone, posOf, rowsOf, endsOut, Summed};
+ghost use Rattle.frame.specs.Numbers.{accepted};
+ghost use Rattle.frame.specs.Entry.{Measures};
+ghost use Rattle.frame.specs.Sight.{Tops, Fills};
+ghost use Rattle.multi_stream.specs.Rows.{groupColumns, row, counted, groupsOf};
 ghost use Rattle.multi_stream.specs.Read.{group, main, parse};
 ghost use Rattle.multi_stream.specs.Write.{kind};
-ghost use Rattle.multi_stream.specs.Contract.{headed, mainOut, parsedOut, judged};
+ghost use Rattle.multi_stream.specs.Contract.{sized};
+use super::Sizes;
 use super::rows::AuxiliaryLocation;
 use super::rows::GROUP_COLUMNS;
 use super::rows::MainStream;
 use super::rows::MpegH3dAudioMultiStream;
 use super::rows::MultiStreamGroup;
 use super::rows::MultiStreamMain;
-use frame::Refusal;
 use wire::bits::part;
 use wire::bits::wide;
 use wire::ids::GroupId;
 use wire::reads::Byte;
 use wire::reads::Ends;
-use wire::reads::Short;
+use wire::reads::Sum;
 use wire::reads::byte_at;
 use wire::rows::put_row;
+use wire::rows::trailing_run;
 
 // A group that is known to be there, and the next position.
 struct Placed {
     group: MultiStreamGroup,
     next: usize,
-}
-
-pub enum MainAt {
-    Got(MainStream, usize),
-    Short(Short),
-}
-
-pub enum Parsed {
-    Got(MpegH3dAudioMultiStream, usize),
-    Short(Short),
-}
-
-// A body that is neither too long nor too short, with k, or why not.
-pub enum Judged {
-    Sound(MpegH3dAudioMultiStream, usize),
-    Refused(Refusal),
-}
-
-impl MainAt {
-    fn short(self) -> Short
-        ensures { λ r. ⌜ r ≡ shortOf (mainOut self) ⌝ }
-    {
-        match self {
-            MainAt::Got(_, _) => Short { need: 0 },
-            MainAt::Short(s) => s,
-        }
-    }
 }
 
 // ---- the groups
@@ -152,82 +127,85 @@ fn fill_groups(body: &[u8], at: usize, count: usize, groups: &mut [u16])
     }
 }
 
-// ---- the body
+// ---- the body, measured
 
-// The main-stream part, if the flag says that it is there; of its groups only the count.
-fn main_at(body: &[u8], at: usize, present: bool) -> MainAt
+// The groups of the main-stream part, if the flag says that it is there, and where it ends.
+fn main_rows(body: &[u8], at: usize, present: bool) -> Sum
     requires { ⌜ at ≤ length (now body) ⌝ }
-    ensures { λ r. ⌜ mainOut r ≡ mapOut counted (run (main present) (now (body .entry)) at) ⌝ }
+    ensures { λ r. ⌜ Summed (main present) (λ o. length (groupsOf o)) 127 (now (body .entry)) at r ⌝ }
 {
     if present {
         let a = byte_at(body, at);
-        let Byte::Got(aux, n1) = a else {
-            return MainAt::Short(a.short());
+        let Byte::Got(_, n1) = a else {
+            return Sum::Short(a.short());
         };
         let b = byte_at(body, n1);
         let Byte::Got(g, n2) = b else {
-            return MainAt::Short(b.short());
+            return Sum::Short(b.short());
         };
-        let count = part(g, 0, 7);
-        let c = measure_groups(body, n2, count as usize);
+        let count = part(g, 0, 7) as usize;
+        let c = measure_groups(body, n2, count);
         let Ends::At(k) = c else {
-            return MainAt::Short(c.short());
+            return Sum::Short(c.short());
         };
-        MainAt::Got(MainStream::of(main_of(aux, g)), k)
+        Sum::Got(count, k)
     } else {
-        MainAt::Got(MainStream::absent(), at)
+        Sum::Got(0, at)
     }
 }
 
-// The fields of the two bytes before the groups.
-fn main_of(aux: u16, g: u16) -> MultiStreamMain
-    ensures { λ r. ⌜ r ≡ headed aux g ⌝ }
-{
-    MultiStreamMain {
-        reserved_aux: part(aux, 7, 1) as u8,
-        num_auxiliary_streams: part(aux, 0, 7) as u8,
-        reserved_groups: part(g, 7, 1) as u8,
-        groups: part(g, 0, 7),
-    }
-}
-
-// The record of a body, but for its trailing run, and k.
-fn parse(body: &[u8]) -> Parsed
-    ensures { λ r. ⌜ parsedOut r ≡ mapOut (λ t. top t (span 0 0)) (run parse (now (body .entry)) 0) ⌝ }
+// The groups of a body, and k.
+pub fn rows(body: &[u8]) -> Sum
+    ensures { λ r. ⌜ Summed parse (λ t. length (groupsOf (t .main))) 127 (now (body .entry)) 0 r ⌝ }
 {
     let a = byte_at(body, 0);
     let Byte::Got(b0, n1) = a else {
-        return Parsed::Short(a.short());
+        return Sum::Short(a.short());
     };
-    let b = main_at(body, n1, part(b0, 7, 1) == 1);
-    let MainAt::Got(main, k) = b else {
-        return Parsed::Short(b.short());
-    };
-    Parsed::Got(MpegH3dAudioMultiStream::new(part(b0, 0, 7) as u8, main), k)
+    main_rows(body, n1, part(b0, 7, 1) == 1)
 }
 
-// Number 2, then 1.
-pub fn judge(body: &[u8]) -> Judged
-    ensures { λ r. ⌜ judged r ≡ onto (sight kind) (judging kind (now (body .entry))) ⌝ }
+// ---- the body, once it was measured
+
+// The main-stream part, if the flag says that it is there; of its groups only the count.
+fn main_at(body: &[u8], present: bool) -> MainStream
+    requires { ⌜ isDone (run (main present) (now body) 1) ≡ true ⌝ }
+    ensures { λ r. ⌜ done r (posOf (run (main present) (now (body .entry)) 1)) ≡ mapOut counted (run (main present) (now (body .entry)) 1) ⌝ }
 {
-    if 65535 < body.len() {
-        return Judged::Refused(Refusal::TooLong(body.len()));
-    }
-    let a = parse(body);
-    match a {
-        Parsed::Got(m, k) => Judged::Sound(m, k),
-        Parsed::Short(s) => Judged::Refused(Refusal::Short(s)),
+    if present {
+        let a = wide(body[1]);
+        let g = wide(body[2]);
+        MainStream::of(MultiStreamMain {
+            reserved_aux: part(a, 7, 1) as u8,
+            num_auxiliary_streams: part(a, 0, 7) as u8,
+            reserved_groups: part(g, 7, 1) as u8,
+            groups: part(g, 0, 7),
+        })
+    } else {
+        MainStream::absent()
     }
 }
 
-// Fills table 8 from a body that was judged: the groups begin behind the third byte.
-pub fn fill(body: &[u8], m: MpegH3dAudioMultiStream, groups: &mut [u16])
-    requires { ⌜ Seen kind (now body) m × (m .main .part .groups ≤ length (now groups) / groupColumns) ⌝ }
+// The record.
+pub fn record_at(body: &[u8], s: Sizes) -> MpegH3dAudioMultiStream
+    requires { ⌜ Measures kind (now body) (accepted (sized (s .groups) (s .k))) ⌝ }
+    ensures { λ r. ⌜ Tops kind (now (body .entry)) r ⌝ }
+{
+    let b0 = wide(body[0]);
+    MpegH3dAudioMultiStream {
+        this_stream_id: part(b0, 0, 7) as u8,
+        main: main_at(body, part(b0, 7, 1) == 1),
+        trailing: trailing_run(s.k, body.len()),
+    }
+}
+
+// Fills table 8: the groups begin behind the third byte.
+pub fn fill(body: &[u8], s: Sizes, groups: &mut [u16])
+    requires { ⌜ Measures kind (now body) (accepted (sized (s .groups) (s .k))) × (s .groups ≤ length (now groups) / groupColumns) ⌝ }
     ensures { λ r. ⌜ Fills kind (now (body .entry)) (now (groups .entry) ∷ []) (now (groups .exit) ∷ []) ⌝ }
 {
-    let main = m.main;
-    if main.present {
-        let count = main.part.groups;
+    let count = s.groups;
+    if 0 < count {
         fill_groups(body, 3, count as usize, groups);
     }
 }

@@ -8,23 +8,23 @@ use lib.ListN.{length, getD, length-append, take}
 use lib.Seq.{slice, getD-drop, getD-take}
 use Rattle.wire.specs.Lists.{sum}
 use Rattle.wire.specs.Bits.{part}
-use Rattle.wire.specs.Prog.{Prog, ret, Out, done, short, run, u8, bytes, pass, many, span, _>>=_}
+use Rattle.wire.specs.Prog.{Prog, ret, Out, done, short, run, u8, bytes, pass, many, _>>=_}
 use Rattle.wire.proofs.Fields.{part-below}
 use Rattle.wire.proofs.Runs.{run-split, run-ret}
 use Rattle.wire.specs.declared.reads.Short.{Short}
 use Rattle.wire.specs.declared.reads.Sum.{Sum}
 use Rattle.wire.specs.declared.reads.Sum.the-variants as S
-use Rattle.wire.specs.Reads.{shortOf, mapOut, endOf, Summed}
+use Rattle.wire.specs.Reads.{shortOf, endOf, Summed}
+use Rattle.wire.proofs.Steps.{got}
 use Rattle.wire.proofs.Walk.{From, begun, onward, finished, as-done, cut-off-as, bytes-end, byte-taken, bytes-taken}
 use Rattle.wire.proofs.Loops.{many-long, Went-on, sum-onward, sum-cut-off}
 use Rattle.wire.proofs.Nest.{flat-length}
 use Rattle.labels.specs.declared.rows.TextLabelEntry.{TextLabelEntry}
 use Rattle.labels.specs.Rows.{Labels}
 use Rattle.labels.proofs.Parsed.{labels-weigh}
-use Rattle.text_label.specs.Rows.{letters, Language, TextLabel, top, entriesOf, entriesIn}
+use Rattle.text_label.specs.Rows.{letters, Language, TextLabel, entriesOf, entriesIn}
 use Rattle.labels.specs.Read.{labels}
 use Rattle.text_label.specs.Read.{language, parse}
-use Rattle.text_label.specs.Contract.{headed, seenOf}
 
 -- ---- a language
 
@@ -169,21 +169,19 @@ after-head s {id = id} e d e′ d′ = onward u8 (afterHead id) (onward u8 after
 pub count-four : (b : ℕ) {count : ℕ} → count ≡ part 0 4 b → count < 16
 count-four b e = omega (arith, e, part-below 0 4 b)
 
--- what is seen of it: as many languages as the count says
-pub seen-so : (s : List ℕ) (id b n : ℕ) {rows k : ℕ} (l : List (Language TextLabelEntry)) → run (many (part 0 4 b) language) s n ≡ done l k → length (entriesIn l) ≡ rows → done (bodyIs id b l) k ≡ run parse s 0
-    → done (headed id b, rows) k ≡ mapOut seenOf (run parse s 0)
-seen-so s id b n {rows} {k} l r e d =
-    let q = many-long language s (part 0 4 b) n l k r in
-    let h : headed id b ≡ top (bodyIs id b l) (span 0 0) = λ i. record { «scene_info_id» = id; reserved = part 4 4 b; languages = sym q i; trailing = span 0 0 } in
-    (λ i. done (h i, sym e i) k) ∙ ap (mapOut seenOf) d
+-- they are there, or it is short by the first that is not
+pub head-there : (s : List ℕ) → 2 ≤ length s → From parse s 0 (afterHead (getD s 0 0) (getD s 1 0)) 2
+head-there s h = after-head s refl (got s 0 (omega (arith, h)) refl) refl (got s 1 (omega (arith, h)) refl)
 
 -- the languages begin behind the second byte
 pub record BodyRun (s : List ℕ) (t : TextLabel TextLabelEntry) (k : ℕ) : Type 0 where
   pub inside : 2 ≤ length s
+  pub scene : getD s 0 0 ≡ t .«scene_info_id»
+  pub bits : part 4 4 (getD s 1 0) ≡ t .reserved
   pub reads : run (many (length (t .languages)) language) s 2 ≡ done (t .languages) k
 
-body-so : (s : List ℕ) (b : ℕ) {t : TextLabel TextLabelEntry} {k m : ℕ} (l : List (Language TextLabelEntry)) → 2 ≤ length s → run (many (part 0 4 b) language) s 2 ≡ done l m → bodyIs (getD s 0 0) b l ≡ t → m ≡ k → BodyRun s t k
-body-so s b l h e q n = rw (← q, ← n) (record { inside = h; reads = rw (many-long language s (part 0 4 b) 2 l _ e) e })
+body-so : (s : List ℕ) {t : TextLabel TextLabelEntry} {k m : ℕ} (l : List (Language TextLabelEntry)) → 2 ≤ length s → run (many (part 0 4 (getD s 1 0)) language) s 2 ≡ done l m → bodyIs (getD s 0 0) (getD s 1 0) l ≡ t → m ≡ k → BodyRun s t k
+body-so s l h e q n = rw (← q, ← n) (record { inside = h; scene = refl; bits = refl; reads = rw (many-long language s (part 0 4 (getD s 1 0)) 2 l _ e) e })
 
 pub body-run : (s : List ℕ) {t : TextLabel TextLabelEntry} {k : ℕ} → run parse s 0 ≡ done t k → BodyRun s t k
 unfolding parse
@@ -193,4 +191,4 @@ body-run s {t} {k} e =
     let b = getD s 1 0 in
     let x = run-split (many (part 0 4 b) language) (λ l. ret (bodyIs (getD s 0 0) b l)) s 2 t k e₂ in
     let (q, n) = run-ret _ s (x .middle) (x .second) in
-    body-so s b (x .value) (omega (arith, h₁)) (x .first) q n
+    body-so s (x .value) (omega (arith, h₁)) (x .first) q n

@@ -1,43 +1,88 @@
--- What code knows of a sound body before tables 6 and 7 are filled, and that filling them gives the rows of the tree.
-use Prim.Native.Nat.{ℕ, _+_, _*_, _/_, _≤_, _<_}
+-- What code knows of a body whose languages were walked or that was measured, and that filling tables 6 and 7 gives the rows of the tree.
+use Prim.Native.Nat.{ℕ, _+_, _*_, _/_, _≤_}
 use mathlib.Core.Path.{_≡_, refl, sym, ap, subst, _∙_}
 use mathlib.Core.List.{List, [], _∷_, _++_, map, flatten, flatMap}
 use mathlib.Core.Bool.{Bool, true, false}
 use mathlib.Core.Option.{none, some}
 use native.Mathlib.Omega.{arith}
-use lib.ListN.{length, drop, length-map}
+use lib.ListN.{length, getD, drop, length-map}
 use lib.Dec.{leb}
 use lib.Seq.{sets}
 use borrow.Author.Tests.{leb-true}
 use Rattle.wire.specs.Lists.{firsts}
-use Rattle.wire.specs.Prog.{done, run, many, span}
+use Rattle.wire.specs.Bits.{part}
+use Rattle.wire.specs.Prog.{ret, done, run, many}
+use Rattle.wire.specs.Reads.{Summed}
 use Rattle.wire.specs.Nest.{Fillable, Nests}
-use Rattle.wire.proofs.Runs.{extent}
-use Rattle.wire.proofs.Loops.{many-weighs}
-use Rattle.wire.proofs.Nest.{flat-length}
+use Rattle.wire.specs.declared.reads.Short.{Short}
+use Rattle.wire.specs.declared.reads.Sum.{Sum}
+use Rattle.wire.specs.declared.reads.Sum.the-variants as S
+use Rattle.wire.proofs.Walk.{finished}
+use Rattle.wire.proofs.Loops.{many-long, sum-onward, sum-cut-off}
 use Rattle.wire.proofs.Tables.{flat-of-map, rows-stored}
-use Rattle.frame.specs.Numbers.{accepted}
-use Rattle.frame.specs.Entry.{Sound, Need, needs, first, others, room, lacking, filled, judging, sizes, onto}
-use Rattle.frame.specs.Sight.{Sight, sight, Seen, Roomy, Fills}
-use Rattle.frame.proofs.Judged.{ran-well, onto-sound}
+use Rattle.frame.specs.declared.Refusal.{Refusal}
+use Rattle.frame.specs.Numbers.{accepted, refused, refusal}
+use Rattle.frame.specs.Entry.{too-short, Sound, Sizes, Need, needs, first, others, room, lacking, filled, tail, judging, sizes, measuring, Measures}
+use Rattle.frame.specs.Sight.{Tops, Roomy, Fills}
+use Rattle.frame.proofs.Judged.{ran-well, refused-onto}
+use Rattle.frame.proofs.Entries.{measures-short, measures-done, the-sound, tops-so}
 use Rattle.labels.specs.declared.rows.TextLabelEntry.{TextLabelEntry}
-use Rattle.text_label.specs.declared.rows.MpegH3dAudioTextLabel.{MpegH3dAudioTextLabel}
 use Rattle.labels.specs.Rows.{entryColumns, entryRow, entryOf}
-use Rattle.text_label.specs.Rows.{languageColumns, languageRow, languageOf, Language, TextLabel, top, entriesOf, entriesIn, languageAs, languageRows, tables}
-use Rattle.text_label.specs.Read.{language, parse}
+use Rattle.text_label.specs.declared.parsing.Head.{Head}
+use Rattle.text_label.specs.declared.parsing.Head.the-variants as H
+use Rattle.text_label.specs.Rows.{languageColumns, languageRow, languageOf, Language, TextLabel, entriesOf, entriesIn, languageAs, languageRows, tables}
+use Rattle.text_label.specs.Read.{language}
 use Rattle.text_label.specs.Write.{kind}
-use Rattle.text_label.specs.Contract.{needed, sized}
-use Rattle.text_label.proofs.Parsed.{language-weighs, body-run}
+use Rattle.text_label.specs.Contract.{needed, sized, Headed, Walked}
+use Rattle.text_label.proofs.Parsed.{bodyIs, count-four, head-there, BodyRun, body-run}
 use Rattle.labels.proofs.Filled.{rows-append}
 use Rattle.text_label.proofs.Filled.{sizeOf, rowOf, colsOf}
 use Rattle.labels.proofs.Found.{entry-found}
 use Rattle.text_label.proofs.Found.{rows-counted, language-found}
 
--- ---- what is seen
+-- ---- the two bytes before the languages
 
-pub sight-is : (t : TextLabel TextLabelEntry) (k : ℕ) → sight kind (record { tree = t; before = k }) ≡ record { top = top t (span 0 0); sizes = sized (length (t .languages)) (length (entriesIn (t .languages))) k }
-unfolding sight sizes kind tables needs
-sight-is t k = λ i. record { top = top t (span 0 0); sizes = sized (rows-counted (t .languages) i) (length-map (entriesIn (t .languages)) entryRow i) k }
+pub head-refused : {body : List ℕ} {x : Refusal} → refused (refusal x) ≡ judging kind body → Headed body (H.Refused x)
+head-refused {x = x} j = record {
+  there = λ e. absurd (let z : _≡_ {A = ℕ} 0 1 = cc e in omega arith);
+  not = λ y e. let z : x ≡ y = cc e in ap (λ (x : Refusal). refused (refusal x)) (sym z) ∙ j;
+}
+
+pub headed : {body : List ℕ} → 2 ≤ length body → length body ≤ 65535 → Headed body H.There
+headed h a = record { there = λ e. (h, a); not = λ x e. absurd (let z : _≡_ {A = ℕ} 0 1 = cc e in omega arith) }
+
+pub measures-unheaded : {body : List ℕ} {r : Head} → Headed body r → {x : Refusal} → r ≡ H.Refused x → Measures kind body (refused (refusal x))
+unfolding measuring
+measures-unheaded {body} w {x} e = record { promised = sym (refused-onto kind (sizes kind) body _ (sym (w .not x e))) }
+
+-- ---- the languages were walked
+
+sizes-are : (t : TextLabel TextLabelEntry) (k : ℕ) → sizes kind (record { tree = t; before = k }) ≡ sized (length (t .languages)) (length (entriesIn (t .languages))) k
+unfolding sizes kind tables needs
+sizes-are t k = λ i. sized (rows-counted (t .languages) i) (length-map (entriesIn (t .languages)) entryRow i) k
+
+-- the bound of fifteen languages
+pub walked : {body : List ℕ} {count : ℕ} {r : Sum} → (2 ≤ length body) × (length body ≤ 65535) → count ≡ part 0 4 (getD body 1 0) → Summed (many count language) (λ l. length (entriesIn l)) (381 * count) body 2 r → Walked body r
+walked {body} {count} {r} h e w = record {
+  head = h .0;
+  all = h .1;
+  rows = subst (λ (n : ℕ). Summed (many n language) (λ l. length (entriesIn l)) 5715 body 2 r) e (record { is = w .is; small = omega (arith, w .small, count-four (getD body 1 0) e) });
+}
+
+module _ {body : List ℕ} {r : Sum} (w : Walked body r) where
+  pub walked-short : {x : Short} → r ≡ S.Short x → Measures kind body (too-short x)
+  unfolding kind
+  walked-short e = measures-short kind body (w .all) (sym (sum-cut-off (many _ language) (λ l. ret (bodyIs _ _ l)) (head-there body (w .head)) (w .rows) e))
+
+  pub walked-done : {n k : ℕ} → r ≡ S.Got n k → Measures kind body (accepted (sized (part 0 4 (getD body 1 0)) n k))
+  unfolding kind
+  walked-done {n} {k} e =
+      let g = sum-onward (many _ language) (λ l. ret (bodyIs _ _ l)) (head-there body (w .head)) (w .rows) e in
+      let q = many-long language body _ 2 (g .value) k (g .reads) in
+      let z = sizes-are (bodyIs (getD body 0 0) (getD body 1 0) (g .value)) k ∙ (λ i. sized (q i) (g .is i) k) in
+      subst (λ (z : Sizes). Measures kind body (accepted z)) z (measures-done kind body (w .all) (sym (finished (g .place) refl)))
+
+-- ---- the rows of both tables
 
 -- tables 6 and 7 have the rows that they need, or the first that has not
 module _ (t u : List ℕ) (l n : ℕ) where
@@ -70,67 +115,74 @@ unfolding flatMap
 flat-in [] = refl
 flat-in (l ∷ ls) = ap (λ (x : List ℕ). colsOf l ++ x) (flat-in ls) ∙ sym (rows-append (entriesOf l) (entriesIn ls))
 
--- ---- a body that was judged: its languages stand behind the second byte
+-- ---- a body that was measured: its languages stand behind the second byte
 
--- the rows of table 7 are no more than the bytes
-rows-few : (body : List ℕ) (t : TextLabel TextLabelEntry) (k : ℕ) → run parse body 0 ≡ done t k → length (entriesIn (t .languages)) ≤ length body
-rows-few body t k e =
-    let r = body-run body e in
-    omega (arith, extent parse body 0 e (omega arith), flat-length entriesOf (t .languages), many-weighs language body sizeOf (language-weighs body) _ 2 (t .languages) k (r .reads))
+abbrev firstRows : List Need → ℕ
+firstRows [] = 0
+firstRows (n ∷ ns) = n .rows
 
-abbrev second : List Need → ℕ
-second [] = 0
-second (n ∷ []) = 0
-second (n ∷ k ∷ ns) = k .rows
+record Known (body : List ℕ) (s : Sound (TextLabel TextLabelEntry)) (l k : ℕ) : Type 0 where
+  all : length body ≤ 65535
+  runs : BodyRun body (s .tree) (s .before)
+  count : length (s .tree .languages) ≡ l
+  end : s .before ≡ k
 
-pub rows-seen : (body : List ℕ) {m : MpegH3dAudioTextLabel} {l n k : ℕ} → accepted (record { top = m; sizes = sized l n k }) ≡ onto (sight kind) (judging kind body) → n < 65536
+known : (body : List ℕ) (s : Sound (TextLabel TextLabelEntry)) {l n k : ℕ} → judging kind body ≡ accepted s → sizes kind s ≡ sized l n k → Known body s l k
 unfolding kind
-rows-seen body {m} {l} {n} {k} e =
-    let (s, j, q) = onto-sound kind (sight kind) body (record { top = m; sizes = sized l n k }) (sym e) in
+known body s j q =
     let w = ran-well kind body s j in
-    let z : length (entriesIn (s .tree .languages)) ≡ n = ap (λ (v : Sight MpegH3dAudioTextLabel). second (v .sizes .tables)) (sym (sight-is (s .tree) (s .before)) ∙ q) in
-    omega (arith, rows-few body (s .tree) (s .before) (w .reads), w .within, z)
+    let z = sym (sizes-are (s .tree) (s .before)) ∙ q in
+    record { all = w .within; runs = body-run body (w .reads); count = ap (λ (z : Sizes). firstRows (z .tables)) z; end = ap (λ (z : Sizes). z .before) z }
 
-module _ (body : List ℕ) (m : MpegH3dAudioTextLabel) (w : Seen kind body m) where
-  ran : run parse body 0 ≡ done (w .sound .tree) (w .sound .before)
+module _ (body : List ℕ) {l n k : ℕ} (m : Measures kind body (accepted (sized l n k))) where
+  sound : Sound (TextLabel TextLabelEntry)
+  sound = the-sound kind body m .0
+
+  judges : judging kind body ≡ accepted sound
+  unfolding sound
+  judges = the-sound kind body m .1
+
+  knows : Known body sound l k
+  unfolding sound
+  knows = known body sound judges (the-sound kind body m .2)
+
+  pub head-measured : 2 ≤ length body
+  head-measured = knows .runs .inside
+
+  pub top-measured : Tops kind body (record { «scene_info_id» = getD body 0 0; reserved = part 4 4 (getD body 1 0); languages = l; trailing = tail k body })
   unfolding kind
-  ran = ran-well kind body (w .sound) (w .judges) .reads
+  top-measured = tops-so kind body m (λ s j q. let w = known body s j q in λ i. record { «scene_info_id» = w .runs .scene i; reserved = w .runs .bits i; languages = sym (w .count) i; trailing = tail (sym (w .end) i) body })
 
-  count-is : length (w .sound .tree .languages) ≡ m .languages
-  unfolding kind
-  count-is = ap (λ (m : MpegH3dAudioTextLabel). m .languages) (w .is)
-
-  languages-read : run (many (m .languages) language) body 2 ≡ done (w .sound .tree .languages) (w .sound .before)
-  languages-read = ap (λ (n : ℕ). run (many n language) body 2) (sym count-is) ∙ body-run body ran .reads
+  languages-read : run (many l language) body 2 ≡ done (sound .tree .languages) (sound .before)
+  languages-read = ap (λ (n : ℕ). run (many n language) body 2) (sym (knows .count)) ∙ knows .runs .reads
 
   module _ (t u : List ℕ) (r : Roomy kind body (t ∷ u ∷ [])) where
-    roomy-so : (length (w .sound .tree .languages) * languageColumns ≤ length t) × (length (entriesIn (w .sound .tree .languages)) * entryColumns ≤ length u)
+    roomy-so : (length (sound .tree .languages) * languageColumns ≤ length t) × (length (entriesIn (sound .tree .languages)) * entryColumns ≤ length u)
     unfolding kind tables needs
     roomy-so =
-        let e = r .room (w .sound) (w .judges) in
-        room-so t u _ _ (subst (λ (n : ℕ). lacking (needed n (length (entriesIn (w .sound .tree .languages)))) (t ∷ u ∷ []) ≡ none) (rows-counted (w .sound .tree .languages))
-        (subst (λ (n : ℕ). lacking (needed (length (map languageRow (languageRows (w .sound .tree .languages)))) n) (t ∷ u ∷ []) ≡ none) (length-map (entriesIn (w .sound .tree .languages)) entryRow) e))
+        let e = r .room sound judges in
+        room-so t u _ _ (subst (λ (n : ℕ). lacking (needed n (length (entriesIn (sound .tree .languages)))) (t ∷ u ∷ []) ≡ none) (rows-counted (sound .tree .languages))
+        (subst (λ (n : ℕ). lacking (needed (length (map languageRow (languageRows (sound .tree .languages)))) n) (t ∷ u ∷ []) ≡ none) (length-map (entriesIn (sound .tree .languages)) entryRow) e))
 
-    pub languages-ask : Fillable (many (m .languages) language) entryColumns (λ l. length (entriesIn l)) body 2 0 u × (languageColumns * m .languages ≤ length t)
-    unfolding kind
+    pub languages-ask : Fillable (many l language) entryColumns (λ l. length (entriesIn l)) body 2 0 u × (languageColumns * l ≤ length t)
     languages-ask = (
       record {
-        value = w .sound .tree .languages;
-        end = w .sound .before;
+        value = sound .tree .languages;
+        end = sound .before;
         reads = languages-read;
-        begun = body-run body ran .inside;
-        all = let b = ran-well kind body (w .sound) (w .judges) .within in omega (arith, b);
+        begun = head-measured;
+        all = let b = knows .all in omega (arith, b);
         before = omega arith;
         room = omega (arith, roomy-so .1);
       },
-      omega (arith, roomy-so .0, count-is),
+      omega (arith, roomy-so .0, knows .count),
     )
 
-    pub languages-filled : {t′ u′ : List ℕ} → Nests language sizeOf rowOf colsOf body 2 (m .languages) t u t′ u′ → Fills kind body (t ∷ u ∷ []) (t′ ∷ u′ ∷ [])
+    pub languages-filled : {t′ u′ : List ℕ} → Nests language sizeOf rowOf colsOf body 2 l t u t′ u′ → Fills kind body (t ∷ u ∷ []) (t′ ∷ u′ ∷ [])
     unfolding kind tables filled first others
     languages-filled {t′} {u′} n =
-        let ls = w .sound .tree .languages in
-        let z : done (n .value) (n .end) ≡ done ls (w .sound .before) = sym (n .reads) ∙ languages-read in
+        let ls = sound .tree .languages in
+        let z : done (n .value) (n .end) ≡ done ls (sound .before) = sym (n .reads) ∙ languages-read in
         let e : n .value ≡ ls = cc z in
         let a : t′ ≡ flatten (map languageRow (languageRows ls)) ++ drop (length (flatten (map languageRow (languageRows ls)))) t =
         n .outer ∙ ap (λ (l : List (Language TextLabelEntry)). sets t 0 (flatMap (λ q. rowOf (q .0) (q .1)) (firsts sizeOf 0 l))) e ∙ ap (sets t 0) (sym (flat-of-map languageRow (λ q. languageAs (q .0) (q .1)) (firsts sizeOf 0 ls)))
@@ -138,5 +190,5 @@ module _ (body : List ℕ) (m : MpegH3dAudioTextLabel) (w : Seen kind body m) wh
         let b : u′ ≡ flatten (map entryRow (entriesIn ls)) ++ drop (length (flatten (map entryRow (entriesIn ls)))) u =
         n .inner ∙ ap (λ (l : List (Language TextLabelEntry)). sets u 0 (flatMap colsOf l)) e ∙ ap (sets u 0) (flat-in ls) ∙ rows-stored entryColumns entryOf entryRow (λ l. refl) entry-found (entriesIn ls) u (roomy-so .1) in
         record {
-          fills = λ s j. let y : accepted (w .sound) ≡ accepted s = sym (w .judges) ∙ j in let q : w .sound ≡ s = cc y in (λ i. a i ∷ b i ∷ []) ∙ ap (λ (s : Sound (TextLabel TextLabelEntry)). filled (tables (s .tree)) (t ∷ u ∷ [])) q;
+          fills = λ s j. let y : accepted sound ≡ accepted s = sym judges ∙ j in let q : sound ≡ s = cc y in (λ i. a i ∷ b i ∷ []) ∙ ap (λ (s : Sound (TextLabel TextLabelEntry)). filled (tables (s .tree)) (t ∷ u ∷ [])) q;
         }

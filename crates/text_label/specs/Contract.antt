@@ -1,38 +1,28 @@
--- The code's answers as the specification's: outcomes of the reading program, and document 01's numbers and values.
-use Prim.Native.Nat.{ℕ}
+-- The code's answers as the specification's: document 01's numbers and values; and what is known of a body whose languages are walked.
+use Prim.Native.Nat.{ℕ, _≤_}
 use mathlib.Core.List.{List, [], _∷_}
-use lib.ListN.{length}
+use mathlib.Core.Path.{_≡_}
+use lib.ListN.{length, getD}
 use Rattle.wire.specs.Bits.{part}
-use Rattle.wire.specs.Prog.{Out, done, short, span}
+use Rattle.wire.specs.Prog.{many}
+use Rattle.wire.specs.Reads.{Summed}
+use Rattle.wire.specs.declared.reads.Sum.{Sum}
+use Rattle.frame.specs.declared.Refusal.{Refusal}
 use Rattle.frame.specs.Numbers.{Answer, accepted, refused, refusal}
 use Rattle.frame.specs.Entry as E
-use Rattle.frame.specs.Entry.{Need}
-use Rattle.frame.specs.Sight.{Sight}
-use Rattle.labels.specs.declared.rows.TextLabelEntry.{TextLabelEntry}
+use Rattle.frame.specs.Entry.{Need, judging}
 use Rattle.labels.specs.Rows.{entryColumns}
 use Rattle.text_label.specs.declared.rows.MpegH3dAudioTextLabel.{MpegH3dAudioTextLabel}
-use Rattle.text_label.specs.Rows.{languageColumns, TextLabel, top, entriesIn}
-use Rattle.text_label.specs.declared.parsing.Parsed.{Parsed}
-use Rattle.text_label.specs.declared.parsing.Parsed.the-variants as P
-use Rattle.text_label.specs.declared.parsing.Judged.{Judged}
-use Rattle.text_label.specs.declared.parsing.Judged.the-variants as J
+use Rattle.text_label.specs.Rows.{languageColumns, entriesIn}
+use Rattle.text_label.specs.Read.{language}
+use Rattle.text_label.specs.Write.{kind}
+use Rattle.text_label.specs.declared.parsing.Head.{Head}
+use Rattle.text_label.specs.declared.parsing.Head.the-variants as H
 use Rattle.text_label.specs.declared.Sizes.{Sizes}
 use Rattle.text_label.specs.declared.Reading.{Reading}
 use Rattle.text_label.specs.declared.Reading.the-variants as R
 use Rattle.text_label.specs.declared.Measured.{Measured}
 use Rattle.text_label.specs.declared.Measured.the-variants as M
-
--- the fields of the two bytes before the languages, which are only counted
-abbrev pub headed : ℕ → ℕ → MpegH3dAudioTextLabel
-headed id b = record { «scene_info_id» = id; reserved = part 4 4 b; languages = part 0 4 b; trailing = span 0 0 }
-
--- what measuring knows of a tree: the record with no trailing run yet, and the rows of table 7
-abbrev pub seenOf : TextLabel TextLabelEntry → MpegH3dAudioTextLabel × ℕ
-seenOf t = (top t (span 0 0), length (entriesIn (t .languages)))
-
-abbrev pub parsedOut : Parsed → Out (MpegH3dAudioTextLabel × ℕ)
-parsedOut (P.Got m n k) = done (m, n) k
-parsedOut (P.Short x) = short x
 
 -- tables 6 and 7 need so many rows
 abbrev pub needed : ℕ → ℕ → List Need
@@ -41,10 +31,6 @@ needed l n = record { number = 6; columns = languageColumns; rows = l } ∷ reco
 abbrev pub sized : ℕ → ℕ → ℕ → E.Sizes
 sized l n k = record { tables = needed l n; before = k }
 
-abbrev pub judged : Judged → Answer (Sight MpegH3dAudioTextLabel)
-judged (J.Sound m n k) = accepted (record { top = m; sizes = sized (m .languages) n k })
-judged (J.Refused r) = refused (refusal r)
-
 abbrev pub read : Reading → Answer MpegH3dAudioTextLabel
 read (R.Done m) = accepted m
 read (R.Refused r) = refused (refusal r)
@@ -52,3 +38,14 @@ read (R.Refused r) = refused (refusal r)
 abbrev pub measured : Measured → Answer E.Sizes
 measured (M.Done s) = accepted (sized (s .languages) (s .entries) (s .k))
 measured (M.Refused r) = refused (refusal r)
+
+-- the two bytes before the languages are there, or the body is refused
+pub record Headed (body : List ℕ) (r : Head) : Type 0 where
+  pub there : r ≡ H.There → (2 ≤ length body) × (length body ≤ 65535)
+  pub not : (x : Refusal) → r ≡ H.Refused x → refused (refusal x) ≡ judging kind body
+
+-- and the languages behind them were walked
+pub record Walked (body : List ℕ) (r : Sum) : Type 0 where
+  pub head : 2 ≤ length body
+  pub all : length body ≤ 65535
+  pub rows : Summed (many (part 0 4 (getD body 1 0)) language) (λ l. length (entriesIn l)) 5715 body 2 r

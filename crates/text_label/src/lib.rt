@@ -8,11 +8,11 @@ ghost use mathlib.Core.List.{[], _∷_};
 ghost use Rattle.frame.specs.Numbers.{tallied, written};
 ghost use Rattle.frame.specs.Entry.{Reads, Measures, Tallies, Writes};
 ghost use Rattle.text_label.specs.Write.{kind};
-ghost use Rattle.text_label.specs.Contract.{read, measured};
+ghost use Rattle.text_label.specs.Contract.{read, measured, Walked};
 use frame::Refusal;
 use frame::Tallied;
 use frame::Written;
-use parsing::Judged;
+use parsing::Head;
 use rows::ENTRY_COLUMNS;
 use rows::LANGUAGE_COLUMNS;
 use rows::MpegH3dAudioTextLabel;
@@ -28,8 +28,8 @@ pub enum Reading {
 
 // What a body needs: the rows of tables 6 and 7, and k, the bytes before the trailing run.
 pub struct Sizes {
-    pub languages: usize,
-    pub entries: usize,
+    pub languages: u16,
+    pub entries: u16,
     pub k: usize,
 }
 
@@ -38,21 +38,64 @@ pub enum Measured {
     Refused(Refusal),
 }
 
+// What the body needs, or 2, or 1.
+pub fn measure(body: &[u8]) -> Measured
+    ensures { λ r. ⌜ Measures kind (now (body .entry)) (measured r) ⌝ }
+{
+    let h = parsing::judge_head(body);
+    match h {
+        Head::Refused(x) => Measured::Refused(x),
+        Head::There => {
+            let count = parsing::count_at(body) as usize;
+            measure_walked(body, parsing::languages_rows(body, 2, count))
+        }
+    }
+}
+
+// The same for reading, which short bodies make quick: one without languages is not walked. Since `measure` calls the walk too, the compiler keeps it
+// apart, and tests and answers for such bodies stay short.
+fn measure_quickly(body: &[u8]) -> Measured
+    ensures { λ r. ⌜ Measures kind (now (body .entry)) (measured r) ⌝ }
+{
+    let h = parsing::judge_head(body);
+    match h {
+        Head::Refused(x) => Measured::Refused(x),
+        Head::There => {
+            let count = parsing::count_at(body) as usize;
+            measure_walked(body, parsing::rows_behind(body, count))
+        }
+    }
+}
+
+// What the body needs, its languages walked.
+fn measure_walked(body: &[u8], rows: Sum) -> Measured
+    requires { ⌜ Walked (now body) rows ⌝ }
+    ensures { λ r. ⌜ Measures kind (now (body .entry)) (measured r) ⌝ }
+{
+    match rows {
+        Sum::Short(x) => Measured::Refused(Refusal::Short(x)),
+        Sum::Got(entries, k) => Measured::Done(Sizes {
+            languages: parsing::count_at(body),
+            entries: entries as u16,
+            k,
+        }),
+    }
+}
+
 // The record of a body, its languages in table 6 and their entries in table 7; or 2, or 1, or 3. The tables are touched when all of the body is known to be sound.
 pub fn read(body: &[u8], languages: &mut [u16], entries: &mut [u16]) -> Reading
     ensures { λ r. ⌜ Reads kind (now (body .entry)) (now (languages .entry) ∷ now (entries .entry) ∷ []) (read r) (now (languages .exit) ∷ now (entries .exit) ∷ []) ⌝ }
 {
-    let j = parsing::judge(body);
-    match j {
-        Judged::Refused(r) => Reading::Refused(r),
-        Judged::Sound(m, rows, k) => {
-            let count = m.languages as usize;
+    let m = measure_quickly(body);
+    match m {
+        Measured::Refused(r) => Reading::Refused(r),
+        Measured::Done(s) => {
+            let count = s.languages as usize;
+            let rows = s.entries as usize;
             if has_rows(languages, LANGUAGE_COLUMNS, count) {
                 if has_rows(entries, ENTRY_COLUMNS, rows) {
-                    parsing::fill(body, m, languages, entries);
-                    let mut done = m;
-                    done.trailing = wire::rows::trailing_run(k, body.len());
-                    Reading::Done(done)
+                    parsing::fill(body, s, languages, entries);
+                    Reading::Done(parsing::record_at(body, s))
                 } else {
                     Reading::Refused(Refusal::NoRoom(7, rows))
                 }
@@ -60,21 +103,6 @@ pub fn read(body: &[u8], languages: &mut [u16], entries: &mut [u16]) -> Reading
                 Reading::Refused(Refusal::NoRoom(6, count))
             }
         }
-    }
-}
-
-// What the body needs, or 2, or 1.
-pub fn measure(body: &[u8]) -> Measured
-    ensures { λ r. ⌜ Measures kind (now (body .entry)) (measured r) ⌝ }
-{
-    let j = parsing::judge(body);
-    match j {
-        Judged::Sound(m, rows, k) => Measured::Done(Sizes {
-            languages: m.languages as usize,
-            entries: rows,
-            k,
-        }),
-        Judged::Refused(r) => Measured::Refused(r),
     }
 }
 

@@ -1,18 +1,22 @@
-// Reading the text label body: the reads in the Rust's order. One pass measures and touches nothing, one fills tables 6 and 7.
+// Reading the text label body: the reads in the Rust's order. One pass measures and touches nothing, one takes the record and fills tables 6 and 7 and tests
+// nothing.
 ghost use mathlib.Core.Path.{_≡_};
 ghost use mathlib.Core.List.{[], _∷_, flatMap};
-ghost use Prim.Native.Nat.{_+_, _*_, _<_, _≤_};
-ghost use lib.ListN.{length};
-ghost use Rattle.wire.specs.Prog.{run, many};
-ghost use Rattle.wire.specs.Reads.{mapOut, Summed};
+ghost use Prim.Native.Nat.{_*_, _<_, _≤_};
+ghost use lib.ListN.{length, getD};
+ghost use Rattle.wire.specs.Bits.{part};
+ghost use Rattle.wire.specs.Prog.{many};
+ghost use Rattle.wire.specs.Reads.{Summed};
 ghost use Rattle.wire.specs.Nest.{Fillable, Nested, Nests};
-ghost use Rattle.frame.specs.Entry.{onto, judging};
-ghost use Rattle.frame.specs.Sight.{sight, Seen, Roomy, Fills};
+ghost use Rattle.frame.specs.Numbers.{accepted};
+ghost use Rattle.frame.specs.Entry.{Measures};
+ghost use Rattle.frame.specs.Sight.{Tops, Roomy, Fills};
 ghost use Rattle.labels.specs.Rows.{entryColumns, entryRow};
 ghost use Rattle.text_label.specs.Rows.{languageColumns, languageRow, entriesOf, entriesIn, languageAs};
-ghost use Rattle.text_label.specs.Read.{language, parse};
+ghost use Rattle.text_label.specs.Read.{language};
 ghost use Rattle.text_label.specs.Write.{kind};
-ghost use Rattle.text_label.specs.Contract.{seenOf, headed, parsedOut, judged};
+ghost use Rattle.text_label.specs.Contract.{sized, Headed};
+use super::Sizes;
 use super::rows::DescriptionLanguage;
 use super::rows::LANGUAGE_COLUMNS;
 use super::rows::MpegH3dAudioTextLabel;
@@ -25,12 +29,11 @@ use wire::bits::part;
 use wire::bits::wide;
 use wire::reads::Byte;
 use wire::reads::Run;
-use wire::reads::Short;
 use wire::reads::Sum;
 use wire::reads::byte_at;
 use wire::reads::run_at;
-use wire::rows::Payload;
 use wire::rows::put_row;
+use wire::rows::trailing_run;
 
 // A language that is known to be there, and the next position.
 struct PlacedLanguage {
@@ -38,15 +41,9 @@ struct PlacedLanguage {
     next: usize,
 }
 
-// The record of a body, how many rows table 7 needs, and k.
-pub enum Parsed {
-    Got(MpegH3dAudioTextLabel, usize, usize),
-    Short(Short),
-}
-
-// A body that is neither too long nor too short, or why not.
-pub enum Judged {
-    Sound(MpegH3dAudioTextLabel, usize, usize),
+// Whether the two bytes before the languages are there, in a body that is not too long, or why not.
+pub enum Head {
+    There,
     Refused(Refusal),
 }
 
@@ -77,7 +74,7 @@ fn language_rows(body: &[u8], at: usize) -> Sum
 }
 
 // The entries of `count` languages, and where they end.
-fn languages_rows(body: &[u8], at: usize, count: usize) -> Sum
+pub fn languages_rows(body: &[u8], at: usize, count: usize) -> Sum
     requires { ⌜ (at ≤ length (now body)) × (count < 16) ⌝ }
     ensures { λ r. ⌜ Summed (many count language) (λ l. length (entriesIn l)) (381 * count) (now (body .entry)) at r ⌝ }
 {
@@ -143,61 +140,64 @@ fn fill_languages(body: &[u8], at: usize, count: usize, languages: &mut [u16], e
 
 // ---- the body
 
-// The record of a body, but for its trailing run, how many rows table 7 needs, and k.
-fn parse(body: &[u8]) -> Parsed
-    ensures { λ r. ⌜ parsedOut r ≡ mapOut seenOf (run parse (now (body .entry)) 0) ⌝ }
-{
-    let a = byte_at(body, 0);
-    let Byte::Got(id, n1) = a else {
-        return Parsed::Short(a.short());
-    };
-    let b = byte_at(body, n1);
-    let Byte::Got(count, n2) = b else {
-        return Parsed::Short(b.short());
-    };
-    let languages = part(count, 0, 4);
-    let c = languages_rows(body, n2, languages as usize);
-    let Sum::Got(rows, k) = c else {
-        return Parsed::Short(c.short());
-    };
-    Parsed::Got(record_of(id, count), rows, k)
-}
-
-// The fields of the two bytes before the languages.
-fn record_of(id: u16, count: u16) -> MpegH3dAudioTextLabel
-    requires { ⌜ id < 256 ⌝ }
-    ensures { λ r. ⌜ r ≡ headed id count ⌝ }
-{
-    MpegH3dAudioTextLabel {
-        scene_info_id: id as u8,
-        reserved: part(count, 4, 4) as u8,
-        languages: part(count, 0, 4),
-        trailing: Payload {
-            offset: 0,
-            length: 0,
-        },
-    }
-}
-
-// Number 2, then 1.
-pub fn judge(body: &[u8]) -> Judged
-    ensures { λ r. ⌜ judged r ≡ onto (sight kind) (judging kind (now (body .entry))) ⌝ }
+// Whether a body has the two bytes before the languages; or 2, or 1.
+pub fn judge_head(body: &[u8]) -> Head
+    ensures { λ r. ⌜ Headed (now (body .entry)) r ⌝ }
 {
     if 65535 < body.len() {
-        return Judged::Refused(Refusal::TooLong(body.len()));
+        return Head::Refused(Refusal::TooLong(body.len()));
     }
-    let a = parse(body);
-    match a {
-        Parsed::Got(m, rows, k) => Judged::Sound(m, rows, k),
-        Parsed::Short(s) => Judged::Refused(Refusal::Short(s)),
+    let a = byte_at(body, 0);
+    let Byte::Got(_, n1) = a else {
+        return Head::Refused(Refusal::Short(a.short()));
+    };
+    let b = byte_at(body, n1);
+    let Byte::Got(_, _) = b else {
+        return Head::Refused(Refusal::Short(b.short()));
+    };
+    Head::There
+}
+
+// How many languages there are.
+pub fn count_at(body: &[u8]) -> u16
+    requires { ⌜ 2 ≤ length (now body) ⌝ }
+    ensures { λ r. ⌜ r ≡ part 0 4 (getD (now (body .entry)) 1 0) ⌝ }
+{
+    part(wide(body[1]), 0, 4)
+}
+
+// The entries of all languages, and k; without languages nothing is walked.
+pub fn rows_behind(body: &[u8], count: usize) -> Sum
+    requires { ⌜ (2 ≤ length (now body)) × (count < 16) ⌝ }
+    ensures { λ r. ⌜ Summed (many count language) (λ l. length (entriesIn l)) (381 * count) (now (body .entry)) 2 r ⌝ }
+{
+    if count == 0 {
+        return Sum::Got(0, 2);
+    }
+    languages_rows(body, 2, count)
+}
+
+// ---- the body, once it was measured
+
+// The record.
+pub fn record_at(body: &[u8], s: Sizes) -> MpegH3dAudioTextLabel
+    requires { ⌜ Measures kind (now body) (accepted (sized (s .languages) (s .entries) (s .k))) ⌝ }
+    ensures { λ r. ⌜ Tops kind (now (body .entry)) r ⌝ }
+{
+    let b = wide(body[1]);
+    MpegH3dAudioTextLabel {
+        scene_info_id: body[0],
+        reserved: part(b, 4, 4) as u8,
+        languages: s.languages,
+        trailing: trailing_run(s.k, body.len()),
     }
 }
 
-// Fills tables 6 and 7 from a body that was judged: the languages begin behind the second byte.
-pub fn fill(body: &[u8], m: MpegH3dAudioTextLabel, languages: &mut [u16], entries: &mut [u16])
-    requires { ⌜ Seen kind (now body) m × Roomy kind (now body) (now languages ∷ now entries ∷ []) ⌝ }
+// Fills tables 6 and 7: the languages begin behind the second byte.
+pub fn fill(body: &[u8], s: Sizes, languages: &mut [u16], entries: &mut [u16])
+    requires { ⌜ Measures kind (now body) (accepted (sized (s .languages) (s .entries) (s .k))) × Roomy kind (now body) (now languages ∷ now entries ∷ []) ⌝ }
     ensures { λ r. ⌜ Fills kind (now (body .entry)) (now (languages .entry) ∷ now (entries .entry) ∷ []) (now (languages .exit) ∷ now (entries .exit) ∷ []) ⌝ }
 {
-    let count = m.languages;
+    let count = s.languages;
     fill_languages(body, 2, count as usize, languages, entries);
 }

@@ -33,8 +33,8 @@ fn measured(m: Measured) {
         Measured::Refused(x) => show::refusal(x),
         Measured::Done(s) => {
             show::number(0);
-            show::then(s.languages);
-            show::then(s.entries);
+            show::then(s.languages as usize);
+            show::then(s.entries as usize);
             show::then(s.k);
             show::end();
         }

@@ -1,29 +1,34 @@
--- `base::measure` meets its contract: what the judgement says.
-use mathlib.Core.Path.{ap, sym, _∙_}
-use Rattle.frame.specs.Entry.{onto, sizes, needs as needed}
-use Rattle.frame.proofs.Entries.{measures}
+-- `base::measure` meets its contract: where the walk along the body ends.
+use mathlib.Core.Path.{sym, ap, _∙_}
+use Rattle.wire.specs.Reads.{endsOut}
+use Rattle.frame.proofs.Entries.{measures-long}
 use Rattle.base.specs.Write.{kind}
-use Rattle.base.specs.Contract.{judged}
+use Rattle.base.proofs.Parsed.{measures-walked, measures-cut}
 use borrow.Author.Needs.{needs}
 use Rattle.base.proofs.measure.Statement.{statement}
 use Rattle.base.proofs.measure.Tie as tie
 
-judge-requires : tie.Need-judge-requires
-judge-requires c κs = search needs
-
-enum-known-j : tie.Need-enum-known-j
-enum-known-j c = search needs
-
-enum-known-j-2 : tie.Need-enum-known-j-2
-enum-known-j-2 c = search needs
-
 returns : tie.Need-returns
-unfolding onto sizes needed kind
-returns c = measures kind _ (sym (ap judged (c .before .j .given .1)) ∙ c .before .before .before .judge .ensures)
+returns c =
+    measures-long kind _ (c .if1 .taken)
+
+end-requires : tie.Need-end-requires
+end-requires c κs = search needs
+
+enum-known-e : tie.Need-enum-known-e
+enum-known-e c = search needs
+
+enum-known-e-2 : tie.Need-enum-known-e-2
+enum-known-e-2 c = search needs
 
 returns-2 : tie.Need-returns-2
-unfolding onto
-returns-2 c = measures kind _ (sym (ap judged (c .before .j2 .given .1)) ∙ c .before .before .before .judge .ensures)
+returns-2 c =
+    measures-walked _ (c .before .before .before .before .if1 .left) (sym (ap endsOut (c .before .e .given .1)) ∙ c .before .before .before .end .ensures)
+
+returns-3 : tie.Need-returns-3
+returns-3 c =
+    measures-cut _ (c .before .before .before .before .if1 .left) (sym (ap endsOut (c .before .e2 .given .1)) ∙ c .before .before .before .end .ensures)
 
 pub measure-spec : {M : Type 1} → statement M
-measure-spec = tie.close (tie.spec judge-requires enum-known-j enum-known-j-2 returns returns-2)
+measure-spec =
+    tie.close (tie.spec returns end-requires enum-known-e enum-known-e-2 returns-2 returns-3)

@@ -1,35 +1,39 @@
--- `multi_stream::measure` meets its contract: what is seen of the body.
-use mathlib.Core.Path.{ap, sym, _∙_}
-use Rattle.frame.specs.Entry.{onto}
-use Rattle.frame.proofs.Entries.{measures-seen}
+-- `multi_stream::measure` meets its contract: what the walk along the body sums up.
+use native.Mathlib.Omega.{arith}
+use Rattle.wire.proofs.Loops.{sum-small}
+use Rattle.frame.proofs.Entries.{measures-long}
 use Rattle.multi_stream.specs.Write.{kind}
-use Rattle.multi_stream.specs.Contract.{judged}
+use Rattle.multi_stream.proofs.Sighted.{measures-walked, measures-cut}
 use borrow.Author.Needs.{needs}
 use Rattle.multi_stream.proofs.measure.Statement.{statement}
 use Rattle.multi_stream.proofs.measure.Tie as tie
 
-judge-requires : tie.Need-judge-requires
-judge-requires c κs = search needs
-
-enum-known-j : tie.Need-enum-known-j
-enum-known-j c = search needs
-
-cast-t7 : tie.Need-cast-t7
-cast-t7 c = search needs
-
-enum-known-j-2 : tie.Need-enum-known-j-2
-enum-known-j-2 c = search needs
-
 returns : tie.Need-returns
-unfolding onto
 returns c =
-    measures-seen kind _ (sym (ap judged (c .before .before .j .given .1)) ∙ c .before .before .before .before .judge .ensures)
+    measures-long kind _ (c .if1 .taken)
+
+rows-requires : tie.Need-rows-requires
+rows-requires c κs = search needs
+
+enum-known-r : tie.Need-enum-known-r
+enum-known-r c = search needs
+
+cast-t11 : tie.Need-cast-t11
+cast-t11 c =
+    record { fits = omega (arith, sum-small (c .before .before .before .rows .ensures) (c .before .r .given .1)) }
+
+enum-known-r-2 : tie.Need-enum-known-r-2
+enum-known-r-2 c = search needs
 
 returns-2 : tie.Need-returns-2
-unfolding onto
 returns-2 c =
-    measures-seen kind _ (sym (ap judged (c .before .j2 .given .1)) ∙ c .before .before .before .judge .ensures)
+    measures-walked _ (c .before .before .before .before .if1 .left) (rw (c .before .r .given .1) at (c .before .before .before .rows .ensures))
+
+returns-3 : tie.Need-returns-3
+returns-3 c =
+    measures-cut _ (c .before .before .before .before .if1 .left) (rw (c .before .r2 .given .1) at (c .before .before .before .rows .ensures))
 
 pub measure-spec : {M : Type 1} → statement M
 measure-spec =
-    tie.close (tie.spec judge-requires enum-known-j cast-t7 enum-known-j-2 returns returns-2)
+    tie.close
+    (tie.spec returns rows-requires enum-known-r cast-t11 enum-known-r-2 returns-2 returns-3)

@@ -1,35 +1,51 @@
--- `text_label::measure` meets its contract: what is seen of the body.
-use mathlib.Core.Path.{sym, ap, _∙_}
-use Rattle.frame.specs.Entry.{onto}
-use Rattle.frame.proofs.Entries.{measures-seen}
-use Rattle.text_label.specs.Write.{kind}
-use Rattle.text_label.specs.Contract.{judged}
+-- `text_label::measure` meets its contract: the two bytes, and the languages walked.
+use Rattle.text_label.proofs.Parsed.{count-four}
+use Rattle.text_label.proofs.Sighted.{measures-unheaded, walked}
 use borrow.Author.Needs.{needs}
 use Rattle.text_label.proofs.measure.Statement.{statement}
 use Rattle.text_label.proofs.measure.Tie as tie
 
-judge-requires : tie.Need-judge-requires
-judge-requires c κs = search needs
+judge-head-requires : tie.Need-judge-head-requires
+judge-head-requires c κs = search needs
 
-enum-known-j : tie.Need-enum-known-j
-enum-known-j c = search needs
+enum-known-h : tie.Need-enum-known-h
+enum-known-h c = search needs
 
-cast-t8 : tie.Need-cast-t8
-cast-t8 c = search needs
+enum-told : tie.Need-enum-told
+enum-told c = search needs
 
-enum-known-j-2 : tie.Need-enum-known-j-2
-enum-known-j-2 c = search needs
+count-at-requires : tie.Need-count-at-requires
+count-at-requires c κs =
+    c .before .before .judge-head .ensures .there (c .enum-told .given .1) .0
+
+cast-count : tie.Need-cast-count
+cast-count c = search needs
+
+languages-rows-requires : tie.Need-languages-rows-requires
+languages-rows-requires c κs =
+    (c .before .before .before .judge-head .ensures .there (c .before .enum-told .given .1) .0, count-four _ (c .count-at .ensures))
+
+measure-walked-requires : tie.Need-measure-walked-requires
+measure-walked-requires c κs =
+    walked (c .before .before .before .before .judge-head .ensures .there (c .before .before .enum-told .given .1)) (c .before .count-at .ensures) (c .languages-rows .ensures)
 
 returns : tie.Need-returns
-unfolding onto
 returns c =
-    measures-seen kind _ (sym (ap judged (c .before .before .j .given .1)) ∙ c .before .before .before .before .judge .ensures)
+    measures-unheaded (c .before .before .before .judge-head .ensures) (c .before .h .given .1)
 
 returns-2 : tie.Need-returns-2
-unfolding onto
-returns-2 c =
-    measures-seen kind _ (sym (ap judged (c .before .j2 .given .1)) ∙ c .before .before .before .judge .ensures)
+returns-2 c = search needs
 
 pub measure-spec : {M : Type 1} → statement M
 measure-spec =
-    tie.close (tie.spec judge-requires enum-known-j cast-t8 enum-known-j-2 returns returns-2)
+    tie.close
+    (tie.spec
+    judge-head-requires
+    enum-known-h
+    enum-told
+    count-at-requires
+    cast-count
+    languages-rows-requires
+    measure-walked-requires
+    returns
+    returns-2)

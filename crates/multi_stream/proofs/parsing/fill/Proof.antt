@@ -1,6 +1,6 @@
--- `multi_stream::parsing::fill` meets its contract: the groups of the body that was judged.
+-- `multi_stream::parsing::fill` meets its contract: the groups of the body that was measured.
 use native.Mathlib.Omega.{arith}
-use Rattle.multi_stream.proofs.Sighted.{fillable, filled-there, filled-aside}
+use Rattle.multi_stream.proofs.Sighted.{fillable, filled-there, filled-none}
 use borrow.Author.Needs.{needs}
 use Rattle.multi_stream.proofs.parsing.fill.Statement.{statement}
 use Rattle.multi_stream.proofs.parsing.fill.Tie as tie
@@ -10,19 +10,19 @@ cast-fill-groups c = search needs
 
 fill-groups-requires : tie.Need-fill-groups-requires
 fill-groups-requires c κs =
-    let f = fillable _ _ (c .before .before .before .before .before .pre .0) (c .before .if1 .taken) in
-    (f .inside, f .sound, omega (arith, c .before .before .before .before .before .pre .1))
+    let f = fillable _ (c .before .before .before .before .pre .0) (c .before .if1 .taken) in
+    (f .inside, f .sound, omega (arith, c .before .before .before .before .pre .1))
 
 same-length : tie.Need-same-length
 same-length c = search needs
 
 returns : tie.Need-returns
 returns c =
-    filled-there _ _ (c .before .before .before .before .before .before .before .before .pre .0) (c .before .before .before .before .if1 .taken) _ _ (c .before .before .before .before .before .before .before .before .pre .1) (c .before .before .fill-groups .ensures)
+    filled-there _ (c .before .before .before .before .before .before .before .pre .0) (c .before .before .before .before .if1 .taken) _ _ (c .before .before .before .before .before .before .before .pre .1) (c .before .before .fill-groups .ensures)
 
 returns-2 : tie.Need-returns-2
 returns-2 c =
-    filled-aside _ _ (c .before .before .before .before .pre .0) (c .if1 .left) _
+    filled-none _ (c .before .before .before .pre .0) (c .if1 .left) _
 
 pub fill-spec : {M : Type 1} → statement M
 fill-spec =

@@ -1,93 +1,44 @@
--- `multi_stream::parsing::main_at` meets its contract: a place after each read; of the groups only their end and their count are known.
-use Prim.Native.Nat.{ℕ}
-use mathlib.Core.Path.{sym, ap, _∙_}
-use mathlib.Core.Bool.{true}
-use mathlib.Core.Option.{Option}
-use Rattle.wire.specs.Prog.{Prog, u8, many, _>>=_}
-use Rattle.wire.specs.Reads.{byteOut, mapOut, endsOut}
-use Rattle.wire.proofs.Walk.{From, begun, onward, cut-off, cut-off-as, as-done, run-ret}
-use Rattle.multi_stream.specs.Rows.{Main, counted}
-use Rattle.multi_stream.specs.Read.{group, main}
-use Rattle.multi_stream.proofs.Parsed.{afterTwo, main-done}
+-- `multi_stream::parsing::main_at` meets its contract: the two bytes are there.
+use native.Mathlib.Omega.{arith}
+use Rattle.multi_stream.proofs.Parsed.{two-there, main-placed, aside-placed}
 use borrow.Author.Needs.{needs}
 use Rattle.multi_stream.proofs.parsing.main_at.Statement.{statement}
 use Rattle.multi_stream.proofs.parsing.main_at.Tie as tie
 
-abbrev start-1 : tie.After-known-told → tie.Start
-start-1 c = c .before .before .before .before .before .before
+shared-slice-read-wide : tie.Need-shared-slice-read-wide
+shared-slice-read-wide c =
+    let h = two-there _ (rw (c .before .if1 .taken) at (c .before .before .before .pre)) in omega (arith, h)
 
-abbrev back-2 : tie.After-known-told2 → tie.After-known-told
-back-2 c = c .before .before .before .before
+wide-requires : tie.Need-wide-requires
+wide-requires c κs = search needs
 
-abbrev left-1 : ℕ → Prog (Option Main)
-left-1 a = u8 >>= afterTwo a
+shared-slice-read-wide-2 : tie.Need-shared-slice-read-wide-2
+shared-slice-read-wide-2 c =
+    let h = two-there _ (rw (c .before .before .before .if1 .taken) at (c .before .before .before .before .before .pre)) in omega (arith, h)
 
-after-1 : (c : tie.After-known-told) → From (main true) (start-1 c .args .body .now) (start-1 c .args .at) (left-1 (c .before .a .given .0 .0)) (c .before .a .given .0 .1 .0)
-unfolding main
-after-1 c = onward u8 left-1 (begun (main true) _ _ (start-1 c .pre)) (c .before .before .before .byte-at .ensures .is) (ap byteOut (c .before .a .given .1))
-
-after-2 : (c : tie.After-known-told2) → From (main true) (start-1 (back-2 c) .args .body .now) (start-1 (back-2 c) .args .at) (afterTwo (back-2 c .before .a .given .0 .0) (c .before .b .given .0 .0)) (c .before .b .given .0 .1 .0)
-after-2 c = onward u8 _ (after-1 (back-2 c)) (c .before .before .before .byte-at2 .ensures .is) (ap byteOut (c .before .b .given .1))
-
-byte-at-requires : tie.Need-byte-at-requires
-byte-at-requires c κs = search needs
-
-enum-known-a : tie.Need-enum-known-a
-enum-known-a c = search needs
-
-enum-told : tie.Need-enum-told
-enum-told c = search needs
-
-short-requires : tie.Need-short-requires
-short-requires c κs = search needs
-
-returns : tie.Need-returns
-unfolding main
-returns c =
-    rw (c .before .before .before .before .if1 .taken) (ap (mapOut counted) (cut-off u8 left-1 (begun (main true) _ _ (c .before .before .before .before .before .before .pre)) (c .before .before .before .byte-at .ensures .is) (ap byteOut (c .before .enum-told .given .1)) (c .short .ensures)))
-
-byte-at-requires-2 : tie.Need-byte-at-requires-2
-byte-at-requires-2 c κs =
-    after-1 c .inside
-
-enum-known-b : tie.Need-enum-known-b
-enum-known-b c = search needs
-
-enum-told-2 : tie.Need-enum-told-2
-enum-told-2 c = search needs
-
-short-requires-2 : tie.Need-short-requires-2
-short-requires-2 c κs = search needs
-
-returns-2 : tie.Need-returns-2
-returns-2 c =
-    rw (c .before .before .before .before .before .before .before .before .if1 .taken) (ap (mapOut counted) (cut-off u8 _ (after-1 (c .before .before .before .before)) (c .before .before .before .byte-at2 .ensures .is) (ap byteOut (c .before .enum-told2 .given .1)) (c .short2 .ensures)))
+wide-requires-2 : tie.Need-wide-requires-2
+wide-requires-2 c κs = search needs
 
 part-requires : tie.Need-part-requires
 part-requires c κs = search needs
 
-cast-measure-groups : tie.Need-cast-measure-groups
-cast-measure-groups c = search needs
+cast-t8 : tie.Need-cast-t8
+cast-t8 c = search needs
 
-measure-groups-requires : tie.Need-measure-groups-requires
-measure-groups-requires c κs =
-    after-2 (c .before) .inside
+part-requires-2 : tie.Need-part-requires-2
+part-requires-2 c κs = search needs
 
-enum-known-c : tie.Need-enum-known-c
-enum-known-c c = search needs
+cast-t12 : tie.Need-cast-t12
+cast-t12 c = search needs
 
-enum-told-3 : tie.Need-enum-told-3
-enum-told-3 c = search needs
+part-requires-3 : tie.Need-part-requires-3
+part-requires-3 c κs = search needs
 
-short-requires-3 : tie.Need-short-requires-3
-short-requires-3 c κs = search needs
+cast-t14 : tie.Need-cast-t14
+cast-t14 c = search needs
 
-returns-3 : tie.Need-returns-3
-returns-3 c =
-    rw (c .before .before .before .before .before .before .before .before .before .before .before .before .before .if1 .taken) (ap (mapOut counted) (cut-off-as (many _ group) (λ l. tt) _ (after-2 (c .before .before .before .before .before)) (rw (c .before .before .before .before .part .ensures) at (c .before .before .before .measure-groups .ensures)) (ap endsOut (c .before .enum-told3 .given .1)) (c .short3 .ensures)))
-
-main-of-requires : tie.Need-main-of-requires
-main-of-requires c κs = search needs
+part-requires-4 : tie.Need-part-requires-4
+part-requires-4 c κs = search needs
 
 of-requires : tie.Need-of-requires
 of-requires c κs = search needs
@@ -95,39 +46,30 @@ of-requires c κs = search needs
 absent-requires : tie.Need-absent-requires
 absent-requires c κs = search needs
 
-returns-4 : tie.Need-returns-4
-returns-4 c =
-    let (l, e, q) = as-done (λ l. tt) _ (sym (rw (c .before .before .before .before .before .before .part .ensures) at (c .before .before .before .before .before .measure-groups .ensures)) ∙ ap endsOut (c .before .before .before .c .given .1)) in
-    rw (c .before .before .before .before .before .before .before .before .before .before .before .before .before .before .before .if1 .taken, c .of .ensures, c .before .main-of .ensures) (main-done _ _ _ _ (after-2 (c .before .before .before .before .before .before .before)) e)
+returns : tie.Need-returns
+returns c =
+    rw (c .before .before .before .before .before .before .before .before .before .if1 .taken, c .of .ensures, c .before .before .before .before .part .ensures, c .before .before .before .part2 .ensures, c .before .before .part3 .ensures, c .before .part4 .ensures) (main-placed _ (rw (c .before .before .before .before .before .before .before .before .before .if1 .taken) at (c .before .before .before .before .before .before .before .before .before .before .before .pre)) (c .before .before .before .before .before .before .before .wide .ensures) (c .before .before .before .before .before .wide2 .ensures))
 
-returns-5 : tie.Need-returns-5
-unfolding main
-returns-5 c =
-    rw (c .before .if1 .left, c .absent .ensures) (ap (mapOut counted) (sym (run-ret _ _ _)))
+returns-2 : tie.Need-returns-2
+returns-2 c =
+    rw (c .before .if1 .left, c .absent .ensures) (aside-placed _)
 
 pub main-at-spec : {M : Type 1} → statement M
 main-at-spec =
     tie.close
     (tie.spec
-    byte-at-requires
-    enum-known-a
-    enum-told
-    short-requires
-    returns
-    byte-at-requires-2
-    enum-known-b
-    enum-told-2
-    short-requires-2
-    returns-2
+    shared-slice-read-wide
+    wide-requires
+    shared-slice-read-wide-2
+    wide-requires-2
     part-requires
-    cast-measure-groups
-    measure-groups-requires
-    enum-known-c
-    enum-told-3
-    short-requires-3
-    returns-3
-    main-of-requires
+    cast-t8
+    part-requires-2
+    cast-t12
+    part-requires-3
+    cast-t14
+    part-requires-4
     of-requires
     absent-requires
-    returns-4
-    returns-5)
+    returns
+    returns-2)

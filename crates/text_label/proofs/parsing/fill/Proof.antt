@@ -1,4 +1,4 @@
--- `text_label::parsing::fill` meets its contract: the languages of the body that was judged.
+-- `text_label::parsing::fill` meets its contract: the languages of the body that was measured.
 use Rattle.text_label.proofs.Sighted.{languages-ask, languages-filled}
 use borrow.Author.Needs.{needs}
 use Rattle.text_label.proofs.parsing.fill.Statement.{statement}
@@ -9,7 +9,7 @@ cast-fill-languages c = search needs
 
 fill-languages-requires : tie.Need-fill-languages-requires
 fill-languages-requires c κs =
-    languages-ask _ _ (c .before .before .before .before .before .pre .0) _ _ (c .before .before .before .before .before .pre .1)
+    languages-ask _ (c .before .before .before .before .before .pre .0) _ _ (c .before .before .before .before .before .pre .1)
 
 same-length : tie.Need-same-length
 same-length c = search needs
@@ -19,7 +19,7 @@ same-length-2 c = search needs
 
 returns : tie.Need-returns
 returns c =
-    languages-filled _ _ (c .before .before .before .before .before .before .before .before .before .before .pre .0) _ _ (c .before .before .before .before .before .before .before .before .before .before .pre .1) (c .before .before .before .before .fill-languages .ensures)
+    languages-filled _ (c .before .before .before .before .before .before .before .before .before .before .pre .0) _ _ (c .before .before .before .before .before .before .before .before .before .before .pre .1) (c .before .before .before .before .fill-languages .ensures)
 
 pub fill-spec : {M : Type 1} → statement M
 fill-spec =
