@@ -1,0 +1,273 @@
+/*
+ * A host of the library: takes one body apart, prints what it found, and writes it back. Usage: host KIND HEX.., as in host 1 '05 C0 3F'.
+ * KIND is a name or a number. The exit code is 0 if the body was read and the same bytes came back, 1 if not, 2 for wrong arguments.
+ *
+ * The pattern is that of every host: measure, lend tables of that many rows, read, use, write.
+ */
+#include "mpegh.h"
+
+#include <stdio.h>
+#include <stdlib.h>
+#include <string.h>
+
+enum { MOST_TABLES = 2, MOST_COLUMNS = 12 };
+
+/* A body, its top record and its rows. */
+struct value {
+    const uint8_t *body;
+    size_t length;
+    uint16_t top[MOST_COLUMNS];
+    uint16_t *table[MOST_TABLES];
+    size_t columns[MOST_TABLES]; /* of the whole table */
+};
+
+/* A table of a kind: its number, its name, and the names of a row's columns. */
+struct table {
+    int number;
+    const char *name;
+    size_t columns;
+    const char *column[MOST_COLUMNS];
+};
+
+/* A kind of body. A column whose name ends in _offset is a payload's, and its length is the next. */
+struct kind {
+    int number;
+    const char *name;
+    struct table top;
+    size_t tables;
+    struct table table[MOST_TABLES];
+    uint64_t (*measure)(const uint8_t *body, size_t length, uint16_t *rows, size_t rows_length);
+    uint64_t (*tally)(const uint8_t *body, size_t length);
+    uint64_t (*read)(struct value *v);
+    uint64_t (*write)(const struct value *v, uint8_t *out, size_t out_length);
+};
+
+static uint64_t base_read(struct value *v)
+{
+    return mpegh_base_read(v->body, v->length, v->top, MOST_COLUMNS);
+}
+
+static uint64_t base_write(const struct value *v, uint8_t *out, size_t out_length)
+{
+    struct mpegh_base m = mpegh_base_of(v->top);
+    return mpegh_base_write_from(&m, v->body, v->length, out, out_length);
+}
+
+static uint64_t text_label_read(struct value *v)
+{
+    return mpegh_text_label_read(
+        v->body, v->length, v->top, MOST_COLUMNS, v->table[0], v->columns[0], v->table[1], v->columns[1]);
+}
+
+static uint64_t text_label_write(const struct value *v, uint8_t *out, size_t out_length)
+{
+    struct mpegh_text_label m = mpegh_text_label_of(v->top);
+    return mpegh_text_label_write_from(
+        &m, v->table[0], v->columns[0], v->table[1], v->columns[1], v->body, v->length, out, out_length);
+}
+
+static uint64_t multi_stream_read(struct value *v)
+{
+    return mpegh_multi_stream_read(v->body, v->length, v->top, MOST_COLUMNS, v->table[0], v->columns[0]);
+}
+
+static uint64_t multi_stream_write(const struct value *v, uint8_t *out, size_t out_length)
+{
+    struct mpegh_multi_stream m = mpegh_multi_stream_of(v->top);
+    return mpegh_multi_stream_write_from(&m, v->table[0], v->columns[0], v->body, v->length, out, out_length);
+}
+
+static const struct kind kinds[] = {
+    {1, "base",
+     {0, "top record", MPEGH_BASE_COLUMNS,
+      {"profile_level_indication", "interactivity_enabled", "compatible_sets_present", "compatible_sets_offset",
+       "compatible_sets_length", "reserved_flags", "reserved_layout", "reference_channel_layout", "trailing_offset",
+       "trailing_length"}},
+     MPEGH_BASE_TABLES,
+     {{0, NULL, 0, {NULL}}},
+     mpegh_base_measure, mpegh_base_tally, base_read, base_write},
+    {3, "text_label",
+     {0, "top record", MPEGH_TEXT_LABEL_COLUMNS,
+      {"scene_info_id", "reserved", "languages", "trailing_offset", "trailing_length"}},
+     MPEGH_TEXT_LABEL_TABLES,
+     {{6, "languages", MPEGH_LANGUAGE_COLUMNS,
+       {"language[0]", "language[1]", "language[2]", "reserved_groups", "groups.first", "groups.count",
+        "reserved_switch_groups", "switch_groups.first", "switch_groups.count", "reserved_presets", "presets.first",
+        "presets.count"}},
+      {7, "entries", MPEGH_ENTRY_COLUMNS, {"reserved", "id", "data_offset", "data_length"}}},
+     mpegh_text_label_measure, mpegh_text_label_tally, text_label_read, text_label_write},
+    {4, "multi_stream",
+     {0, "top record", MPEGH_MULTI_STREAM_COLUMNS,
+      {"this_stream_id", "main_present", "reserved_aux", "num_auxiliary_streams", "reserved_groups", "groups",
+       "trailing_offset", "trailing_length"}},
+     MPEGH_MULTI_STREAM_TABLES,
+     {{8, "groups", MPEGH_GROUP_COLUMNS,
+       {"group_id", "is_in_main_stream", "auxiliary_present", "is_in_ts", "auxiliary_stream_id"}}},
+     mpegh_multi_stream_measure, mpegh_multi_stream_tally, multi_stream_read, multi_stream_write},
+};
+
+static const size_t kind_count = sizeof kinds / sizeof kinds[0];
+
+static void print_bytes(const uint8_t *bytes, size_t count)
+{
+    for (size_t i = 0; i < count; i++)
+        printf(" %02X", bytes[i]);
+}
+
+/* One line for each column, or for each payload with its bytes. */
+static void print_row(const char *indent, const struct table *t, const uint16_t *row, const uint8_t *body)
+{
+    for (size_t i = 0; i < t->columns; i++) {
+        size_t part = strlen(t->column[i]);
+        if (part > 7 && strcmp(t->column[i] + part - 7, "_offset") == 0) {
+            printf("%s%.*s: at %u, length %u:", indent, (int)(part - 7), t->column[i], row[i], row[i + 1]);
+            print_bytes(body + row[i], row[i + 1]);
+            printf("\n");
+            i++;
+        } else {
+            printf("%s%s: %u\n", indent, t->column[i], row[i]);
+        }
+    }
+}
+
+/* What an answer says, in words. */
+static void print_answer(const char *what, uint64_t answer)
+{
+    unsigned long long value = mpegh_value(answer);
+    printf("%s: %u, ", what, mpegh_number(answer));
+    switch (mpegh_number(answer)) {
+    case MPEGH_DONE: printf("done\n"); break;
+    case MPEGH_SHORT: printf("the body is too short: a read ends at %llu\n", value); break;
+    case MPEGH_BODY_TOO_LONG: printf("the body is too long: %llu bytes\n", value); break;
+    case MPEGH_NO_ROWS:
+        printf("table %u has too few rows: it needs %lu\n", mpegh_table(answer), (unsigned long)mpegh_rows(answer));
+        break;
+    case MPEGH_NO_ROOM: printf("the output is too short: it needs %llu bytes\n", value); break;
+    case MPEGH_FIELD: printf("a field, flag or count over its width, at %llu\n", value); break;
+    case MPEGH_RANGE: printf("rows or a payload past their table or the store, at %llu\n", value); break;
+    case MPEGH_EMPTY: printf("an empty list where one entry is wanted, at %llu\n", value); break;
+    case MPEGH_SCOPE: printf("a scope that does not fit its type, at %llu\n", value); break;
+    case MPEGH_AUXILIARY: printf("an auxiliary part in the main stream, or none outside it, at %llu\n", value); break;
+    case MPEGH_RESULT_TOO_LONG: printf("the result is too long: %llu bytes\n", value); break;
+    default: printf("a number that this host does not know, value %llu\n", value); break;
+    }
+}
+
+/* Memory to lend. It is never null, since no pointer that is lent may be. */
+static void *lend(size_t bytes)
+{
+    void *p = malloc(bytes + 1);
+    if (p == NULL) {
+        fprintf(stderr, "host: no memory\n");
+        exit(1);
+    }
+    return p;
+}
+
+/* Returns the exit code. */
+static int show(const struct kind *k, const uint8_t *body, size_t length)
+{
+    struct value v;
+    uint16_t rows[MOST_TABLES];
+    uint8_t *out;
+    bool same;
+    uint64_t answer = k->measure(body, length, rows, MOST_TABLES);
+
+    printf("%s, kind %d, %lu bytes\n", k->name, k->number, (unsigned long)length);
+    print_answer("measure", answer);
+    if (mpegh_number(answer) != MPEGH_DONE)
+        return 1;
+    printf("  k: %lu\n", (unsigned long)mpegh_value(answer));
+    for (size_t t = 0; t < k->tables; t++)
+        printf("  rows of table %d, %s: %u\n", k->table[t].number, k->table[t].name, rows[t]);
+
+    v.body = body;
+    v.length = length;
+    for (size_t t = 0; t < k->tables; t++) {
+        v.columns[t] = rows[t] * k->table[t].columns;
+        v.table[t] = (uint16_t *)lend(v.columns[t] * sizeof(uint16_t));
+    }
+
+    answer = k->read(&v);
+    print_answer("read", answer);
+    if (mpegh_number(answer) != MPEGH_DONE)
+        return 1;
+    print_row("  ", &k->top, v.top, body);
+    for (size_t t = 0; t < k->tables; t++)
+        for (size_t r = 0; r < rows[t]; r++) {
+            printf("  table %d, %s, row %lu\n", k->table[t].number, k->table[t].name, (unsigned long)r);
+            print_row("    ", &k->table[t], v.table[t] + r * k->table[t].columns, body);
+        }
+
+    answer = k->tally(body, length);
+    print_answer("tally", answer);
+    printf("  reserved bits at 0: %lu\n", (unsigned long)mpegh_value(answer));
+
+    out = (uint8_t *)lend(length);
+    answer = k->write(&v, out, length);
+    print_answer("write", answer);
+    if (mpegh_number(answer) != MPEGH_DONE)
+        return 1;
+    same = mpegh_value(answer) == length && memcmp(out, body, length) == 0;
+    printf("  %lu bytes, %s\n", (unsigned long)mpegh_value(answer), same ? "the same as the body" : "NOT the same as the body");
+    free(out);
+    for (size_t t = 0; t < k->tables; t++)
+        free(v.table[t]);
+    return same ? 0 : 1;
+}
+
+static int digit(char c)
+{
+    const char *digits = "0123456789abcdef0123456789ABCDEF";
+    const char *at = c == '\0' ? NULL : strchr(digits, c);
+    return at == NULL ? -1 : (int)((at - digits) % 16);
+}
+
+/* The bytes of hexadecimal words, blanks allowed; false if they are none. */
+static bool parse_hex(char **words, int count, uint8_t *bytes, size_t *length)
+{
+    size_t digits = 0;
+    for (int w = 0; w < count; w++)
+        for (const char *c = words[w]; *c != '\0'; c++) {
+            if (*c == ' ' || *c == '\t' || *c == '\n')
+                continue;
+            if (digit(*c) < 0)
+                return false;
+            bytes[digits / 2] = (uint8_t)(bytes[digits / 2] << 4 | digit(*c));
+            digits++;
+        }
+    *length = digits / 2;
+    return digits % 2 == 0;
+}
+
+int main(int argc, char **argv)
+{
+    const struct kind *kind = NULL;
+    size_t room = 1, length;
+    uint8_t *body;
+    int code;
+
+    for (size_t i = 0; argc >= 2 && i < kind_count; i++) {
+        char number[8];
+        snprintf(number, sizeof number, "%d", kinds[i].number);
+        if (strcmp(argv[1], kinds[i].name) == 0 || strcmp(argv[1], number) == 0)
+            kind = &kinds[i];
+    }
+    if (kind == NULL) {
+        fprintf(stderr, "usage: host KIND HEX..    as in host 1 '05 C0 3F'\nkinds:");
+        for (size_t i = 0; i < kind_count; i++)
+            fprintf(stderr, " %d %s%s", kinds[i].number, kinds[i].name, i + 1 < kind_count ? "," : "\n");
+        return 2;
+    }
+    for (int i = 2; i < argc; i++)
+        room += strlen(argv[i]);
+    body = (uint8_t *)calloc(room, 1);
+    if (body == NULL || !parse_hex(argv + 2, argc - 2, body, &length)) {
+        fprintf(stderr, "host: the body is written in pairs of hexadecimal digits\n");
+        free(body);
+        return 2;
+    }
+    code = show(kind, body, length);
+    free(body);
+    return code;
+}

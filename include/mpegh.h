@@ -1,0 +1,487 @@
+/*
+ * The MPEG-H 3D audio descriptor bodies of Rec. ITU-T H.222.0 for C and C++: base (kind 1), text label (3), multi-stream (4).
+ * Link with target/staticlib/libmpegh_c.a (`rt staticlib mpegh_c`, x86-64). Of the C library the archive needs memmove and nothing else.
+ *
+ * Every kind has four functions:
+ *
+ *   read     takes a body apart into a top record and the rows of lent tables
+ *   measure  says how many rows of each table a body needs, and k, the bytes before its trailing run
+ *   tally    says how many reserved bits of a body are 0
+ *   write    makes the body of a top record and its rows
+ *
+ * Each ends on every input, keeps nothing between calls, and uses no memory but its stack and what it was lent. Its answer is one
+ * uint64_t (see mpegh_number). A refusal leaves all lent memory as it was. After a success a table has its rows at the front, and the
+ * output the body; what stands behind them is as it was.
+ *
+ * What is lent is a pointer and a length, in bytes for uint8_t and in columns for uint16_t. The caller sees to two things that no
+ * function can check:
+ *
+ *   - No pointer is null, also where the length is 0, and its whole length can be read, or written where it is not const.
+ *   - What a function writes (top, rows, tables, out) overlaps nothing else that the call was lent. What it only reads may overlap.
+ *
+ * A table is its rows end to end, a row is its columns, a column is a uint16_t. A payload (sets, a label, the trailing run) is an offset
+ * and a length: after reading it counts from the start of the body; writing takes it from the store. So the body itself serves as
+ * the store of what was read from it.
+ */
+#ifndef MPEGH_H
+#define MPEGH_H
+
+#include <stddef.h>
+#include <stdint.h>
+#ifndef __cplusplus
+#include <stdbool.h>
+#endif
+
+#ifdef __cplusplus
+extern "C" {
+#endif
+
+/* ---------------------------------------------------------------- answers */
+
+/* The number of an answer. What each returns is its value, of MPEGH_NO_ROWS its table and rows. */
+enum mpegh_numbers {
+    MPEGH_DONE = 0,            /* read: 0; measure: k; tally: the tally; write: the length written */
+    MPEGH_SHORT = 1,           /* a read ends past the body; the position where it would end */
+    MPEGH_BODY_TOO_LONG = 2,   /* a body over 65,535 bytes; its length */
+    MPEGH_NO_ROWS = 3,         /* a table has too few rows; the lowest such table, and the rows it needs */
+    MPEGH_NO_ROOM = 4,         /* the output is too short; the bytes it needs */
+    MPEGH_FIELD = 5,           /* a field, flag or count over its width; the place */
+    MPEGH_RANGE = 6,           /* rows that pass their table, or a payload that passes the store; the place */
+    MPEGH_EMPTY = 7,           /* a switch group without members, or a preset without conditions; the place */
+    MPEGH_SCOPE = 8,           /* a scope case above 2, or a type and a case that disagree; the place */
+    MPEGH_AUXILIARY = 9,       /* an auxiliary part in the main stream, or none outside it; the place */
+    MPEGH_RESULT_TOO_LONG = 10 /* a result over 65,535 bytes; its length */
+};
+/* A place is the number of bytes of the result that precede the fault. A length past 56 bits is given as the largest 56-bit number. */
+
+static inline unsigned mpegh_number(uint64_t answer)
+{
+    return (unsigned)(answer & 0xFF);
+}
+
+static inline uint64_t mpegh_value(uint64_t answer)
+{
+    return answer >> 8;
+}
+
+/* Of MPEGH_NO_ROWS: the table, by its number; 0 stands for `top` of read and `rows` of measure. */
+static inline unsigned mpegh_table(uint64_t answer)
+{
+    return (unsigned)(answer >> 8 & 0xFFFFFF);
+}
+
+/* Of MPEGH_NO_ROWS: the rows that the table needs. */
+static inline uint32_t mpegh_rows(uint64_t answer)
+{
+    return (uint32_t)(answer >> 32);
+}
+
+/* ------------------------------------------------- what all kinds have */
+
+enum { MPEGH_LONGEST_BODY = 65535 };
+
+/* Bytes that stand in the body or in the store. */
+struct mpegh_payload {
+    uint16_t offset;
+    uint16_t length;
+};
+
+/* Rows of a table. */
+struct mpegh_range {
+    uint16_t first;
+    uint16_t count;
+};
+
+static inline struct mpegh_payload mpegh_payload_of(const uint16_t *columns)
+{
+    struct mpegh_payload p;
+    p.offset = columns[0];
+    p.length = columns[1];
+    return p;
+}
+
+static inline struct mpegh_range mpegh_range_of(const uint16_t *columns)
+{
+    struct mpegh_range r;
+    r.first = columns[0];
+    r.count = columns[1];
+    return r;
+}
+
+/* ------------------------------------------------------ kind 1: base */
+
+enum {
+    MPEGH_BASE_COLUMNS = 10, /* of the top record */
+    MPEGH_BASE_TABLES = 0    /* the base lends no tables */
+};
+
+/* The top record, in the order of its columns (the Rust's MpegH3dAudio). */
+struct mpegh_base {
+    uint8_t profile_level_indication;
+    bool interactivity_enabled;
+    bool compatible_sets_present;         /* a list may be present and empty */
+    struct mpegh_payload compatible_sets; /* 0, 0 where not present; writing does not look at it then */
+    uint8_t reserved_flags;               /* 6 bits */
+    uint8_t reserved_layout;              /* 2 bits */
+    uint8_t reference_channel_layout;     /* 6 bits */
+    struct mpegh_payload trailing;
+};
+
+/*
+ * Answers 0 and puts the top record into the first MPEGH_BASE_COLUMNS columns of `top`, or refuses with 2, 1, or 3 (table 0, 1 row) where
+ * `top` is shorter, judged in this order.
+ */
+uint64_t mpegh_base_read(const uint8_t *body, size_t body_length, uint16_t *top, size_t top_length);
+
+/* Answers k, or refuses with 2 or 1. The base has no tables: `rows` may have length 0 and is left as it was. */
+uint64_t mpegh_base_measure(const uint8_t *body, size_t body_length, uint16_t *rows, size_t rows_length);
+
+/* Answers the number of reserved bits that are 0, or refuses with 2 or 1. */
+uint64_t mpegh_base_tally(const uint8_t *body, size_t body_length);
+
+/*
+ * Answers the length and puts the body at the front of `out`, or refuses with the first of 5 and 6 in the order of the body, then 10,
+ * then 4. The parameters are the top record's fields.
+ */
+uint64_t mpegh_base_write(
+    uint8_t profile_level_indication,
+    bool interactivity_enabled,
+    bool compatible_sets_present,
+    uint16_t compatible_sets_offset,
+    uint16_t compatible_sets_length,
+    uint8_t reserved_flags,
+    uint8_t reserved_layout,
+    uint8_t reference_channel_layout,
+    uint16_t trailing_offset,
+    uint16_t trailing_length,
+    const uint8_t *store, size_t store_length,
+    uint8_t *out, size_t out_length);
+
+/* The top record of columns that mpegh_base_read filled. */
+static inline struct mpegh_base mpegh_base_of(const uint16_t *top)
+{
+    struct mpegh_base m;
+    m.profile_level_indication = (uint8_t)top[0];
+    m.interactivity_enabled = top[1] != 0;
+    m.compatible_sets_present = top[2] != 0;
+    m.compatible_sets = mpegh_payload_of(top + 3);
+    m.reserved_flags = (uint8_t)top[5];
+    m.reserved_layout = (uint8_t)top[6];
+    m.reference_channel_layout = (uint8_t)top[7];
+    m.trailing = mpegh_payload_of(top + 8);
+    return m;
+}
+
+/* mpegh_base_read into a struct. A refusal leaves it as it was. */
+static inline uint64_t mpegh_base_read_into(struct mpegh_base *m, const uint8_t *body, size_t body_length)
+{
+    uint16_t top[MPEGH_BASE_COLUMNS];
+    uint64_t answer = mpegh_base_read(body, body_length, top, MPEGH_BASE_COLUMNS);
+    if (mpegh_number(answer) == MPEGH_DONE)
+        *m = mpegh_base_of(top);
+    return answer;
+}
+
+/* mpegh_base_write from a struct. */
+static inline uint64_t mpegh_base_write_from(
+    const struct mpegh_base *m, const uint8_t *store, size_t store_length, uint8_t *out, size_t out_length)
+{
+    return mpegh_base_write(
+        m->profile_level_indication, m->interactivity_enabled, m->compatible_sets_present, m->compatible_sets.offset,
+        m->compatible_sets.length, m->reserved_flags, m->reserved_layout, m->reference_channel_layout, m->trailing.offset,
+        m->trailing.length, store, store_length, out, out_length);
+}
+
+/* ------------------------------------------------ kind 3: text label */
+
+enum {
+    MPEGH_TEXT_LABEL_COLUMNS = 5, /* of the top record */
+    MPEGH_TEXT_LABEL_TABLES = 2,  /* 6, the languages, and 7, the entries: the columns that measure puts into `rows` */
+    MPEGH_LANGUAGE_COLUMNS = 12,  /* of a row of table 6 */
+    MPEGH_ENTRY_COLUMNS = 4,      /* of a row of table 7 */
+    MPEGH_MOST_LANGUAGES = 15,    /* no body has more rows */
+    MPEGH_MOST_ENTRIES = 2835     /* 15 languages of 127 groups, 31 switch groups and 31 presets */
+};
+
+/* The top record (the Rust's MpegH3dAudioTextLabel). Its languages are the first rows of table 6. */
+struct mpegh_text_label {
+    uint8_t scene_info_id;
+    uint8_t reserved;   /* 4 bits */
+    uint16_t languages; /* their count */
+    struct mpegh_payload trailing;
+};
+
+/* A row of table 6. Its three lists are rows of table 7. */
+struct mpegh_text_label_language {
+    uint16_t language[3];     /* three characters of ISO 639-2 */
+    uint16_t reserved_groups; /* 1 bit */
+    struct mpegh_range groups;
+    uint16_t reserved_switch_groups; /* 3 bits */
+    struct mpegh_range switch_groups;
+    uint16_t reserved_presets; /* 3 bits */
+    struct mpegh_range presets;
+};
+
+/* A row of table 7: one label. */
+struct mpegh_text_label_entry {
+    uint16_t reserved; /* 1 bit for a group, 3 for a switch group or a preset */
+    uint16_t id;       /* 7 bits for a group, 5 for a switch group or a preset */
+    struct mpegh_payload data;
+};
+
+/*
+ * Answers 0 and puts the top record into the first MPEGH_TEXT_LABEL_COLUMNS columns of `top`, the languages into the first rows of
+ * `languages` (table 6) and the labels into the first rows of `entries` (table 7), or refuses with 2, 1, or 3 (of table 0, 6, 7), judged
+ * in this order.
+ */
+uint64_t mpegh_text_label_read(
+    const uint8_t *body, size_t body_length,
+    uint16_t *top, size_t top_length,
+    uint16_t *languages, size_t languages_length,
+    uint16_t *entries, size_t entries_length);
+
+/*
+ * Answers k and puts the rows needed of tables 6 and 7 into the first MPEGH_TEXT_LABEL_TABLES columns of `rows`, or refuses with 2, 1, or
+ * 3 (table 0, 1 row) where `rows` is shorter, judged in this order.
+ */
+uint64_t mpegh_text_label_measure(const uint8_t *body, size_t body_length, uint16_t *rows, size_t rows_length);
+
+/* Answers the number of reserved bits that are 0, or refuses with 2 or 1. */
+uint64_t mpegh_text_label_tally(const uint8_t *body, size_t body_length);
+
+/*
+ * Answers the length and puts the body at the front of `out`, or refuses with the first of 5 and 6 in the order of the body, then 10,
+ * then 4. `languages_count` rows of `languages` are written; they may share rows of `entries`, and those bytes of the store.
+ */
+uint64_t mpegh_text_label_write(
+    uint8_t scene_info_id,
+    uint8_t reserved,
+    uint16_t languages_count,
+    uint16_t trailing_offset,
+    uint16_t trailing_length,
+    const uint16_t *languages, size_t languages_length,
+    const uint16_t *entries, size_t entries_length,
+    const uint8_t *store, size_t store_length,
+    uint8_t *out, size_t out_length);
+
+/* The top record of columns that mpegh_text_label_read filled. */
+static inline struct mpegh_text_label mpegh_text_label_of(const uint16_t *top)
+{
+    struct mpegh_text_label m;
+    m.scene_info_id = (uint8_t)top[0];
+    m.reserved = (uint8_t)top[1];
+    m.languages = top[2];
+    m.trailing = mpegh_payload_of(top + 3);
+    return m;
+}
+
+/* mpegh_text_label_read into a struct. A refusal leaves it as it was. */
+static inline uint64_t mpegh_text_label_read_into(
+    struct mpegh_text_label *m, const uint8_t *body, size_t body_length,
+    uint16_t *languages, size_t languages_length,
+    uint16_t *entries, size_t entries_length)
+{
+    uint16_t top[MPEGH_TEXT_LABEL_COLUMNS];
+    uint64_t answer = mpegh_text_label_read(
+        body, body_length, top, MPEGH_TEXT_LABEL_COLUMNS, languages, languages_length, entries, entries_length);
+    if (mpegh_number(answer) == MPEGH_DONE)
+        *m = mpegh_text_label_of(top);
+    return answer;
+}
+
+/* mpegh_text_label_write from a struct. */
+static inline uint64_t mpegh_text_label_write_from(
+    const struct mpegh_text_label *m,
+    const uint16_t *languages, size_t languages_length,
+    const uint16_t *entries, size_t entries_length,
+    const uint8_t *store, size_t store_length,
+    uint8_t *out, size_t out_length)
+{
+    return mpegh_text_label_write(
+        m->scene_info_id, m->reserved, m->languages, m->trailing.offset, m->trailing.length, languages, languages_length, entries,
+        entries_length, store, store_length, out, out_length);
+}
+
+/* A row of table 6, counted from 0. */
+static inline struct mpegh_text_label_language mpegh_text_label_language_get(const uint16_t *languages, size_t row)
+{
+    const uint16_t *c = languages + row * MPEGH_LANGUAGE_COLUMNS;
+    struct mpegh_text_label_language l;
+    l.language[0] = c[0];
+    l.language[1] = c[1];
+    l.language[2] = c[2];
+    l.reserved_groups = c[3];
+    l.groups = mpegh_range_of(c + 4);
+    l.reserved_switch_groups = c[6];
+    l.switch_groups = mpegh_range_of(c + 7);
+    l.reserved_presets = c[9];
+    l.presets = mpegh_range_of(c + 10);
+    return l;
+}
+
+static inline void mpegh_text_label_language_put(uint16_t *languages, size_t row, const struct mpegh_text_label_language *l)
+{
+    uint16_t *c = languages + row * MPEGH_LANGUAGE_COLUMNS;
+    c[0] = l->language[0];
+    c[1] = l->language[1];
+    c[2] = l->language[2];
+    c[3] = l->reserved_groups;
+    c[4] = l->groups.first;
+    c[5] = l->groups.count;
+    c[6] = l->reserved_switch_groups;
+    c[7] = l->switch_groups.first;
+    c[8] = l->switch_groups.count;
+    c[9] = l->reserved_presets;
+    c[10] = l->presets.first;
+    c[11] = l->presets.count;
+}
+
+/* A row of table 7, counted from 0. */
+static inline struct mpegh_text_label_entry mpegh_text_label_entry_get(const uint16_t *entries, size_t row)
+{
+    const uint16_t *c = entries + row * MPEGH_ENTRY_COLUMNS;
+    struct mpegh_text_label_entry e;
+    e.reserved = c[0];
+    e.id = c[1];
+    e.data = mpegh_payload_of(c + 2);
+    return e;
+}
+
+static inline void mpegh_text_label_entry_put(uint16_t *entries, size_t row, const struct mpegh_text_label_entry *e)
+{
+    uint16_t *c = entries + row * MPEGH_ENTRY_COLUMNS;
+    c[0] = e->reserved;
+    c[1] = e->id;
+    c[2] = e->data.offset;
+    c[3] = e->data.length;
+}
+
+/* ---------------------------------------------- kind 4: multi-stream */
+
+enum {
+    MPEGH_MULTI_STREAM_COLUMNS = 8, /* of the top record */
+    MPEGH_MULTI_STREAM_TABLES = 1,  /* 8, the groups: the columns that measure puts into `rows` */
+    MPEGH_GROUP_COLUMNS = 5,        /* of a row of table 8 */
+    MPEGH_MOST_GROUPS = 127         /* no body has more rows */
+};
+
+/* The top record (the Rust's MpegH3dAudioMultiStream). Its groups are the first rows of table 8. */
+struct mpegh_multi_stream {
+    uint8_t this_stream_id;        /* 7 bits */
+    bool main_present;             /* thisIsMainStream; the next four are 0 where it is false, and writing does not look at them then */
+    uint8_t reserved_aux;          /* 1 bit */
+    uint8_t num_auxiliary_streams; /* 7 bits */
+    uint8_t reserved_groups;       /* 1 bit */
+    uint16_t groups;               /* their count */
+    struct mpegh_payload trailing;
+};
+
+/* A row of table 8. The auxiliary location is present exactly where is_in_main_stream is 0. */
+struct mpegh_multi_stream_group {
+    uint16_t group_id;            /* 7 bits */
+    uint16_t is_in_main_stream;   /* 0 or 1 */
+    uint16_t auxiliary_present;   /* 0 or 1; the next two are 0 where it is 0, and writing does not look at them then */
+    uint16_t is_in_ts;            /* 0 or 1 */
+    uint16_t auxiliary_stream_id; /* 7 bits */
+};
+
+/*
+ * Answers 0 and puts the top record into the first MPEGH_MULTI_STREAM_COLUMNS columns of `top` and the groups into the first rows of
+ * `groups` (table 8), or refuses with 2, 1, or 3 (of table 0, 8), judged in this order.
+ */
+uint64_t mpegh_multi_stream_read(
+    const uint8_t *body, size_t body_length,
+    uint16_t *top, size_t top_length,
+    uint16_t *groups, size_t groups_length);
+
+/*
+ * Answers k and puts the rows needed of table 8 into the first column of `rows`, or refuses with 2, 1, or 3 (table 0, 1 row) where `rows`
+ * has none, judged in this order.
+ */
+uint64_t mpegh_multi_stream_measure(const uint8_t *body, size_t body_length, uint16_t *rows, size_t rows_length);
+
+/* Answers the number of reserved bits that are 0, or refuses with 2 or 1. */
+uint64_t mpegh_multi_stream_tally(const uint8_t *body, size_t body_length);
+
+/*
+ * Answers the length and puts the body at the front of `out`, or refuses with the first of 5, 6 and 9 in the order of the body, then
+ * 10, then 4. `groups_count` rows of `groups` are written.
+ */
+uint64_t mpegh_multi_stream_write(
+    uint8_t this_stream_id,
+    bool main_present,
+    uint8_t reserved_aux,
+    uint8_t num_auxiliary_streams,
+    uint8_t reserved_groups,
+    uint16_t groups_count,
+    uint16_t trailing_offset,
+    uint16_t trailing_length,
+    const uint16_t *groups, size_t groups_length,
+    const uint8_t *store, size_t store_length,
+    uint8_t *out, size_t out_length);
+
+/* The top record of columns that mpegh_multi_stream_read filled. */
+static inline struct mpegh_multi_stream mpegh_multi_stream_of(const uint16_t *top)
+{
+    struct mpegh_multi_stream m;
+    m.this_stream_id = (uint8_t)top[0];
+    m.main_present = top[1] != 0;
+    m.reserved_aux = (uint8_t)top[2];
+    m.num_auxiliary_streams = (uint8_t)top[3];
+    m.reserved_groups = (uint8_t)top[4];
+    m.groups = top[5];
+    m.trailing = mpegh_payload_of(top + 6);
+    return m;
+}
+
+/* mpegh_multi_stream_read into a struct. A refusal leaves it as it was. */
+static inline uint64_t mpegh_multi_stream_read_into(
+    struct mpegh_multi_stream *m, const uint8_t *body, size_t body_length, uint16_t *groups, size_t groups_length)
+{
+    uint16_t top[MPEGH_MULTI_STREAM_COLUMNS];
+    uint64_t answer = mpegh_multi_stream_read(body, body_length, top, MPEGH_MULTI_STREAM_COLUMNS, groups, groups_length);
+    if (mpegh_number(answer) == MPEGH_DONE)
+        *m = mpegh_multi_stream_of(top);
+    return answer;
+}
+
+/* mpegh_multi_stream_write from a struct. */
+static inline uint64_t mpegh_multi_stream_write_from(
+    const struct mpegh_multi_stream *m,
+    const uint16_t *groups, size_t groups_length,
+    const uint8_t *store, size_t store_length,
+    uint8_t *out, size_t out_length)
+{
+    return mpegh_multi_stream_write(
+        m->this_stream_id, m->main_present, m->reserved_aux, m->num_auxiliary_streams, m->reserved_groups, m->groups,
+        m->trailing.offset, m->trailing.length, groups, groups_length, store, store_length, out, out_length);
+}
+
+/* A row of table 8, counted from 0. */
+static inline struct mpegh_multi_stream_group mpegh_multi_stream_group_get(const uint16_t *groups, size_t row)
+{
+    const uint16_t *c = groups + row * MPEGH_GROUP_COLUMNS;
+    struct mpegh_multi_stream_group g;
+    g.group_id = c[0];
+    g.is_in_main_stream = c[1];
+    g.auxiliary_present = c[2];
+    g.is_in_ts = c[3];
+    g.auxiliary_stream_id = c[4];
+    return g;
+}
+
+static inline void mpegh_multi_stream_group_put(uint16_t *groups, size_t row, const struct mpegh_multi_stream_group *g)
+{
+    uint16_t *c = groups + row * MPEGH_GROUP_COLUMNS;
+    c[0] = g->group_id;
+    c[1] = g->is_in_main_stream;
+    c[2] = g->auxiliary_present;
+    c[3] = g->is_in_ts;
+    c[4] = g->auxiliary_stream_id;
+}
+
+#ifdef __cplusplus
+}
+#endif
+
+#endif
