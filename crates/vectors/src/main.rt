@@ -1,24 +1,119 @@
-// Runs what is compared and not proved: the bench bodies without a star and the values of document 01, kind by kind. A line is the number
-// and what it returns; a record that was read is followed by what tells it from the others.
-mod base_bodies;
-mod multi_stream_bodies;
+// Answers the list of cases on standard input, a line of answers for each case, by calling the library for hosts. docs/ORACLE.md says what the
+// letters of the list mean, and where the answers come from that these are compared with.
+mod list;
+mod reads;
 mod show;
-mod text_label_bodies;
-mod text_label_values;
+mod tables;
+mod writes;
 
+use list::State;
+
+// The list comes in pieces, at most 64.
 fn main() {
-    let zeros = io::large_buffer();
-    base_bodies::read_all(&zeros);
-    base_bodies::write_all(&zeros);
-    multi_stream_bodies::read_all();
-    multi_stream_bodies::write_all(&zeros);
-    multi_stream_bodies::full(0xFF, 0xFF);
-    multi_stream_bodies::full(0x00, 0xFF);
-    multi_stream_bodies::full(0x80, 0x7F);
-    multi_stream_bodies::full(0x00, 0x7F);
-    text_label_bodies::read_all(&zeros);
-    text_label_bodies::write_all();
-    text_label_bodies::full();
-    text_label_values::write_all(&zeros);
-    text_label_values::largest(&zeros);
+    let mut piece = io::large_buffer();
+    let mut line = io::large_buffer();
+    let mut body = io::large_buffer();
+    let mut top = [0u16; 16];
+    let mut one = [0u16; 1024];
+    let mut two = [0u16; 12288];
+    let mut s = State {
+        line: 0,
+        kind: 0,
+        length: 0,
+        top: 0,
+        one: 0,
+        two: 0,
+        out: 0,
+    };
+    let mut left: usize = 64;
+    while 0 < left {
+        let n = io::read_full(0, &mut piece);
+        s = run(
+            s,
+            &piece[..n],
+            &mut line,
+            &mut body,
+            &mut top,
+            &mut one,
+            &mut two,
+        );
+        left -= 1;
+    }
+}
+
+fn run(
+    s: State,
+    piece: &[u8],
+    line: &mut [u8],
+    body: &mut [u8],
+    top: &mut [u16],
+    one: &mut [u16],
+    two: &mut [u16],
+) -> State {
+    let mut t = s;
+    let mut i: usize = 0;
+    while i < piece.len() {
+        t = byte(t, piece[i], line, body, top, one, two);
+        i += 1;
+    }
+    t
+}
+
+// A byte of a line, or its end.
+fn byte(
+    s: State,
+    b: u8,
+    line: &mut [u8],
+    body: &mut [u8],
+    top: &mut [u16],
+    one: &mut [u16],
+    two: &mut [u16],
+) -> State {
+    let n = s.line;
+    let mut t = s;
+    if line.len() <= n {
+        return s;
+    }
+    if b != b'\n' {
+        line[n] = b;
+        t.line = n + 1;
+        return t;
+    }
+    t.line = 0;
+    step(t, &line[0..n], body, top, one, two)
+}
+
+// A line is a letter and numbers: bytes in hexadecimal digits, all others in decimal ones.
+fn step(
+    s: State,
+    line: &[u8],
+    body: &mut [u8],
+    top: &mut [u16],
+    one: &mut [u16],
+    two: &mut [u16],
+) -> State {
+    if line.len() == 0 {
+        return s;
+    }
+    let letter = line[0];
+    let part = list::part(letter);
+    let mut v = [0usize; 4096];
+    let n = list::numbers(line, list::is_hex(letter), &mut v);
+    if part == 0 {
+        return list::with_bytes(s, letter, n, &v, body);
+    }
+    if part == 1 {
+        return list::with_columns(s, letter, n, &v, top, one, two);
+    }
+    if part == 2 {
+        return list::with_numbers(s, letter, &v);
+    }
+    if part == 3 {
+        writes::command(s, letter, &v, body, top, one, two);
+        return s;
+    }
+    if part == 4 {
+        reads::command(s, letter, &v, body, top, one, two);
+    }
+    s
 }
