@@ -1,0 +1,427 @@
+//! Calls the Rust module and the library on one line of speed/bodies, so that a counter can compare their instructions.
+//! For every measurement it prints a line (bytes, operation, side, calls) and calls `mark` three times: before a loop of `FEW` calls, between it
+//! and a loop of `MANY`, and after that. The cost of a call is the difference of the two loops divided by `MANY - FEW`.
+#![allow(dead_code, unexpected_cfgs)]
+
+extern crate alloc;
+mod rust;
+
+use rust::error;
+use rust::mpegh_3d_audio::{MpegH3dAudio, MpegH3dAudioMultiStream, MpegH3dAudioTextLabel, Reader};
+use std::hint::black_box;
+
+const FEW: usize = 10;
+const MANY: usize = 60;
+
+extern "C" {
+    fn mpegh_base_read(body: *const u8, body_len: usize, top: *mut u16, top_len: usize) -> u64;
+    fn mpegh_base_write(
+        profile_level_indication: u8,
+        interactivity_enabled: bool,
+        compatible_sets_present: bool,
+        compatible_sets_offset: u16,
+        compatible_sets_length: u16,
+        reserved_flags: u8,
+        reserved_layout: u8,
+        reference_channel_layout: u8,
+        trailing_offset: u16,
+        trailing_length: u16,
+        store: *const u8,
+        store_len: usize,
+        out: *mut u8,
+        out_len: usize,
+    ) -> u64;
+    fn mpegh_text_label_read(
+        body: *const u8,
+        body_len: usize,
+        top: *mut u16,
+        top_len: usize,
+        languages: *mut u16,
+        languages_len: usize,
+        entries: *mut u16,
+        entries_len: usize,
+    ) -> u64;
+    fn mpegh_text_label_write(
+        scene_info_id: u8,
+        reserved: u8,
+        languages_count: u16,
+        trailing_offset: u16,
+        trailing_length: u16,
+        languages: *const u16,
+        languages_len: usize,
+        entries: *const u16,
+        entries_len: usize,
+        store: *const u8,
+        store_len: usize,
+        out: *mut u8,
+        out_len: usize,
+    ) -> u64;
+    fn mpegh_multi_stream_read(
+        body: *const u8,
+        body_len: usize,
+        top: *mut u16,
+        top_len: usize,
+        groups: *mut u16,
+        groups_len: usize,
+    ) -> u64;
+    fn mpegh_multi_stream_write(
+        this_stream_id: u8,
+        main_present: bool,
+        reserved_aux: u8,
+        num_auxiliary_streams: u8,
+        reserved_groups: u8,
+        groups_count: u16,
+        trailing_offset: u16,
+        trailing_length: u16,
+        groups: *const u16,
+        groups_len: usize,
+        store: *const u8,
+        store_len: usize,
+        out: *mut u8,
+        out_len: usize,
+    ) -> u64;
+}
+
+/// What the library is lent: a top record, and tables with more rows than any body needs.
+struct Lent {
+    top: [u16; 32],
+    tables: [Vec<u16>; 5],
+}
+
+/// A kind of body, on both sides.
+trait Kind {
+    type Value;
+    fn parse(r: &mut Reader<'_>) -> error::Result<Self::Value>;
+    fn write(value: &Self::Value, out: &mut Vec<u8>) -> error::Result<()>;
+    fn our_read(body: &[u8], lent: &mut Lent) -> u64;
+    fn our_write(lent: &Lent, store: &[u8], out: &mut [u8]) -> u64;
+    /// Puts a fault into both values, at their end.
+    fn spoil(fault: &str, value: &mut Self::Value, lent: &mut Lent);
+}
+
+struct Base;
+
+impl Kind for Base {
+    type Value = MpegH3dAudio;
+    #[inline(always)]
+    fn parse(r: &mut Reader<'_>) -> error::Result<MpegH3dAudio> {
+        MpegH3dAudio::parse(r)
+    }
+    #[inline(always)]
+    fn write(value: &MpegH3dAudio, out: &mut Vec<u8>) -> error::Result<()> {
+        value.write(out)
+    }
+    #[inline(always)]
+    fn our_read(body: &[u8], lent: &mut Lent) -> u64 {
+        let top = &mut lent.top;
+        unsafe { mpegh_base_read(body.as_ptr(), body.len(), top.as_mut_ptr(), top.len()) }
+    }
+    #[inline(always)]
+    fn our_write(lent: &Lent, store: &[u8], out: &mut [u8]) -> u64 {
+        let t = &lent.top;
+        unsafe {
+            mpegh_base_write(
+                t[0] as u8,
+                t[1] != 0,
+                t[2] != 0,
+                t[3],
+                t[4],
+                t[5] as u8,
+                t[6] as u8,
+                t[7] as u8,
+                t[8],
+                t[9],
+                store.as_ptr(),
+                store.len(),
+                out.as_mut_ptr(),
+                out.len(),
+            )
+        }
+    }
+    fn spoil(fault: &str, value: &mut MpegH3dAudio, lent: &mut Lent) {
+        match fault {
+            "field" => {
+                value.reference_channel_layout = 64;
+                lent.top[7] = 64;
+            }
+            _ => panic!("the base has no fault {fault}"),
+        }
+    }
+}
+
+struct TextLabel;
+
+impl Kind for TextLabel {
+    type Value = MpegH3dAudioTextLabel;
+    #[inline(always)]
+    fn parse(r: &mut Reader<'_>) -> error::Result<MpegH3dAudioTextLabel> {
+        MpegH3dAudioTextLabel::parse(r)
+    }
+    #[inline(always)]
+    fn write(value: &MpegH3dAudioTextLabel, out: &mut Vec<u8>) -> error::Result<()> {
+        value.write(out)
+    }
+    #[inline(always)]
+    fn our_read(body: &[u8], lent: &mut Lent) -> u64 {
+        let top = &mut lent.top;
+        let [languages, entries, ..] = &mut lent.tables;
+        unsafe {
+            mpegh_text_label_read(
+                body.as_ptr(),
+                body.len(),
+                top.as_mut_ptr(),
+                top.len(),
+                languages.as_mut_ptr(),
+                languages.len(),
+                entries.as_mut_ptr(),
+                entries.len(),
+            )
+        }
+    }
+    #[inline(always)]
+    fn our_write(lent: &Lent, store: &[u8], out: &mut [u8]) -> u64 {
+        let t = &lent.top;
+        let [languages, entries, ..] = &lent.tables;
+        unsafe {
+            mpegh_text_label_write(
+                t[0] as u8,
+                t[1] as u8,
+                t[2],
+                t[3],
+                t[4],
+                languages.as_ptr(),
+                languages.len(),
+                entries.as_ptr(),
+                entries.len(),
+                store.as_ptr(),
+                store.len(),
+                out.as_mut_ptr(),
+                out.len(),
+            )
+        }
+    }
+    fn spoil(fault: &str, value: &mut MpegH3dAudioTextLabel, lent: &mut Lent) {
+        let last = value.languages.last_mut().unwrap().presets.last_mut();
+        let [languages, entries, ..] = &mut lent.tables;
+        let language = 12 * (usize::from(lent.top[2]) - 1);
+        let presets_end =
+            usize::from(languages[language + 10]) + usize::from(languages[language + 11]);
+        match fault {
+            "field" => {
+                last.unwrap().id = 32;
+                entries[4 * (presets_end - 1) + 1] = 32;
+            }
+            _ => panic!("the text label body has no fault {fault}"),
+        }
+    }
+}
+
+struct MultiStream;
+
+impl Kind for MultiStream {
+    type Value = MpegH3dAudioMultiStream;
+    #[inline(always)]
+    fn parse(r: &mut Reader<'_>) -> error::Result<MpegH3dAudioMultiStream> {
+        MpegH3dAudioMultiStream::parse(r)
+    }
+    #[inline(always)]
+    fn write(value: &MpegH3dAudioMultiStream, out: &mut Vec<u8>) -> error::Result<()> {
+        value.write(out)
+    }
+    #[inline(always)]
+    fn our_read(body: &[u8], lent: &mut Lent) -> u64 {
+        let top = &mut lent.top;
+        let [groups, ..] = &mut lent.tables;
+        unsafe {
+            mpegh_multi_stream_read(
+                body.as_ptr(),
+                body.len(),
+                top.as_mut_ptr(),
+                top.len(),
+                groups.as_mut_ptr(),
+                groups.len(),
+            )
+        }
+    }
+    #[inline(always)]
+    fn our_write(lent: &Lent, store: &[u8], out: &mut [u8]) -> u64 {
+        let t = &lent.top;
+        let [groups, ..] = &lent.tables;
+        unsafe {
+            mpegh_multi_stream_write(
+                t[0] as u8,
+                t[1] != 0,
+                t[2] as u8,
+                t[3] as u8,
+                t[4] as u8,
+                t[5],
+                t[6],
+                t[7],
+                groups.as_ptr(),
+                groups.len(),
+                store.as_ptr(),
+                store.len(),
+                out.as_mut_ptr(),
+                out.len(),
+            )
+        }
+    }
+    fn spoil(fault: &str, value: &mut MpegH3dAudioMultiStream, lent: &mut Lent) {
+        let last = value.main.as_mut().unwrap().groups.last_mut().unwrap();
+        let row = 5 * (usize::from(lent.top[5]) - 1);
+        match fault {
+            "field" => {
+                last.auxiliary.as_mut().unwrap().auxiliary_stream_id = 128;
+                lent.tables[0][row + 4] = 128;
+            }
+            "auxiliary" => {
+                last.is_in_main_stream = !last.is_in_main_stream;
+                lent.tables[0][row + 1] ^= 1;
+            }
+            _ => panic!("the multi-stream body has no fault {fault}"),
+        }
+    }
+}
+
+/// The number of the Rust's answer, with the need of number 1. It does not name the place of a fault in a value.
+fn number(e: error::Error) -> u64 {
+    match e {
+        error::Error::BufferTooShort { need, .. } => 1 | (need as u64) << 8,
+        error::Error::FieldOverflow(_) => 5,
+        error::Error::InvalidDescriptor { .. } => 9,
+    }
+}
+
+/// The Rust's reading: the record is made and dropped. Without `black_box` the compiler may leave out what nobody looks at.
+#[inline(never)]
+fn rust_read<K: Kind>(body: &[u8]) -> u64 {
+    match K::parse(&mut Reader::new(body, "speed")) {
+        Ok(value) => {
+            black_box(&value);
+            0
+        }
+        Err(e) => number(e),
+    }
+}
+
+/// The Rust's writing, into a vector that is made and dropped.
+#[inline(never)]
+fn rust_write<K: Kind>(value: &K::Value) -> u64 {
+    written::<K>(value, Vec::new())
+}
+
+/// The same into a vector that has room from the start.
+#[inline(never)]
+fn rust_write_reserved<K: Kind>(value: &K::Value, room: usize) -> u64 {
+    written::<K>(value, Vec::with_capacity(room))
+}
+
+#[inline(always)]
+fn written<K: Kind>(value: &K::Value, mut out: Vec<u8>) -> u64 {
+    match K::write(value, &mut out) {
+        Ok(()) => (black_box(&out).len() as u64) << 8,
+        Err(e) => number(e),
+    }
+}
+
+/// Where the counter looks: it notes the instructions so far.
+#[no_mangle]
+#[inline(never)]
+pub extern "C" fn mark() {
+    black_box(());
+}
+
+/// One loop of calls, their answers summed up.
+#[inline(never)]
+fn repeat(calls: usize, call: &mut impl FnMut() -> u64) {
+    let mut sum = 0u64;
+    for _ in 0..calls {
+        sum = sum.wrapping_add(call());
+    }
+    black_box(sum);
+}
+
+/// A measurement. The first loop, which is not counted, lets the allocator come to rest.
+fn count(mut call: impl FnMut() -> u64) {
+    repeat(black_box(FEW), &mut call);
+    for calls in [FEW, MANY] {
+        mark();
+        repeat(black_box(calls), &mut call);
+    }
+    mark();
+}
+
+fn measure<K: Kind>(fault: &str, body: &[u8]) {
+    let mut lent = Lent {
+        top: [0; 32],
+        tables: std::array::from_fn(|_| vec![0; 65536]),
+    };
+    let mut out = vec![0; 65536];
+    let length = body.len();
+    let say = |what: &str| println!("{length} {what} {}", MANY - FEW);
+
+    let sound = fault == "-";
+    assert_eq!(
+        rust_read::<K>(body),
+        K::our_read(body, &mut lent),
+        "reading"
+    );
+    if sound {
+        say("read rust");
+        count(|| rust_read::<K>(black_box(body)));
+        say("read ours");
+        count(|| K::our_read(black_box(body), black_box(&mut lent)));
+    }
+
+    let Ok(mut value) = K::parse(&mut Reader::new(body, "speed")) else {
+        return;
+    };
+    if !sound {
+        K::spoil(fault, &mut value, &mut lent);
+    }
+    let (rust, ours) = (rust_write::<K>(&value), K::our_write(&lent, body, &mut out));
+    if sound {
+        assert_eq!((rust, ours), ((length as u64) << 8, rust), "writing");
+        assert!(out[..length] == *body, "writing");
+    } else {
+        assert_eq!(rust, ours & 0xFF, "writing");
+    }
+    say("write rust");
+    count(|| rust_write::<K>(black_box(&value)));
+    say("write ours");
+    count(|| K::our_write(black_box(&lent), black_box(body), &mut out));
+    say("write reserved");
+    count(|| rust_write_reserved::<K>(black_box(&value), black_box(length)));
+}
+
+/// The bytes of words up to a closing bracket: pairs of hexadecimal digits, and `N*(` words `)` for what stands there N times.
+fn bytes<'a>(words: &mut impl Iterator<Item = &'a str>) -> Vec<u8> {
+    let mut all = Vec::new();
+    while let Some(word) = words.next() {
+        if word == ")" {
+            break;
+        } else if let Some(times) = word.strip_suffix("*(") {
+            let times = times.parse().expect("a number before *(");
+            all.extend(bytes(words).repeat(times));
+        } else {
+            all.push(u8::from_str_radix(word, 16).expect("two hexadecimal digits"));
+        }
+    }
+    all
+}
+
+/// The arguments are a line of speed/bodies: kind, name, fault, body.
+fn main() {
+    let arguments: Vec<String> = std::env::args().skip(1).collect();
+    let mut words = arguments.iter().map(String::as_str);
+    let kind = words.next().expect("a kind");
+    words.next().expect("a name");
+    let fault = words.next().expect("a fault, or -");
+    let body = bytes(&mut words);
+    match kind {
+        "1" => measure::<Base>(fault, &body),
+        "3" => measure::<TextLabel>(fault, &body),
+        "4" => measure::<MultiStream>(fault, &body),
+        _ => panic!("no kind {kind}"),
+    }
+}
