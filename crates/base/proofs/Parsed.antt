@@ -15,10 +15,9 @@ use Rattle.wire.specs.declared.rows.Payload.{Payload}
 use Rattle.wire.proofs.Runs.{run-split, run-ret}
 use Rattle.wire.proofs.Walk.{From, onward, cut-off, finished, as-done, as-short, is-done, byte-taken, run-taken}
 use Rattle.frame.specs.Numbers.{accepted}
-use Rattle.frame.specs.Entry.{too-short, Sound, Sizes, needs, sizes, tail, judging, Measures}
+use Rattle.frame.specs.Entry.{too-short, needs, sizes, tail, Measures}
 use Rattle.frame.specs.Sight.{Tops}
-use Rattle.frame.proofs.Judged.{ran-well}
-use Rattle.frame.proofs.Entries.{the-sound, measures-short, measures-done}
+use Rattle.frame.proofs.Entries.{measures-short, measures-done, Known, known, tops-known}
 use Rattle.base.specs.declared.rows.CompatibleSets.{CompatibleSets}
 use Rattle.base.specs.declared.rows.MpegH3dAudio.{MpegH3dAudio}
 use Rattle.base.specs.Rows.{absentSets, listedSets, retrail}
@@ -104,34 +103,26 @@ module _ (body : List ℕ) (h : length body ≤ 65535) where
 
 -- ---- a body that was measured: its record
 
-module _ (body : List ℕ) {k : ℕ} (w : Measures kind body (accepted (sized k))) where
-  abbrev sound : Sound MpegH3dAudio
-  sound = the-sound kind body w .0
+module _ (body : List ℕ) {k : ℕ} (m : Measures kind body (accepted (sized k))) where
+  knows : Known kind body (sized k)
+  knows = known kind body m
 
-  judges : judging kind body ≡ accepted sound
-  judges = the-sound kind body w .1
-
-  ran : run parse body 0 ≡ done (sound .tree) (sound .before)
+  read-so : BodyRun body (knows .sound .tree) (knows .sound .before)
   unfolding kind
-  ran = ran-well kind body sound judges .reads
+  read-so = body-run body (knows .ran .reads)
 
   pub sets-sound : (2 < length body) × (isDone (run (sets (eqb (part 6 1 (getD body 1 0)) 1)) body 3) ≡ true)
-  sets-sound = let r = body-run body ran in (r .inside, ap isDone (r .reads))
+  sets-sound = (read-so .inside, ap isDone (read-so .reads))
 
-  pub tops-are : {l : CompatibleSets} {p : Payload} {m : MpegH3dAudio} (x : ℕ) → done l x ≡ run (sets (eqb (part 6 1 (getD body 1 0)) 1)) body 3 → p ≡ span k (length body - k)
-      → m ≡ retrail (fields (getD body 0 0) (getD body 1 0) (getD body 2 0) l) p → Tops kind body m
-  unfolding kind sizes
-  tops-are {l} {p} {m} x f g d =
-      let r = body-run body ran in
-      let z : done l x ≡ done (r .listing) (sound .before) = f ∙ r .reads in
-      let v : l ≡ r .listing = cc z in
-      let b : sound .before ≡ k = ap (λ (z : Sizes). z .before) (the-sound kind body w .2) in
-      let t : m ≡ retrail (sound .tree) (tail (sound .before) body) =
-      d ∙ (λ i. retrail (fields (getD body 0 0) (getD body 1 0) (getD body 2 0) (v i)) ((g ∙ ap (λ (k : ℕ). span k (length body - k)) (sym b)) i))
-      ∙ ap (λ (t : MpegH3dAudio). retrail t (tail (sound .before) body)) (sym (r .is)) in
-      record { tops = λ s j. let y : accepted sound ≡ accepted s = sym judges ∙ j in let q : sound ≡ s = cc y in t ∙ ap (λ (s : Sound MpegH3dAudio). retrail (s .tree) (tail (s .before) body)) q }
+  pub tops-are : {l : CompatibleSets} {p : Payload} {t : MpegH3dAudio} (x : ℕ) → done l x ≡ run (sets (eqb (part 6 1 (getD body 1 0)) 1)) body 3 → p ≡ tail k body
+      → t ≡ retrail (fields (getD body 0 0) (getD body 1 0) (getD body 2 0) l) p → Tops kind body t
+  unfolding kind
+  tops-are {l} {p} {t} x f g d =
+      let z : done l x ≡ done (read-so .listing) (knows .sound .before) = f ∙ read-so .reads in
+      let v : l ≡ read-so .listing = cc z in
+      tops-known kind knows (d ∙ (λ i. retrail (fields (getD body 0 0) (getD body 1 0) (getD body 2 0) (v i)) (g i)) ∙ ap (λ (t : MpegH3dAudio). retrail t (tail k body)) (sym (read-so .is)))
 
   -- its reserved fields fit their widths
-  pub reserved-small : {m : MpegH3dAudio} → Tops kind body m → (m .«reserved_flags» < 64) × (m .«reserved_layout» < 4)
+  pub reserved-small : {t : MpegH3dAudio} → Tops kind body t → (t .«reserved_flags» < 64) × (t .«reserved_layout» < 4)
   unfolding kind fields
-  reserved-small {m} t = let r = body-run body ran in rw (t .tops sound judges, r .is) (omega arith, omega arith)
+  reserved-small t = rw (t .tops (knows .sound) (knows .judges), read-so .is) (omega arith, omega arith)

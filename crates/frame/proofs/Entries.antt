@@ -20,7 +20,7 @@ use Rattle.frame.specs.Numbers.{Numbered, Answer, accepted, refused, wri
 use Rattle.frame.specs.Kind.{Kind, Lent}
 use Rattle.frame.specs.Entry.{too-short, too-long, no-room, onto, ran, Sound, Sizes, Need, needs, lacking, filled, tail, judging, sizes, measuring, tallying, put, puts, whole, writing, Reads, Measures, Tallies, Writes}
 use Rattle.frame.specs.Sight.{Tops, Roomy, Fills}
-use Rattle.frame.proofs.Judged.{judged, judged-short, ran-well, reads-so, lacks-so, refused-so, onto-refused, refused-onto, measured}
+use Rattle.frame.proofs.Judged.{Ran, judged, judged-short, ran-well, reads-so, lacks-so, refused-so, onto-refused, refused-onto, measured}
 use Rattle.frame.proofs.More.{judge-long, end-within}
 use Rattle.frame.proofs.Output.{put-done, put-short, put-long}
 
@@ -90,47 +90,57 @@ module _ {Tree Top Value : Type 0} (K : Kind Tree Top Value) where
     unfolding tallying
     tallies-unmeasured = record { promised = sym (refused-onto K (λ s. K .zeros (s .tree)) body x unmeasured) }
 
-  module _ (body : List ℕ) {z : Sizes} (m : Measures K body (accepted z)) where
-    pub the-sound : (s : Sound Tree) × (judging K body ≡ accepted s) × (sizes K s ≡ z)
-    the-sound = measured K body z (sym (m .promised))
+  -- it has one tree
+  pub record Known (body : List ℕ) (z : Sizes) : Type 0 where
+    pub sound : Sound Tree
+    pub judges : judging K body ≡ accepted sound
+    pub sized : sizes K sound ≡ z
+    pub ran : Ran K body sound
+    pub only : (s : Sound Tree) → judging K body ≡ accepted s → sound ≡ s
 
+  pub known : (body : List ℕ) {z : Sizes} → Measures K body (accepted z) → Known body z
+  known body {z} m =
+      let (s, j, q) = measured K body z (sym (m .promised)) in
+      record { sound = s; judges = j; sized = q; ran = ran-well K body s j; only = λ s′ j′. let w : accepted s ≡ accepted s′ = sym j ∙ j′ in cc w }
+
+  -- what is said of that tree is said of the body
+  module _ {body : List ℕ} {z : Sizes} (w : Known body z) where
+    pub tops-known : {top : Top} → top ≡ K .top (w .sound .tree) (tail (z .before) body) → Tops K body top
+    unfolding sizes
+    tops-known e = record {
+      tops = λ s j. e ∙ ap (λ (z : Sizes). K .top (w .sound .tree) (tail (z .before) body)) (sym (w .sized)) ∙ ap (λ (s : Sound Tree). K .top (s .tree) (tail (s .before) body)) (w .only s j);
+    }
+
+    pub fills-known : {lent after : Lent} → after ≡ filled (K .tables (w .sound .tree)) lent → Fills K body lent after
+    fills-known {lent} e = record { fills = λ s j. e ∙ ap (λ (s : Sound Tree). filled (K .tables (s .tree)) lent) (w .only s j) }
+
+  module _ (body : List ℕ) {z : Sizes} (m : Measures K body (accepted z)) where
     pub within-measured : Within body (z .before)
     unfolding sizes
-    within-measured = let (s, j, q) = the-sound in subst (λ (z : Sizes). Within body (z .before)) q (within body (sym j))
+    within-measured = let w = known body m in subst (λ (z : Sizes). Within body (z .before)) (w .sized) (within body (sym (w .judges)))
+
+    roomed : (lent : Lent) → lacking (needs (K .tables (known body m .sound .tree))) lent ≡ lacking (z .tables) lent
+    unfolding sizes
+    roomed lent = ap (λ (z : Sizes). lacking (z .tables) lent) (known body m .sized)
 
     pub roomy : (lent : Lent) → lacking (z .tables) lent ≡ none → Roomy K body lent
-    unfolding sizes
-    roomy lent f =
-        let (s, j, q) = the-sound in
-        record {
-          room = λ s′ j′. let w : accepted s ≡ accepted s′ = sym j ∙ j′ in let e : s ≡ s′ = cc w in ap (λ (s : Sound Tree). lacking (needs (K .tables (s .tree))) lent) (sym e) ∙ ap (λ (z : Sizes). lacking (z .tables) lent) q ∙ f;
-        }
+    roomy lent f = record { room = λ s j. ap (λ (s : Sound Tree). lacking (needs (K .tables (s .tree))) lent) (sym (known body m .only s j)) ∙ roomed lent ∙ f }
 
     pub reads-lacking : (lent : Lent) (n : Need) → lacking (z .tables) lent ≡ some n → Reads K body lent (no-room (n .number) (n .rows)) lent
-    unfolding sizes
-    reads-lacking lent n f =
-        let (s, j, q) = the-sound in
-        record { promised = sym (lacks-so K body lent s n j (ap (λ (z : Sizes). lacking (z .tables) lent) q ∙ f)) }
+    reads-lacking lent n f = record { promised = sym (lacks-so K body lent (known body m .sound) n (known body m .judges) (roomed lent ∙ f)) }
 
     -- the record is that of the body, and the tables are filled
     pub reads-filled : {top : Top} (lent after : Lent) → lacking (z .tables) lent ≡ none → Fills K body lent after → Tops K body top → Reads K body lent (accepted top) after
-    unfolding sizes
     reads-filled lent after f g t =
-        let (s, j, q) = the-sound in
-        rw (t .tops s j, g .fills s j) (reads-done body lent (sym j) (ap (λ (z : Sizes). lacking (z .tables) lent) q ∙ f))
+        let w = known body m in
+        rw (t .tops (w .sound) (w .judges), g .fills (w .sound) (w .judges)) (reads-done body lent (sym (w .judges)) (roomed lent ∙ f))
 
     -- a tally that the record alone decides
     pub tallies-topped : (f : Top → ℕ) → ((t : Tree) (p : Payload) → f (K .top t p) ≡ K .zeros t) → {top : Top} → Tops K body top → Tallies K body (accepted (f top))
     unfolding tallying onto
     tallies-topped f e t =
-        let (s, j, q) = the-sound in
-        record { promised = ap (λ (x : Top). accepted (f x)) (t .tops s j) ∙ ap accepted (e (s .tree) _) ∙ sym (ap (onto (λ (s : Sound Tree). K .zeros (s .tree))) j) }
-
-    -- of one sound body all is said
-    pub tops-so : {top : Top} → ((s : Sound Tree) → judging K body ≡ accepted s → sizes K s ≡ z → top ≡ K .top (s .tree) (tail (s .before) body)) → Tops K body top
-    tops-so f =
-        let (s, j, q) = the-sound in
-        record { tops = λ s′ j′. let w : accepted s ≡ accepted s′ = sym j ∙ j′ in let e : s ≡ s′ = cc w in f s′ j′ (sym (ap (sizes K) e) ∙ q) }
+        let w = known body m in
+        record { promised = ap (λ (x : Top). accepted (f x)) (t .tops (w .sound) (w .judges)) ∙ ap accepted (e (w .sound .tree) _) ∙ sym (ap (onto (λ (s : Sound Tree). K .zeros (s .tree))) (w .judges)) }
 
   -- ---- writing: the pen after the check pass
 

@@ -9,7 +9,7 @@ use lib.ListN.{length, getD, drop, length-map}
 use lib.Dec.{leb, eqb}
 use lib.Seq.{sets, getD-append-seam, getD-append-add}
 use Rattle.wire.specs.Bits.{part}
-use Rattle.wire.specs.Prog.{done, run, many, span}
+use Rattle.wire.specs.Prog.{done, run, many}
 use Rattle.wire.specs.Reads.{mapOut, isDone, rowsOf, Summed}
 use Rattle.wire.specs.declared.reads.Short.{Short}
 use Rattle.wire.specs.declared.reads.Sum.the-variants as S
@@ -17,18 +17,17 @@ use Rattle.wire.specs.declared.rows.Payload.{Payload}
 use Rattle.wire.proofs.Walk.{as-done, as-short}
 use Rattle.wire.proofs.Tables.{rows-stored}
 use Rattle.frame.specs.Numbers.{accepted}
-use Rattle.frame.specs.Entry.{too-short, Sound, Sizes, needs, first, others, room, lacking, filled, sizes, tail, judging, Measures}
+use Rattle.frame.specs.Entry.{too-short, Sizes, needs, first, others, room, lacking, filled, sizes, tail, Measures}
 use Rattle.frame.specs.Sight.{Tops, Fills}
-use Rattle.frame.proofs.Judged.{ran-well}
-use Rattle.frame.proofs.Entries.{the-sound, measures-short, measures-done}
+use Rattle.frame.proofs.Entries.{measures-short, measures-done, Known, known, tops-known, fills-known}
 use Rattle.multi_stream.specs.declared.rows.MultiStreamGroup.{MultiStreamGroup}
 use Rattle.multi_stream.specs.declared.rows.MainStream.{MainStream}
 use Rattle.multi_stream.specs.declared.rows.MpegH3dAudioMultiStream.{MpegH3dAudioMultiStream}
-use Rattle.multi_stream.specs.Rows.{groupColumns, row, groupOf, MultiStream, counted, groupsOf, top, tables}
+use Rattle.multi_stream.specs.Rows.{groupColumns, row, groupOf, MultiStream, counted, groupsOf, tables}
 use Rattle.multi_stream.specs.Read.{group, main, parse}
 use Rattle.multi_stream.specs.Write.{kind}
 use Rattle.multi_stream.specs.Contract.{needed, sized}
-use Rattle.multi_stream.proofs.Parsed.{body-run, groups-run, reserved-fit}
+use Rattle.multi_stream.proofs.Parsed.{body-run, Groups, groups-run, reserved-fit}
 
 -- ---- the rows
 
@@ -76,45 +75,41 @@ pub record Fillable (body : List ℕ) (count : ℕ) : Type 0 where
 abbrev Rows-of : List ℕ → ℕ → List MultiStreamGroup
 Rows-of body count = rowsOf (run (many count group) body 3)
 
-module _ (body : List ℕ) {n k : ℕ} (w : Measures kind body (accepted (sized n k))) where
-  abbrev sound : Sound MultiStream
-  sound = the-sound kind body w .0
+module _ (body : List ℕ) {n k : ℕ} (m : Measures kind body (accepted (sized n k))) where
+  knows : Known kind body (sized n k)
+  knows = known kind body m
 
-  judges : judging kind body ≡ accepted sound
-  judges = the-sound kind body w .1
-
-  ran : run parse body 0 ≡ done (sound .tree) (sound .before)
+  ran : run parse body 0 ≡ done (knows .sound .tree) (knows .sound .before)
   unfolding kind
-  ran = ran-well kind body sound judges .reads
+  ran = knows .ran .reads
 
-  count-is : length (groupsOf (sound .tree .main)) ≡ n
-  unfolding kind
-  count-is = ap firstRows (sym (sizes-are (sound .tree) (sound .before)) ∙ the-sound kind body w .2)
+  groups : List MultiStreamGroup
+  groups = groupsOf (knows .sound .tree .main)
 
-  -- the sound body is one
-  one-sound : (s : Sound MultiStream) → judging kind body ≡ accepted s → sound ≡ s
-  one-sound s j = let z : accepted sound ≡ accepted s = sym judges ∙ j in cc z
+  count-is : length groups ≡ n
+  unfolding groups kind
+  count-is = ap firstRows (sym (sizes-are (knows .sound .tree) (knows .sound .before)) ∙ knows .sized)
+
+  stand : 0 < n → Groups body groups (knows .sound .before)
+  unfolding groups
+  stand h = groups-run body ran (omega (arith, h, count-is))
 
   pub fillable : 0 < n → Fillable body n
-  fillable h =
-      let g = groups-run body ran (omega (arith, h, count-is)) in
-      record { inside = g .inside; sound = rw (← count-is) (ap isDone (g .reads)) }
+  fillable h = record { inside = stand h .inside; sound = rw (← count-is) (ap isDone (stand h .reads)) }
 
-  pub filled-so : (t after : List ℕ) → after ≡ flatten (map row (groupsOf (sound .tree .main))) ++ drop (length (flatten (map row (groupsOf (sound .tree .main))))) t → Fills kind body (t ∷ []) (after ∷ [])
-  unfolding kind filled tables first others
-  filled-so t after e = record { fills = λ s j. ap (λ (a : List ℕ). a ∷ []) e ∙ ap (λ (s : Sound MultiStream). filled (tables (s .tree)) (t ∷ [])) (one-sound s j) }
+  filled-so : (t after : List ℕ) → after ≡ flatten (map row groups) ++ drop (length (flatten (map row groups))) t → Fills kind body (t ∷ []) (after ∷ [])
+  unfolding groups kind filled tables first others
+  filled-so t after e = fills-known kind knows (ap (λ (a : List ℕ). a ∷ []) e)
 
   pub filled-there : 0 < n → (t after : List ℕ) → n ≤ length t / groupColumns → after ≡ sets t 0 (flatMap row (Rows-of body n)) → Fills kind body (t ∷ []) (after ∷ [])
   filled-there p t after h e =
-      let l = groupsOf (sound .tree .main) in
-      let g = groups-run body ran (omega (arith, p, count-is)) in
-      let r : Rows-of body n ≡ l = ap (Rows-of body) (sym count-is) ∙ ap rowsOf (g .reads) in
-      let m : length l * groupColumns ≤ length t = omega (arith, count-is, h) in
-      filled-so t after (e ∙ ap (λ (l : List MultiStreamGroup). sets t 0 (flatMap row l)) r ∙ rows-stored groupColumns groupOf row (λ g. refl) row-found l t m)
+      let r : Rows-of body n ≡ groups = ap (Rows-of body) (sym count-is) ∙ ap rowsOf (stand p .reads) in
+      let l : length groups * groupColumns ≤ length t = omega (arith, count-is, h) in
+      filled-so t after (e ∙ ap (λ (l : List MultiStreamGroup). sets t 0 (flatMap row l)) r ∙ rows-stored groupColumns groupOf row (λ g. refl) row-found groups t l)
 
   pub filled-none : n ≤ 0 → (t : List ℕ) → Fills kind body (t ∷ []) (t ∷ [])
   unfolding flatten
-  filled-none h t = filled-so t t (go (groupsOf (sound .tree .main)) (omega (arith, h, count-is)))
+  filled-none h t = filled-so t t (go groups (omega (arith, h, count-is)))
     where
       go : (l : List MultiStreamGroup) → length l ≡ 0 → t ≡ flatten (map row l) ++ drop (length (flatten (map row l))) t
       go [] e = refl
@@ -126,18 +121,15 @@ module _ (body : List ℕ) {n k : ℕ} (w : Measures kind body (accepted (sized 
   main-sound = let r = body-run body ran in (r .inside, ap isDone (r .reads))
 
   pub tops-are : {id : ℕ} {m : MainStream} {p : Payload} → id ≡ part 0 7 (getD body 0 0)
-      → (x : ℕ) → done m x ≡ mapOut counted (run (main (eqb (part 7 1 (getD body 0 0)) 1)) body 1) → p ≡ span k (length body - k) → Tops kind body (record { «this_stream_id» = id; main = m; trailing = p })
-  unfolding kind sizes
-  tops-are {id} {m} {p} e x f g =
+      → (x : ℕ) → done m x ≡ mapOut counted (run (main (eqb (part 7 1 (getD body 0 0)) 1)) body 1) → p ≡ tail k body → Tops kind body (record { «this_stream_id» = id; main = m; trailing = p })
+  unfolding kind
+  tops-are {m = m} e x f g =
       let r = body-run body ran in
-      let z : done m x ≡ done (counted (sound .tree .main)) (sound .before) = f ∙ ap (mapOut counted) (r .reads) in
-      let v : m ≡ counted (sound .tree .main) = cc z in
-      let b : sound .before ≡ k = ap (λ (z : Sizes). z .before) (the-sound kind body w .2) in
-      record {
-        tops = λ s j. (λ i. record { «this_stream_id» = (e ∙ sym (r .stream)) i; main = v i; trailing = (g ∙ ap (λ (k : ℕ). span k (length body - k)) (sym b)) i }) ∙ ap (λ (s : Sound MultiStream). top (s .tree) (tail (s .before) body)) (one-sound s j);
-      }
+      let z : done m x ≡ done (counted (knows .sound .tree .main)) (knows .sound .before) = f ∙ ap (mapOut counted) (r .reads) in
+      let v : m ≡ counted (knows .sound .tree .main) = cc z in
+      tops-known kind knows (λ i. record { «this_stream_id» = (e ∙ sym (r .stream)) i; main = v i; trailing = g i })
 
   -- the reserved fields that stand in the body fit, and so do the zeros of a part that is absent
-  pub reserved-small : {m : MpegH3dAudioMultiStream} → Tops kind body m → (m .main .part .«reserved_aux» < 2) × (m .main .part .«reserved_groups» < 2)
+  pub reserved-small : {t : MpegH3dAudioMultiStream} → Tops kind body t → (t .main .part .«reserved_aux» < 2) × (t .main .part .«reserved_groups» < 2)
   unfolding kind
-  reserved-small {m} t = rw (t .tops sound judges) (reserved-fit body ran)
+  reserved-small t = rw (t .tops (knows .sound) (knows .judges)) (reserved-fit body ran)

@@ -22,10 +22,10 @@ use Rattle.wire.proofs.Loops.{many-long, sum-onward, sum-cut-off}
 use Rattle.wire.proofs.Tables.{flat-of-map, rows-stored}
 use Rattle.frame.specs.declared.Refusal.{Refusal}
 use Rattle.frame.specs.Numbers.{accepted, refused, refusal}
-use Rattle.frame.specs.Entry.{too-short, Sound, Sizes, Need, needs, first, others, room, lacking, filled, tail, judging, sizes, measuring, Measures}
+use Rattle.frame.specs.Entry.{too-short, Sizes, Need, needs, first, others, room, lacking, filled, tail, judging, sizes, measuring, Measures}
 use Rattle.frame.specs.Sight.{Tops, Roomy, Fills}
-use Rattle.frame.proofs.Judged.{ran-well, refused-onto}
-use Rattle.frame.proofs.Entries.{measures-short, measures-done, the-sound, tops-so}
+use Rattle.frame.proofs.Judged.{refused-onto}
+use Rattle.frame.proofs.Entries.{measures-short, measures-done, Known, known, tops-known, fills-known}
 use Rattle.labels.specs.declared.rows.TextLabelEntry.{TextLabelEntry}
 use Rattle.labels.specs.Rows.{entryColumns, entryRow, entryOf}
 use Rattle.text_label.specs.declared.parsing.Head.{Head}
@@ -121,74 +121,59 @@ abbrev firstRows : List Need → ℕ
 firstRows [] = 0
 firstRows (n ∷ ns) = n .rows
 
-record Known (body : List ℕ) (s : Sound (TextLabel TextLabelEntry)) (l k : ℕ) : Type 0 where
-  all : length body ≤ 65535
-  runs : BodyRun body (s .tree) (s .before)
-  count : length (s .tree .languages) ≡ l
-  end : s .before ≡ k
-
-known : (body : List ℕ) (s : Sound (TextLabel TextLabelEntry)) {l n k : ℕ} → judging kind body ≡ accepted s → sizes kind s ≡ sized l n k → Known body s l k
-unfolding kind
-known body s j q =
-    let w = ran-well kind body s j in
-    let z = sym (sizes-are (s .tree) (s .before)) ∙ q in
-    record { all = w .within; runs = body-run body (w .reads); count = ap (λ (z : Sizes). firstRows (z .tables)) z; end = ap (λ (z : Sizes). z .before) z }
-
 module _ (body : List ℕ) {l n k : ℕ} (m : Measures kind body (accepted (sized l n k))) where
-  sound : Sound (TextLabel TextLabelEntry)
-  sound = the-sound kind body m .0
+  knows : Known kind body (sized l n k)
+  knows = known kind body m
 
-  judges : judging kind body ≡ accepted sound
-  unfolding sound
-  judges = the-sound kind body m .1
+  runs : BodyRun body (knows .sound .tree) (knows .sound .before)
+  unfolding kind
+  runs = body-run body (knows .ran .reads)
 
-  knows : Known body sound l k
-  unfolding sound
-  knows = known body sound judges (the-sound kind body m .2)
+  count-is : length (knows .sound .tree .languages) ≡ l
+  unfolding kind
+  count-is = ap (λ (z : Sizes). firstRows (z .tables)) (sym (sizes-are (knows .sound .tree) (knows .sound .before)) ∙ knows .sized)
 
   pub head-measured : 2 ≤ length body
-  head-measured = knows .runs .inside
+  head-measured = runs .inside
 
   pub top-measured : Tops kind body (record { «scene_info_id» = getD body 0 0; reserved = part 4 4 (getD body 1 0); languages = l; trailing = tail k body })
   unfolding kind
-  top-measured = tops-so kind body m (λ s j q. let w = known body s j q in λ i. record { «scene_info_id» = w .runs .scene i; reserved = w .runs .bits i; languages = sym (w .count) i; trailing = tail (sym (w .end) i) body })
+  top-measured = tops-known kind knows (λ i. record { «scene_info_id» = runs .scene i; reserved = runs .bits i; languages = sym count-is i; trailing = tail k body })
 
-  languages-read : run (many l language) body 2 ≡ done (sound .tree .languages) (sound .before)
-  languages-read = ap (λ (n : ℕ). run (many n language) body 2) (sym (knows .count)) ∙ knows .runs .reads
+  languages-read : run (many l language) body 2 ≡ done (knows .sound .tree .languages) (knows .sound .before)
+  languages-read = ap (λ (n : ℕ). run (many n language) body 2) (sym count-is) ∙ runs .reads
 
   module _ (t u : List ℕ) (r : Roomy kind body (t ∷ u ∷ [])) where
-    roomy-so : (length (sound .tree .languages) * languageColumns ≤ length t) × (length (entriesIn (sound .tree .languages)) * entryColumns ≤ length u)
+    roomy-so : (length (knows .sound .tree .languages) * languageColumns ≤ length t) × (length (entriesIn (knows .sound .tree .languages)) * entryColumns ≤ length u)
     unfolding kind tables needs
     roomy-so =
-        let e = r .room sound judges in
-        room-so t u _ _ (subst (λ (n : ℕ). lacking (needed n (length (entriesIn (sound .tree .languages)))) (t ∷ u ∷ []) ≡ none) (rows-counted (sound .tree .languages))
-        (subst (λ (n : ℕ). lacking (needed (length (map languageRow (languageRows (sound .tree .languages)))) n) (t ∷ u ∷ []) ≡ none) (length-map (entriesIn (sound .tree .languages)) entryRow) e))
+        let e = r .room (knows .sound) (knows .judges) in
+        room-so t u _ _ (subst (λ (n : ℕ). lacking (needed n (length (entriesIn (knows .sound .tree .languages)))) (t ∷ u ∷ []) ≡ none) (rows-counted (knows .sound .tree .languages))
+        (subst (λ (n : ℕ). lacking (needed (length (map languageRow (languageRows (knows .sound .tree .languages)))) n) (t ∷ u ∷ []) ≡ none) (length-map (entriesIn (knows .sound .tree .languages)) entryRow) e))
 
     pub languages-ask : Fillable (many l language) entryColumns (λ l. length (entriesIn l)) body 2 0 u × (languageColumns * l ≤ length t)
     languages-ask = (
       record {
-        value = sound .tree .languages;
-        end = sound .before;
+        value = knows .sound .tree .languages;
+        end = knows .sound .before;
         reads = languages-read;
         begun = head-measured;
-        all = let b = knows .all in omega (arith, b);
+        all = let b = knows .ran .within in omega (arith, b);
         before = omega arith;
         room = omega (arith, roomy-so .1);
       },
-      omega (arith, roomy-so .0, knows .count),
+      omega (arith, roomy-so .0, count-is),
     )
 
     pub languages-filled : {t′ u′ : List ℕ} → Nests language sizeOf rowOf colsOf body 2 l t u t′ u′ → Fills kind body (t ∷ u ∷ []) (t′ ∷ u′ ∷ [])
     unfolding kind tables filled first others
     languages-filled {t′} {u′} n =
-        let ls = sound .tree .languages in
-        let z : done (n .value) (n .end) ≡ done ls (sound .before) = sym (n .reads) ∙ languages-read in
+        let ls = knows .sound .tree .languages in
+        let z : done (n .value) (n .end) ≡ done ls (knows .sound .before) = sym (n .reads) ∙ languages-read in
         let e : n .value ≡ ls = cc z in
         let a : t′ ≡ flatten (map languageRow (languageRows ls)) ++ drop (length (flatten (map languageRow (languageRows ls)))) t =
         n .outer ∙ ap (λ (l : List (Language TextLabelEntry)). sets t 0 (flatMap (λ q. rowOf (q .0) (q .1)) (firsts sizeOf 0 l))) e ∙ ap (sets t 0) (sym (flat-of-map languageRow (λ q. languageAs (q .0) (q .1)) (firsts sizeOf 0 ls)))
         ∙ rows-stored languageColumns languageOf languageRow (λ l. refl) language-found (languageRows ls) t (omega (arith, roomy-so .0, sym (length-map (languageRows ls) languageRow) ∙ rows-counted ls)) in
         let b : u′ ≡ flatten (map entryRow (entriesIn ls)) ++ drop (length (flatten (map entryRow (entriesIn ls)))) u =
         n .inner ∙ ap (λ (l : List (Language TextLabelEntry)). sets u 0 (flatMap colsOf l)) e ∙ ap (sets u 0) (flat-in ls) ∙ rows-stored entryColumns entryOf entryRow (λ l. refl) entry-found (entriesIn ls) u (roomy-so .1) in
-        record {
-          fills = λ s j. let y : accepted sound ≡ accepted s = sym judges ∙ j in let q : sound ≡ s = cc y in (λ i. a i ∷ b i ∷ []) ∙ ap (λ (s : Sound (TextLabel TextLabelEntry)). filled (tables (s .tree)) (t ∷ u ∷ [])) q;
-        }
+        fills-known kind knows (λ i. a i ∷ b i ∷ [])
