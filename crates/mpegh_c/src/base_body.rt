@@ -1,4 +1,4 @@
-// The base body for hosts.
+// The base body (kind 1) for hosts: numbers and slices in, one number out.
 ghost use mathlib.Core.Path.{_≡_};
 ghost use mathlib.Core.List.{[]};
 ghost use Rattle.wire.specs.Prog.{span};
@@ -15,6 +15,7 @@ use base::rows::TOP_COLUMNS;
 use wire::rows::Payload;
 use wire::rows::put_row;
 
+// 0, and the record's columns at the front of `top`; or 2, or 1, or 3.
 #[no_mangle]
 pub extern "C" fn mpegh_base_read(body: &[u8], top: &mut [u16]) -> u64
     ensures { λ r. ⌜ HostReads kind topColumns topRow (now (body .entry)) (now (top .entry)) [] r (now (top .exit)) [] ⌝ }
@@ -44,6 +45,7 @@ fn unread(body: &[u8]) -> u64
     }
 }
 
+// k; or 2, or 1. There are no tables, so `rows` is left as it was.
 #[no_mangle]
 pub extern "C" fn mpegh_base_measure(body: &[u8], rows: &mut [u16]) -> u64
     ensures { λ r. ⌜ HostMeasures kind (now (body .entry)) (now (rows .entry)) r (now (rows .exit)) ⌝ }
@@ -55,6 +57,7 @@ pub extern "C" fn mpegh_base_measure(body: &[u8], rows: &mut [u16]) -> u64
     }
 }
 
+// The reserved bits at 0; or 2, or 1.
 #[no_mangle]
 pub extern "C" fn mpegh_base_tally(body: &[u8]) -> u64
     ensures { λ r. ⌜ HostTallies kind (now (body .entry)) r ⌝ }
@@ -62,6 +65,7 @@ pub extern "C" fn mpegh_base_tally(body: &[u8]) -> u64
     codes::tallied_code(base::tally(body))
 }
 
+// The length, and the body at the front of `out`; or a fault, or 10, or 4.
 #[no_mangle]
 pub extern "C" fn mpegh_base_write(
     profile_level_indication: u8,

@@ -1,4 +1,4 @@
-// The multi-stream body for hosts.
+// The multi-stream body (kind 4) for hosts: numbers and slices in, one number out.
 ghost use mathlib.Core.Path.{_≡_};
 ghost use mathlib.Core.List.{[], _∷_};
 ghost use Rattle.wire.specs.Prog.{span};
@@ -16,6 +16,7 @@ use multi_stream::rows::TOP_COLUMNS;
 use wire::rows::Payload;
 use wire::rows::put_row;
 
+// 0, the record's columns at the front of `top` and the groups in table 8; or 2, or 1, or 3.
 #[no_mangle]
 pub extern "C" fn mpegh_multi_stream_read(body: &[u8], top: &mut [u16], groups: &mut [u16]) -> u64
     ensures { λ r. ⌜ HostReads kind topColumns topRow (now (body .entry)) (now (top .entry)) (now (groups .entry) ∷ []) r (now (top .exit)) (now (groups .exit) ∷ []) ⌝ }
@@ -45,6 +46,7 @@ fn unread(body: &[u8]) -> u64
     }
 }
 
+// k, and the rows of table 8 at the front of `rows`; or 2, or 1, or 3.
 #[no_mangle]
 pub extern "C" fn mpegh_multi_stream_measure(body: &[u8], rows: &mut [u16]) -> u64
     ensures { λ r. ⌜ HostMeasures kind (now (body .entry)) (now (rows .entry)) r (now (rows .exit)) ⌝ }
@@ -63,6 +65,7 @@ pub extern "C" fn mpegh_multi_stream_measure(body: &[u8], rows: &mut [u16]) -> u
     }
 }
 
+// The reserved bits at 0; or 2, or 1.
 #[no_mangle]
 pub extern "C" fn mpegh_multi_stream_tally(body: &[u8]) -> u64
     ensures { λ r. ⌜ HostTallies kind (now (body .entry)) r ⌝ }
@@ -70,6 +73,7 @@ pub extern "C" fn mpegh_multi_stream_tally(body: &[u8]) -> u64
     codes::tallied_code(multi_stream::tally(body))
 }
 
+// The length, and the body at the front of `out`; or a fault, or 10, or 4.
 #[no_mangle]
 pub extern "C" fn mpegh_multi_stream_write(
     this_stream_id: u8,

@@ -1,4 +1,4 @@
-// The text label body for hosts.
+// The text label body (kind 3) for hosts: numbers and slices in, one number out.
 ghost use mathlib.Core.Path.{_≡_};
 ghost use mathlib.Core.List.{[], _∷_};
 ghost use Rattle.wire.specs.Prog.{span};
@@ -14,6 +14,7 @@ use text_label::rows::TOP_COLUMNS;
 use wire::rows::Payload;
 use wire::rows::put_row;
 
+// 0, the record's columns at the front of `top`, the languages in table 6 and their entries in table 7; or 2, or 1, or 3.
 #[no_mangle]
 pub extern "C" fn mpegh_text_label_read(
     body: &[u8],
@@ -48,6 +49,7 @@ fn unread(body: &[u8]) -> u64
     }
 }
 
+// k, and the rows of tables 6 and 7 at the front of `rows`; or 2, or 1, or 3.
 #[no_mangle]
 pub extern "C" fn mpegh_text_label_measure(body: &[u8], rows: &mut [u16]) -> u64
     ensures { λ r. ⌜ HostMeasures kind (now (body .entry)) (now (rows .entry)) r (now (rows .exit)) ⌝ }
@@ -66,6 +68,7 @@ pub extern "C" fn mpegh_text_label_measure(body: &[u8], rows: &mut [u16]) -> u64
     }
 }
 
+// The reserved bits at 0; or 2, or 1.
 #[no_mangle]
 pub extern "C" fn mpegh_text_label_tally(body: &[u8]) -> u64
     ensures { λ r. ⌜ HostTallies kind (now (body .entry)) r ⌝ }
@@ -73,6 +76,7 @@ pub extern "C" fn mpegh_text_label_tally(body: &[u8]) -> u64
     codes::tallied_code(text_label::tally(body))
 }
 
+// The length, and the body at the front of `out`; or a fault, or 10, or 4.
 #[no_mangle]
 pub extern "C" fn mpegh_text_label_write(
     scene_info_id: u8,
