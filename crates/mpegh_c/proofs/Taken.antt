@@ -1,8 +1,23 @@
--- A host takes out of a code what was put in, as the inline functions of include/mpegh.h do: the number, its value, and of number 3 the table and its rows.
-use Prim.Native.Nat.{ℕ, _/_, _%_, _^_, _<_}
-use mathlib.Core.Path.{_≡_}
+-- A host takes out of a code what was put in, as the inline functions of include/mpegh.h do: the number, its value, and of number 3 the table and its rows;
+-- and so the low 8 bits of what an entry point answers are document 01's number.
+use Prim.Native.Nat.{ℕ, _/_, _%_, _^_, _<_, _≤_}
+use mathlib.Core.List.{List, [], _∷_}
+use mathlib.Core.Bool.{Bool, true, false}
+use mathlib.Core.Path.{_≡_, refl, ap, _∙_}
 use native.Mathlib.Omega.{arith}
-use Rattle.mpegh_c.specs.Code.{code, tableCode}
+use lib.ListN.{length}
+use lib.Dec.{leb}
+use borrow.Author.Tests.{le-leb}
+use Rattle.wire.specs.Act.{Settled, fault, image, settle}
+use Rattle.wire.specs.declared.pen.Fault.the-variants as F
+use Rattle.frame.specs.Numbers.{Answer, accepted, refused, number, shorts, refusal, faultNumber, written}
+use Rattle.frame.specs.Kind.{Kind, Lent}
+use Rattle.frame.specs.Entry.{Sound, Sizes, leaves, onto, put, whole, judging, reading, sizes, measuring, tallying, writing}
+use Rattle.frame.proofs.Judged.{Judged, sound, cut-short, over-long, judge, View, is-read, lacks, is-short, is-long, view}
+use Rattle.mpegh_c.specs.Code.{code, tableCode, valuesCode, answerCode}
+use Rattle.mpegh_c.specs.Host.{Hosted, topped, rowsOf, sized, hostReading, hostMeasuring, HostReads, HostMeasures, HostTallies, HostWrites}
+
+-- ---- a code
 
 module _ (n v : ℕ) (h : n < 256) where
   pub number-taken : code n v % 256 ≡ n
@@ -11,12 +26,92 @@ module _ (n v : ℕ) (h : n < 256) where
   pub value-taken : v < 2 ^ 56 → code n v / 256 ≡ v
   value-taken l = omega arith
 
-module _ (n t r : ℕ) (h : n < 256) (l : t < 2 ^ 24) where
+module _ (n t r : ℕ) (h : n < 256) where
   pub table-number-taken : tableCode n t r % 256 ≡ n
   table-number-taken = omega arith
 
-  pub table-taken : tableCode n t r / 256 % 2 ^ 24 ≡ t
-  table-taken = omega arith
+  pub table-taken : t < 2 ^ 24 → tableCode n t r / 256 % 2 ^ 24 ≡ t
+  table-taken l = omega arith
 
-  pub rows-taken : r < 2 ^ 32 → tableCode n t r / 2 ^ 32 ≡ r
-  rows-taken m = omega arith
+  pub rows-taken : t < 2 ^ 24 → r < 2 ^ 32 → tableCode n t r / 2 ^ 32 ≡ r
+  rows-taken l m = omega arith
+
+-- ---- an answer
+
+values-taken : (n : ℕ) (vs : List ℕ) → n < 256 → valuesCode n vs % 256 ≡ n
+values-taken n [] h = omega arith
+values-taken n (v ∷ []) h = number-taken n v h
+values-taken n (t ∷ r ∷ vs) h = table-number-taken n t r h
+
+pub answer-taken : (a : Answer ℕ) → number a < 256 → answerCode a % 256 ≡ number a
+unfolding number
+answer-taken (accepted v) h = number-taken 0 v h
+answer-taken (refused x) h = values-taken (x .number) (x .values) h
+
+topped-taken : {Top : Type 0} (row : Top → List ℕ) (top : List ℕ) (a : Answer Top) (after : Lent) → number a < 256 → topped row top (leaves a after) .code % 256 ≡ number a
+unfolding number
+topped-taken row top (accepted t) after h = number-taken 0 0 h
+topped-taken row top (refused x) after h = values-taken (x .number) (x .values) h
+
+sized-taken : (rows : List ℕ) (a : Answer Sizes) → ((z : Sizes) → a ≡ accepted z → length (rowsOf (z .tables)) ≤ length rows) → number a < 256 → sized rows a .code % 256 ≡ number a
+unfolding number
+sized-taken rows (accepted z) h l = rw (le-leb _ _ (h z refl), sized) (number-taken 0 (z .before) l)
+sized-taken rows (refused x) h l = values-taken (x .number) (x .values) l
+
+put-small : (out : List ℕ) (x : Settled) → number (put out x .answer) < 256
+unfolding put number written faultNumber
+put-small out (fault F.Field n) = omega arith
+put-small out (fault F.Range n) = omega arith
+put-small out (fault F.Empty n) = omega arith
+put-small out (fault F.Scope n) = omega arith
+put-small out (fault F.Auxiliary n) = omega arith
+put-small out (image b) = go (leb (length b) 65535) refl (leb (length b) (length out)) refl
+  where
+    go : (c : Bool) → leb (length b) 65535 ≡ c → (d : Bool) → leb (length b) (length out) ≡ d → number (put out (image b) .answer) < 256
+    go true p true q = rw (p, q, put) (omega arith)
+    go true p false q = rw (p, q, put) (omega arith)
+    go false p d q = rw (p, put) (omega arith)
+
+-- ---- an entry point: its numbers are below 256
+
+module _ {Tree Top Value : Type 0} (K : Kind Tree Top Value) where
+  judged-small : {A : Type 0} (f : Sound Tree → A) (body : List ℕ) → number (onto f (judging K body)) < 256
+  unfolding number onto refusal shorts
+  judged-small f body = go (judge K body)
+    where
+      go : Judged K body → number (onto f (judging K body)) < 256
+      go (sound s j h r) = rw j (omega arith)
+      go (cut-short x j h r) = rw j (omega arith)
+      go (over-long j h) = rw j (omega arith)
+
+  read-small : (body : List ℕ) (lent : Lent) → number (reading K body lent .answer) < 256
+  unfolding number refusal shorts
+  read-small body lent = go (view K body lent)
+    where
+      go : View K body lent → number (reading K body lent .answer) < 256
+      go (is-read s j h e) = rw e (omega arith)
+      go (lacks s n j h e) = rw e (omega arith)
+      go (is-short x j e) = rw e (omega arith)
+      go (is-long h e) = rw e (omega arith)
+
+  pub tally-told : {body : List ℕ} {n : ℕ} → HostTallies K body n → n % 256 ≡ number (tallying K body)
+  unfolding tallying
+  tally-told {body} w = ap (λ (m : ℕ). m % 256) (w .promised) ∙ answer-taken (tallying K body) (judged-small (λ s. K .zeros (s .tree)) body)
+
+  pub write-told : {top : Top} {lent : Lent} {store out after : List ℕ} {n : ℕ} → HostWrites K top lent store out n after → n % 256 ≡ number (writing K top lent store out .answer)
+  unfolding writing
+  write-told {top} {lent} {store} {out} w = ap (λ (m : ℕ). m % 256) (w .answers) ∙ answer-taken (writing K top lent store out .answer) (put-small out (settle (whole K top lent store) 0))
+
+  -- where there is room for the record
+  pub read-told : {columns : ℕ} {row : Top → List ℕ} {body top top′ : List ℕ} {lent after : Lent} {n : ℕ} → columns ≤ length top → HostReads K columns row body top lent n top′ after
+      → n % 256 ≡ number (reading K body lent .answer)
+  unfolding hostReading
+  read-told {columns} {row} {body} {top} {lent = lent} h w =
+      let e : hostReading K columns row body top lent ≡ topped row top (reading K body lent) = rw (le-leb _ _ h, hostReading) refl in
+      ap (λ (o : Hosted). o .code % 256) (w .promised ∙ e) ∙ topped-taken row top (reading K body lent .answer) (reading K body lent .tables) (read-small body lent)
+
+  -- where there is room for the counts
+  pub measure-told : {body rows rows′ : List ℕ} {n : ℕ} → ((z : Sizes) → measuring K body ≡ accepted z → length (rowsOf (z .tables)) ≤ length rows) → HostMeasures K body rows n rows′
+      → n % 256 ≡ number (measuring K body)
+  unfolding hostMeasuring measuring
+  measure-told {body} {rows} h w = ap (λ (o : Hosted). o .code % 256) (w .promised) ∙ sized-taken rows (measuring K body) h (judged-small (sizes K) body)
