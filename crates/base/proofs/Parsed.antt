@@ -1,6 +1,6 @@
 -- The reading program of the base body: what is left of it after each byte, what a run that is done says of the body, and what is known of a body that was
 -- measured.
-use Prim.Native.Nat.{ℕ, _+_, _-_, _≤_, _<_}
+use Prim.Native.Nat.{ℕ, _+_, _-_, _<_}
 use mathlib.Core.Path.{_≡_, refl, sym, ap, _∙_}
 use mathlib.Core.List.{List}
 use mathlib.Core.Bool.{true, false}
@@ -10,14 +10,13 @@ use lib.Dec.{eqb}
 use Rattle.wire.specs.Bits.{part}
 use Rattle.wire.specs.Prog.{Prog, Out, ret, u8, pass, _>>=_, done, short, run, span}
 use Rattle.wire.specs.Reads.{shortOf, endOf, isDone, posOf}
-use Rattle.wire.specs.declared.reads.Short.{Short}
 use Rattle.wire.specs.declared.rows.Payload.{Payload}
 use Rattle.wire.proofs.Runs.{run-split, run-ret}
-use Rattle.wire.proofs.Walk.{From, onward, cut-off, finished, as-done, as-short, is-done, byte-taken, run-taken}
+use Rattle.wire.proofs.Walk.{From, onward, cut-off, finished, is-done, byte-taken, run-taken}
 use Rattle.frame.specs.Numbers.{accepted}
-use Rattle.frame.specs.Entry.{too-short, needs, sizes, tail, Measures}
+use Rattle.frame.specs.Entry.{needs, sizes, tail, Measures}
 use Rattle.frame.specs.Sight.{Tops}
-use Rattle.frame.proofs.Entries.{measures-short, measures-done, Known, known, tops-known}
+use Rattle.frame.proofs.Entries.{Known, known, tops-known}
 use Rattle.base.specs.declared.rows.CompatibleSets.{CompatibleSets}
 use Rattle.base.specs.declared.rows.MpegH3dAudio.{MpegH3dAudio}
 use Rattle.base.specs.Rows.{absentSets, listedSets, retrail}
@@ -91,15 +90,10 @@ body-run s {m} {k} e =
     let (q, n) = run-ret _ s (x .middle) (x .second) in
     body-so s (x .value) h₂ (x .first) q n
 
--- what the walk along a body says is what it needs
-module _ (body : List ℕ) (h : length body ≤ 65535) where
-  pub measures-walked : {k : ℕ} → done tt k ≡ endOf (run parse body 0) → Measures kind body (accepted (sized k))
-  unfolding kind sizes needs
-  measures-walked w = let (t, e, q) = as-done (λ (t : MpegH3dAudio). tt) (run parse body 0) (sym w) in measures-done kind body h e
-
-  pub measures-cut : {x : Short} → short x ≡ endOf (run parse body 0) → Measures kind body (too-short x)
-  unfolding kind
-  measures-cut w = measures-short kind body h (as-short (λ (t : MpegH3dAudio). tt) (run parse body 0) (sym w))
+-- the walk along a body says what it needs
+pub sizes-are : (t : MpegH3dAudio) (k : ℕ) → sizes kind (record { tree = t; before = k }) ≡ sized k
+unfolding kind sizes needs
+sizes-are t k = refl
 
 -- ---- a body that was measured: its record
 

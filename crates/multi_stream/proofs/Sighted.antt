@@ -10,16 +10,13 @@ use lib.Dec.{leb, eqb}
 use lib.Seq.{sets, getD-append-seam, getD-append-add}
 use Rattle.wire.specs.Bits.{part}
 use Rattle.wire.specs.Prog.{done, run, many}
-use Rattle.wire.specs.Reads.{mapOut, isDone, rowsOf, Summed}
-use Rattle.wire.specs.declared.reads.Short.{Short}
-use Rattle.wire.specs.declared.reads.Sum.the-variants as S
+use Rattle.wire.specs.Reads.{mapOut, isDone, rowsOf}
 use Rattle.wire.specs.declared.rows.Payload.{Payload}
-use Rattle.wire.proofs.Walk.{as-done, as-short}
 use Rattle.wire.proofs.Tables.{rows-stored}
 use Rattle.frame.specs.Numbers.{accepted}
-use Rattle.frame.specs.Entry.{too-short, Sizes, needs, first, others, room, lacking, filled, sizes, tail, Measures}
+use Rattle.frame.specs.Entry.{needs, first, others, room, lacking, filled, sizes, tail, Measures}
 use Rattle.frame.specs.Sight.{Tops, Fills}
-use Rattle.frame.proofs.Entries.{measures-short, measures-done, Known, known, tops-known, fills-known}
+use Rattle.frame.proofs.Entries.{firstRows, Known, known, tops-known, fills-known}
 use Rattle.multi_stream.specs.declared.rows.MultiStreamGroup.{MultiStreamGroup}
 use Rattle.multi_stream.specs.declared.rows.MainStream.{MainStream}
 use Rattle.multi_stream.specs.declared.rows.MpegH3dAudioMultiStream.{MpegH3dAudioMultiStream}
@@ -34,21 +31,6 @@ use Rattle.multi_stream.proofs.Parsed.{body-run, Groups, groups-run, re
 pub sizes-are : (t : MultiStream) (k : ℕ) → sizes kind (record { tree = t; before = k }) ≡ sized (length (groupsOf (t .main))) k
 unfolding sizes kind tables needs
 sizes-are t k = λ i. sized (length-map (groupsOf (t .main)) row i) k
-
--- what the walk along a body says is what it needs
-module _ (body : List ℕ) (h : length body ≤ 65535) where
-  pub measures-walked : {n k : ℕ} → Summed parse (λ t. length (groupsOf (t .main))) 127 body 0 (S.Got n k) → Measures kind body (accepted (sized n k))
-  unfolding kind
-  measures-walked {n} {k} w =
-      let (t, e, q) = as-done (λ (t : MultiStream). length (groupsOf (t .main))) (run parse body 0) (sym (w .is)) in
-      rw (← q, ← sizes-are t k) (measures-done kind body h e)
-
-  pub measures-cut : {x : Short} → Summed parse (λ t. length (groupsOf (t .main))) 127 body 0 (S.Short x) → Measures kind body (too-short x)
-  unfolding kind
-  measures-cut w = measures-short kind body h (as-short (λ (t : MultiStream). length (groupsOf (t .main))) (run parse body 0) (sym (w .is)))
-
-abbrev firstRows : Sizes → ℕ
-firstRows z = elim (z .tables) [ [] ↦ 0 | n ∷ ns ↦ n .rows ]
 
 -- table 8 has the rows that it needs, or not
 pub has-room : (t : List ℕ) (n : ℕ) → leb n (length t / groupColumns) ≡ true → lacking (needed n) (t ∷ []) ≡ none

@@ -22,10 +22,10 @@ use Rattle.wire.proofs.Loops.{many-long, sum-onward, sum-cut-off}
 use Rattle.wire.proofs.Tables.{flat-of-map, rows-stored}
 use Rattle.frame.specs.declared.Refusal.{Refusal}
 use Rattle.frame.specs.Numbers.{accepted, refused, refusal}
-use Rattle.frame.specs.Entry.{too-short, Sizes, Need, needs, first, others, room, lacking, filled, tail, judging, sizes, measuring, Measures}
+use Rattle.frame.specs.Entry.{too-short, Sizes, needs, first, others, room, lacking, filled, tail, judging, sizes, measuring, Measures}
 use Rattle.frame.specs.Sight.{Tops, Roomy, Fills}
 use Rattle.frame.proofs.Judged.{refused-onto}
-use Rattle.frame.proofs.Entries.{measures-short, measures-done, Known, known, tops-known, fills-known}
+use Rattle.frame.proofs.Entries.{firstRows, measures-short, measures-done, Known, known, tops-known, fills-known}
 use Rattle.labels.specs.declared.rows.TextLabelEntry.{TextLabelEntry}
 use Rattle.labels.specs.Rows.{entryColumns, entryRow, entryOf}
 use Rattle.text_label.specs.declared.parsing.Head.{Head}
@@ -117,10 +117,6 @@ flat-in (l ∷ ls) = ap (λ (x : List ℕ). colsOf l ++ x) (flat-in ls) ∙ sym 
 
 -- ---- a body that was measured: its languages stand behind the second byte
 
-abbrev firstRows : List Need → ℕ
-firstRows [] = 0
-firstRows (n ∷ ns) = n .rows
-
 module _ (body : List ℕ) {l n k : ℕ} (m : Measures kind body (accepted (sized l n k))) where
   knows : Known kind body (sized l n k)
   knows = known kind body m
@@ -131,7 +127,7 @@ module _ (body : List ℕ) {l n k : ℕ} (m : Measures kind body (accepted (size
 
   count-is : length (knows .sound .tree .languages) ≡ l
   unfolding kind
-  count-is = ap (λ (z : Sizes). firstRows (z .tables)) (sym (sizes-are (knows .sound .tree) (knows .sound .before)) ∙ knows .sized)
+  count-is = ap firstRows (sym (sizes-are (knows .sound .tree) (knows .sound .before)) ∙ knows .sized)
 
   pub head-measured : 2 ≤ length body
   head-measured = runs .inside

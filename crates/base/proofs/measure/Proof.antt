@@ -1,9 +1,11 @@
 -- `base::measure` meets its contract: where the walk along the body ends.
 use mathlib.Core.Path.{sym, ap, _∙_}
 use Rattle.wire.specs.Reads.{endsOut}
-use Rattle.frame.proofs.Entries.{measures-long}
+use Rattle.frame.proofs.Entries.{measures-long, measures-by, measures-cut}
+use Rattle.base.specs.declared.rows.MpegH3dAudio.{MpegH3dAudio}
 use Rattle.base.specs.Write.{kind}
-use Rattle.base.proofs.Parsed.{measures-walked, measures-cut}
+use Rattle.base.specs.Contract.{sized}
+use Rattle.base.proofs.Parsed.{sizes-are}
 use borrow.Author.Needs.{needs}
 use Rattle.base.proofs.measure.Statement.{statement}
 use Rattle.base.proofs.measure.Tie as tie
@@ -22,12 +24,14 @@ enum-known-e-2 : tie.Need-enum-known-e-2
 enum-known-e-2 c = search needs
 
 returns-2 : tie.Need-returns-2
+unfolding kind
 returns-2 c =
-    measures-walked _ (c .before .before .before .before .if1 .left) (sym (ap endsOut (c .before .e .given .1)) ∙ c .before .before .before .end .ensures)
+    measures-by kind (λ (t : MpegH3dAudio). tt) _ (c .before .before .before .before .if1 .left) (λ u k. sized k) sizes-are (sym (ap endsOut (c .before .e .given .1)) ∙ c .before .before .before .end .ensures)
 
 returns-3 : tie.Need-returns-3
+unfolding kind
 returns-3 c =
-    measures-cut _ (c .before .before .before .before .if1 .left) (sym (ap endsOut (c .before .e2 .given .1)) ∙ c .before .before .before .end .ensures)
+    measures-cut kind (λ (t : MpegH3dAudio). tt) _ (c .before .before .before .before .if1 .left) (sym (ap endsOut (c .before .e2 .given .1)) ∙ c .before .before .before .end .ensures)
 
 pub measure-spec : {M : Type 1} → statement M
 measure-spec =
