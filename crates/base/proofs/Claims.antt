@@ -10,14 +10,12 @@ use lib.Count.{ones, onesIn}
 use Rattle.wire.specs.Lists.{Every, all-nil, all-cons, Byte}
 use Rattle.wire.specs.Bits.{part}
 use Rattle.wire.specs.Prog.{done, run, u8, pass, _>>=_, span, Within}
-use Rattle.wire.specs.declared.reads.Short.{Short}
 use Rattle.wire.proofs.Runs.{run-split, run-ret, u8-done}
 use Rattle.frame.specs.declared.Tallied.{Tallied}
 use Rattle.frame.specs.declared.Written.{Written}
-use Rattle.frame.specs.declared.Written.the-variants as W
-use Rattle.frame.specs.Numbers.{accepted, refusal, tallied, written}
-use Rattle.frame.specs.Entry.{too-short, leaves, onto, into, Sizes, needs, lacking, filled, judging, sizes, placing, reading, measuring, tallying, puts, trail, writing, Reads, Measures, Tallies, Writes}
-use Rattle.frame.specs.Claims.{Claims}
+use Rattle.frame.specs.Numbers.{accepted, refuses, refusal, tallied, written}
+use Rattle.frame.specs.Entry.{leaves, onto, into, Sizes, needs, lacking, filled, judging, sizes, placing, reading, measuring, tallying, trail, writing, Reads, Measures, Tallies, Writes}
+use Rattle.frame.specs.Claims.{gives, Claims}
 use Rattle.frame.proofs.Numbers.{refusal-once, tallied-once, written-once}
 use Rattle.frame.proofs.Judged.{not-refused, was, ran-well}
 use Rattle.frame.proofs.Lawful.{Samples}
@@ -31,7 +29,7 @@ use Rattle.base.specs.declared.Measured.{Measured}
 use Rattle.base.specs.declared.Measured.the-variants as M
 use Rattle.base.specs.Rows.{absentSets, listedSets}
 use Rattle.base.specs.Read.{sets, fields, parse}
-use Rattle.base.specs.Bodies.{noSets, noneListed}
+use Rattle.base.proofs.Bodies.{noSets, noneListed}
 use Rattle.base.specs.Tally.{tally}
 use Rattle.base.specs.Write.{value, payloads, kind}
 use Rattle.base.specs.Contract.{read, measured}
@@ -73,7 +71,7 @@ claims = P.claims kind lawful samples
 
 -- what is read writes back the same bytes, at the front of the output and nowhere else
 pub same-bytes : (body out : List ℕ) (m : MpegH3dAudio) → Every Byte body → reading kind body [] ≡ leaves (accepted m) [] → length body ≤ length out
-    → writing kind m [] body out ≡ puts (W.Done (length body)) (body ++ drop (length body) out)
+    → writing kind m [] body out ≡ gives (accepted (length body)) (body ++ drop (length body) out)
 same-bytes body out m b e l = claims .round .writes-what-is-read body [] m [] out b e l
 
 -- two bodies that agree in the Rust's struct and in the trailing bytes are one body
@@ -83,15 +81,15 @@ unfolding kind
 one-body body body′ m m′ b b′ e e′ v t = claims .round .apart body body′ [] [] m m′ [] [] b b′ e e′ (λ i. record { value = v i; trailing = t i })
 
 -- a short refusal stands while the body is shorter than the need that it names
-pub stands : (body more : List ℕ) (x : Short) → reading kind body [] ≡ leaves (too-short x) [] → length (body ++ more) < x .need → length (body ++ more) ≤ 65535
-    → reading kind (body ++ more) [] ≡ leaves (too-short x) []
-stands body more x e l h = claims .more-bytes .short-stands body more [] x e l h
+pub stands : (body more : List ℕ) (n : ℕ) → reading kind body [] ≡ leaves (refuses 1 (n ∷ [])) [] → length (body ++ more) < n → length (body ++ more) ≤ 65535
+    → reading kind (body ++ more) [] ≡ leaves (refuses 1 (n ∷ [])) []
+stands body more n e l h = claims .more-bytes .short-stands body more [] n e l h
 
 -- the trailing run and the sets of a record that was read stand in the body
 pub inside : (body : List ℕ) (m : MpegH3dAudio) → reading kind body [] ≡ leaves (accepted m) [] → Every (Within body) (m .trailing ∷ payloads m)
 unfolding kind payloads
 inside body m e =
-    let (t, q, a, h) = claims .bounded .payloads-inside body [] m [] e in
+    let (s, j, q, a, h) = claims .bounded .payloads-inside body [] m [] e in
     subst (λ (x : MpegH3dAudio). Every (Within body) (m .trailing ∷ payloads x)) q h
 
 -- bit 0x40 of byte 1 is set exactly if there are no sets

@@ -21,9 +21,10 @@ use Rattle.wire.proofs.Fields.{fits-cons}
 use Rattle.frame.specs.Kind.{Held, Lent}
 use Rattle.frame.specs.Entry.{needs, total, filled}
 use Rattle.frame.proofs.Lawful.{Lawful}
+use Rattle.base.specs.declared.rows.CompatibleSets.{CompatibleSets}
 use Rattle.base.specs.declared.rows.MpegH3dAudio.{MpegH3dAudio}
-use Rattle.base.specs.Rows.{retrail, bounds}
-use Rattle.base.specs.Write.{inside, listed, setsActs, acts, Value, value, payloads, kind}
+use Rattle.base.specs.Rows.{absentSets, retrail, bounds}
+use Rattle.base.specs.Write.{inside, listed, setsActs, acts, Value, value, heeded, payloads, kind}
 use Rattle.base.proofs.Stored.{listed-long}
 use Rattle.base.proofs.Format.{isNone, listingActs, headActs, format, format-acts, format-fits, format-reads, format-means, format-spans, placed, record-from}
 
@@ -50,6 +51,31 @@ clean-same m lent store e = ap clean (acts-are m lent store e)
 bytes-same : (m : MpegH3dAudio) (lent : Lent) (store : List ℕ) → inside (m .«compatible_sets») store ≡ true → bytes (acts m lent store) ≡ bytes (format .acts (value m lent store))
 unfolding bytes
 bytes-same m lent store e = ap bytes (acts-are m lent store e)
+
+-- ---- what writing reads decides the actions
+
+acts-heeded : (m : MpegH3dAudio) (lent lent′ : Lent) (store : List ℕ) → acts m lent store ≡ acts (heeded m) lent′ store
+unfolding acts setsActs heeded
+acts-heeded m lent lent′ store = go (m .«compatible_sets» .present) (m .«compatible_sets» .indications)
+  where
+    with-sets : CompatibleSets → MpegH3dAudio
+    with-sets s = record {
+      «profile_level_indication» = m .«profile_level_indication»;
+      «interactivity_enabled» = m .«interactivity_enabled»;
+      «compatible_sets» = s;
+      «reserved_flags» = m .«reserved_flags»;
+      «reserved_layout» = m .«reserved_layout»;
+      «reference_channel_layout» = m .«reference_channel_layout»;
+      trailing = m .trailing;
+    }
+
+    go : (b : Bool) (p : Payload) → acts (with-sets (record { present = b; indications = p })) lent store ≡ acts (with-sets (pick b (record { present = b; indications = p }) absentSets)) lent′ store
+    go true p = refl
+    go false p = refl
+
+trailing-heeded : (m m′ : MpegH3dAudio) → heeded m ≡ heeded m′ → m .trailing ≡ m′ .trailing
+unfolding heeded
+trailing-heeded m m′ e = ap (λ (m : MpegH3dAudio). m .trailing) e
 
 -- ---- what was read
 
@@ -112,5 +138,6 @@ lawful = record {
   held = λ t bs rest d l. holds t (bs ++ rest) (length bs) (length rest) (d .inside) (record-from (d .takes)) (fitting _ (rw (format-means (bs ++ rest) t) at (d .sound))) (omega (arith, length-append bs rest)) l;
   columns = λ t bs rest d l. all-nil;
   ready = λ t bs rest lent d f. clean-same (retrail t (span (length bs) (length rest))) _ (bs ++ rest) (stands (t .«compatible_sets» .present) (t .«compatible_sets» .indications) (bs ++ rest) (d .inside)) ∙ ap (λ (v : Value). clean (format .acts v)) (sym (format-means (bs ++ rest) t)) ∙ d .sound;
+  heeds = λ top top′ lent lent′ store e g. (acts-heeded top lent lent′ store ∙ ap (λ (m : MpegH3dAudio). acts m lent′ store) e ∙ sym (acts-heeded top′ lent′ lent′ store), trailing-heeded top top′ e);
   spells = λ top lent store e. let i = clean-inside top lent store e in record { fits = format-fits (value top lent store); sound = sym (clean-same top lent store i) ∙ e; same = bytes-same top lent store i };
 }

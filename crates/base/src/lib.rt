@@ -16,7 +16,6 @@ use frame::Tallied;
 use frame::Written;
 use rows::MpegH3dAudio;
 use wire::bits;
-use wire::pen::Pen;
 use wire::reads::Ends;
 
 // What reading answers: the top record, its trailing run included.
@@ -85,18 +84,10 @@ fn zero_bits(m: MpegH3dAudio) -> usize
 pub fn write(m: MpegH3dAudio, store: &[u8], out: &mut [u8]) -> Written
     ensures { λ r. ⌜ Writes kind m [] (now (store .entry)) (now (out .entry)) (written r) (now (out .exit)) ⌝ }
 {
-    let p = writing::check(m, store);
-    match p {
-        Pen::Stop(fault, place) => Written::Wrong(fault, place),
-        Pen::At(n) => {
-            if 65535 < n {
-                return Written::TooLong(n);
-            }
-            if out.len() < n {
-                return Written::NoRoom(n);
-            }
-            writing::fill(m, store, out);
-            Written::Done(n)
-        }
-    }
+    let w = frame::judge(writing::check(m, store), out.len());
+    let Written::Done(_) = w else {
+        return w;
+    };
+    writing::fill(m, store, out);
+    w
 }

@@ -1,6 +1,6 @@
 -- What has to be proved of a kind, so that all of Claims holds of it (Proofs): it is a lawful format, and its record, tables and actions are those of the format.
-use Prim.Native.Nat.{ℕ, _+_, _≤_, _<_}
-use mathlib.Core.List.{List, _++_}
+use Prim.Native.Nat.{ℕ, _+_, _*_, _≤_, _<_}
+use mathlib.Core.List.{List, _∷_, _++_}
 use mathlib.Core.Bool.{true}
 use mathlib.Core.Option.{none}
 use mathlib.Core.Path.{_≡_}
@@ -12,12 +12,23 @@ use Rattle.wire.specs.Pen.{clean}
 use Rattle.wire.proofs.Takes.{Takes}
 use Rattle.wire.proofs.Codec.{Codec, Spells}
 use Rattle.frame.specs.Numbers.{accepted}
-use Rattle.frame.specs.Kind.{Kind, Lent, Rows, Held}
-use Rattle.frame.specs.Entry.{leaves, needs, total, lacking, filled, Sizes, reading, measuring, tallying}
+use Rattle.frame.specs.Kind.{Kind, Lent, Rows, Held, Heeded}
+use Rattle.frame.specs.Claims.{Agree, rows-agree}
+use Rattle.frame.specs.Entry.{leaves, needs, total, first, others, lacking, filled, Sizes, reading, measuring, tallying}
 
 -- every row has as many columns as its table
 abbrev pub Shaped : Rows → Type 0
 Shaped r = Every (λ (row : List ℕ). length row ≡ r .columns) (r .rows)
+
+-- tables that agree, one by one
+pub record Agrees (h : Heeded) (hs : List Heeded) (lent lent′ : Lent) : Type 0 where
+  pub long : length (first lent) ≡ length (first lent′)
+  pub same : (i : ℕ) → h .row (first lent) (i * h .columns) ≡ h .row (first lent′) (i * h .columns)
+  pub rest : Agree hs (others lent) (others lent′)
+
+pub agrees : {h : Heeded} {hs : List Heeded} {lent lent′ : Lent} → Agree (h ∷ hs) lent lent′ → Agrees h hs lent lent′
+unfolding first others
+agrees (rows-agree l e r) = record { long = l; same = e; rest = r }
 
 module _ {Tree Top Value : Type 0} (K : Kind Tree Top Value) where
   -- a record that was read, with bs before its trailing run and rest in it
@@ -51,6 +62,9 @@ module _ {Tree Top Value : Type 0} (K : Kind Tree Top Value) where
     -- what was read is written without a fault
     pub ready : (t : Tree) (bs rest : List ℕ) (lent : Lent) → Taken format t bs rest → lacking (needs (K .tables t)) lent ≡ none
         → clean (K .acts (top-of t bs rest) (filled (K .tables t) lent) (bs ++ rest)) ≡ true
+    -- the actions, and the trailing run, are decided by what writing reads
+    pub heeds : (top top′ : Top) (lent lent′ : Lent) (store : List ℕ) → K .heeded top ≡ K .heeded top′ → Agree (K .heededRows) lent lent′
+        → (K .acts top lent store ≡ K .acts top′ lent′ store) × (K .trailing top ≡ K .trailing top′)
     -- actions without a fault are those of the meaning
     pub spells : (top : Top) (lent : Lent) (store : List ℕ) → clean (K .acts top lent store) ≡ true → Spells format (K .acts top lent store) (K .value top lent store)
 

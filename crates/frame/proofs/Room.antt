@@ -1,12 +1,13 @@
--- Room, of every kind: more of it changes only "no room", and 3 is given exactly when a table is short.
+-- Room, of every kind: more of it changes only "no room", 3 is given exactly when a table is short, and behind the rows a table keeps its content.
 use Prim.Native.Nat.{ℕ, zero, suc, _+_, _*_, _/_, _≤_, _<_}
-use mathlib.Core.List.{List, [], _∷_, _++_, map, flatten}
+use mathlib.Core.List.{List, [], _∷_, _++_, flatten}
 use mathlib.Core.Bool.{Bool, true, false}
 use mathlib.Core.Option.{Option, none, some}
-use mathlib.Core.Path.{_≡_, refl, sym, ap, _∙_}
+use mathlib.Core.Path.{_≡_, refl, sym, ap, subst, _∙_}
 use native.Mathlib.Omega.{arith}
 use native.Mathlib.Nat.{le-div-iff-mul-le, mul-zero, zero-mul, suc-mul, add-comm, div-zero, le-refl, le-trans}
 use lib.ListN.{length, drop, length-append, length-drop}
+use lib.Seq.{drop-append-seam}
 use lib.Dec.{leb}
 use borrow.Author.Tests.{leb-true, leb-false, le-leb, lt-leb}
 use Rattle.wire.specs.Lists.{Every, all-cons}
@@ -14,7 +15,7 @@ use Rattle.wire.proofs.Lists.{every-head, every-tail}
 use Rattle.frame.specs.Numbers.{accepted, number}
 use Rattle.frame.specs.Kind.{Kind, Lent, Rows}
 use Rattle.frame.specs.Entry.{no-room, Outcome, leaves, onto, Sizes, Need, needs, first, others, room, lacking, filled, sizes, reading, measuring}
-use Rattle.frame.specs.Claims.{Lowest, this, later, Roomier, none-lent, one-more, More-room}
+use Rattle.frame.specs.Claims.{Lowest, this, later, Kept, all-kept, kept-behind, Roomier, none-lent, one-more, More-room}
 use Rattle.frame.proofs.Judged.{not-refused, short-room, long-room, same-room, answers, View, is-read, lacks, is-short, is-long, view, reads-so, lacks-so, refused-so, was, measured}
 use Rattle.frame.proofs.Lawful.{Shaped, Lawful}
 use Rattle.frame.proofs.More.{judge-long}
@@ -94,15 +95,19 @@ length-flatten c (r ∷ rs) (all-cons e h) = length-append r (flatten rs) ∙ (�
 front-length : (f t : List ℕ) → length f ≤ length t → length (f ++ drop (length f) t) ≡ length t
 front-length f t h = length-append f (drop (length f) t) ∙ omega (arith, length-drop (length f) t)
 
-keeps-length : (rs : List Rows) (lent : Lent) → Every Shaped rs → Fit (needs rs) lent → length lent ≡ length rs → map length (filled rs lent) ≡ map length lent
+behind-kept : (a t : List ℕ) {n : ℕ} → length a ≡ n → drop n (a ++ drop (length a) t) ≡ drop n t
+behind-kept a t e = rw (← e) (drop-append-seam a (drop (length a) t))
+
+keeps : (rs : List Rows) (lent : Lent) → Every Shaped rs → Fit (needs rs) lent → length lent ≡ length rs → Kept (needs rs) lent (filled rs lent)
 unfolding needs filled room first others
-keeps-length [] lent h f n = refl
-keeps-length (r ∷ rs) [] h f n = absurd (omega arith)
-keeps-length (r ∷ rs) (t ∷ ts) h f n =
+keeps [] [] h f n = all-kept
+keeps [] (t ∷ ts) h f n = absurd (omega arith)
+keeps (r ∷ rs) [] h f n = absurd (omega arith)
+keeps (r ∷ rs) (t ∷ ts) h f n =
     let g = fit-head f in
     let w : length (flatten (r .rows)) ≡ length (r .rows) * r .columns = length-flatten (r .columns) (r .rows) (every-head Shaped h) in
     let l : length (flatten (r .rows)) ≤ length t = omega (arith, w, div-fits (length (r .rows)) (length t) (r .columns) (g .0)) in
-    λ i. front-length (flatten (r .rows)) t l i ∷ keeps-length rs ts (every-tail Shaped h) (g .1) (omega arith) i
+    kept-behind (front-length (flatten (r .rows)) t l) (behind-kept (flatten (r .rows)) t w) (keeps rs ts (every-tail Shaped h) (g .1) (omega arith))
 
 module _ {Tree Top Value : Type 0} (K : Kind Tree Top Value) where
   fits-more : (ns : List Need) (lent more : Lent) → Roomier lent more → lacking ns lent ≡ none → lacking ns more ≡ none
@@ -146,15 +151,20 @@ module _ {Tree Top Value : Type 0} (K : Kind Tree Top Value) where
       lacks-so K body lent s (x .need) j (x .found) ∙ (λ i. leaves (no-room (x .table i) (x .rows i)) lent)
 
   pub more-room : Lawful K → More-room K
+  unfolding measuring onto sizes
   more-room L = record {
     kept = λ body lent top after e n.
         let w = was K body lent top after e in
         let t = w .sound .tree in
-        ap (map length) (sym (w .after-is)) ∙ keeps-length (K .tables t) lent (L .shaped t) (none-fit _ lent (w .fits)) (n ∙ sym (L .all-there t));
+        let k = keeps (K .tables t) lent (L .shaped t) (none-fit _ lent (w .fits)) (n ∙ sym (L .all-there t)) in
+        (sizes K (w .sound), ap (onto (sizes K)) (w .judges), subst (Kept (needs (K .tables t)) lent) (w .after-is) k);
     more-room = room-changes;
     same-rows = λ body lent more top after r e.
         let w = was K body lent top after e in (
           K .tables (w .sound .tree),
+          sizes K (w .sound),
+          ap (onto (sizes K)) (w .judges),
+          refl,
           sym (w .after-is),
           reads-so K body more (w .sound) (w .judges) (fits-more _ lent more r (w .fits)) ∙ (λ i. leaves (accepted (w .top-is i)) (filled (K .tables (w .sound .tree)) more)),
         );

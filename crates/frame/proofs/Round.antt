@@ -22,7 +22,7 @@ use Rattle.wire.proofs.Takes.{Takes, run-takes, takes-run, here-append}
 use Rattle.wire.proofs.Acts.{and-both, both-and, clean-append, clean-both, bytes-append, settles, settled}
 use Rattle.wire.proofs.Codec.{Wrote}
 use Rattle.frame.specs.declared.Written.the-variants as W
-use Rattle.frame.specs.Numbers.{Answer, accepted, number, refusal, shorts}
+use Rattle.frame.specs.Numbers.{Answer, accepted, number}
 use Rattle.frame.specs.Kind.{Kind, Lent, Rows, Held}
 use Rattle.frame.specs.Entry.{leaves, Sound, Need, needs, first, others, lacking, filled, tail, judging, reading, puts, trail, whole, writing}
 use Rattle.frame.specs.Claims.{Image, Meaning, meaning, Lendable, Writable, Room, Round}
@@ -247,7 +247,7 @@ module _ {Tree Top Value : Type 0} (K : Kind Tree Top Value) where
         }
 
     accept : (body : List ℕ) (lent : Lent) → Every Byte body → length body ≤ 65535 → Lendable K lent → Room K body lent → (number (reading K body lent .answer) ≡ 0) ↔ Writable K body
-    unfolding number refusal shorts
+    unfolding number
     accept body lent b h l never = (λ e. go (view K body lent) e, λ w. read (w .top) (w .tables) (w .store) (w .written))
       where
         zero-not : {a c : Answer Top} → number a ≡ 0 → a ≡ c → number c ≡ 0

@@ -1,2 +1,3 @@
 pub mod Hosted
 pub mod Taken
+pub mod Claims

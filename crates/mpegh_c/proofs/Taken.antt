@@ -2,18 +2,15 @@
 -- and so the low 8 bits of what an entry point answers are document 01's number.
 use Prim.Native.Nat.{ℕ, _/_, _%_, _^_, _<_, _≤_}
 use mathlib.Core.List.{List, [], _∷_}
-use mathlib.Core.Bool.{Bool, true, false}
 use mathlib.Core.Path.{_≡_, refl, ap, _∙_}
+use mathlib.Core.Logic.{_⊎_, inl, inr}
 use native.Mathlib.Omega.{arith}
 use lib.ListN.{length}
-use lib.Dec.{leb}
 use borrow.Author.Tests.{le-leb}
-use Rattle.wire.specs.Act.{Settled, fault, image, settle}
-use Rattle.wire.specs.declared.pen.Fault.the-variants as F
-use Rattle.frame.specs.Numbers.{Answer, accepted, refused, number, shorts, refusal, faultNumber, written}
+use Rattle.frame.specs.Numbers.{Answer, accepted, refused, number}
 use Rattle.frame.specs.Kind.{Kind, Lent}
-use Rattle.frame.specs.Entry.{Sound, Sizes, leaves, onto, put, whole, judging, reading, sizes, measuring, tallying, writing}
-use Rattle.frame.proofs.Judged.{Judged, sound, cut-short, over-long, judge, View, is-read, lacks, is-short, is-long, view}
+use Rattle.frame.specs.Entry.{Sizes, leaves, put, reading, measuring, tallying, writing}
+use Rattle.frame.proofs.More.{answered}
 use Rattle.mpegh_c.specs.Code.{code, tableCode, valuesCode, answerCode}
 use Rattle.mpegh_c.specs.Host.{Hosted, topped, rowsOf, sized, hostReading, hostMeasuring, HostReads, HostMeasures, HostTallies, HostWrites}
 
@@ -58,49 +55,18 @@ unfolding number
 sized-taken rows (accepted z) h l = rw (le-leb _ _ (h z refl), sized) (number-taken 0 (z .before) l)
 sized-taken rows (refused x) h l = values-taken (x .number) (x .values) l
 
-put-small : (out : List ℕ) (x : Settled) → number (put out x .answer) < 256
-unfolding put number written faultNumber
-put-small out (fault F.Field n) = omega arith
-put-small out (fault F.Range n) = omega arith
-put-small out (fault F.Empty n) = omega arith
-put-small out (fault F.Scope n) = omega arith
-put-small out (fault F.Auxiliary n) = omega arith
-put-small out (image b) = go (leb (length b) 65535) refl (leb (length b) (length out)) refl
-  where
-    go : (c : Bool) → leb (length b) 65535 ≡ c → (d : Bool) → leb (length b) (length out) ≡ d → number (put out (image b) .answer) < 256
-    go true p true q = rw (p, q, put) (omega arith)
-    go true p false q = rw (p, q, put) (omega arith)
-    go false p d q = rw (p, put) (omega arith)
-
--- ---- an entry point: its numbers are below 256
+-- ---- an entry point: of the numbers that it can answer none takes more than 8 bits
 
 module _ {Tree Top Value : Type 0} (K : Kind Tree Top Value) where
-  judged-small : {A : Type 0} (f : Sound Tree → A) (body : List ℕ) → number (onto f (judging K body)) < 256
-  unfolding number onto refusal shorts
-  judged-small f body = go (judge K body)
-    where
-      go : Judged K body → number (onto f (judging K body)) < 256
-      go (sound s j h r) = rw j (omega arith)
-      go (cut-short x j h r) = rw j (omega arith)
-      go (over-long j h) = rw j (omega arith)
-
-  read-small : (body : List ℕ) (lent : Lent) → number (reading K body lent .answer) < 256
-  unfolding number refusal shorts
-  read-small body lent = go (view K body lent)
-    where
-      go : View K body lent → number (reading K body lent .answer) < 256
-      go (is-read s j h e) = rw e (omega arith)
-      go (lacks s n j h e) = rw e (omega arith)
-      go (is-short x j e) = rw e (omega arith)
-      go (is-long h e) = rw e (omega arith)
-
   pub tally-told : {body : List ℕ} {n : ℕ} → HostTallies K body n → n % 256 ≡ number (tallying K body)
-  unfolding tallying
-  tally-told {body} w = ap (λ (m : ℕ). m % 256) (w .promised) ∙ answer-taken (tallying K body) (judged-small (λ s. K .zeros (s .tree)) body)
+  tally-told {body} w = ap (λ (m : ℕ). m % 256) (w .promised) ∙ answer-taken (tallying K body) (omega (arith, answered K .tallied-numbers body))
 
   pub write-told : {top : Top} {lent : Lent} {store out after : List ℕ} {n : ℕ} → HostWrites K top lent store out n after → n % 256 ≡ number (writing K top lent store out .answer)
-  unfolding writing
-  write-told {top} {lent} {store} {out} w = ap (λ (m : ℕ). m % 256) (w .answers) ∙ answer-taken (writing K top lent store out .answer) (put-small out (settle (whole K top lent store) 0))
+  write-told {top} {lent} {store} {out} w = ap (λ (m : ℕ). m % 256) (w .answers) ∙ answer-taken (writing K top lent store out .answer) (small (answered K .written-numbers top lent store out))
+    where
+      small : {n : ℕ} → (n ≡ 0) ⊎ ((4 ≤ n) × (n ≤ 10)) → n < 256
+      small (inl e) = omega (arith, e)
+      small (inr h) = omega (arith, h .1)
 
   -- where there is room for the record
   pub read-told : {columns : ℕ} {row : Top → List ℕ} {body top top′ : List ℕ} {lent after : Lent} {n : ℕ} → columns ≤ length top → HostReads K columns row body top lent n top′ after
@@ -108,10 +74,10 @@ module _ {Tree Top Value : Type 0} (K : Kind Tree Top Value) where
   unfolding hostReading
   read-told {columns} {row} {body} {top} {lent = lent} h w =
       let e : hostReading K columns row body top lent ≡ topped row top (reading K body lent) = rw (le-leb _ _ h, hostReading) refl in
-      ap (λ (o : Hosted). o .code % 256) (w .promised ∙ e) ∙ topped-taken row top (reading K body lent .answer) (reading K body lent .tables) (read-small body lent)
+      ap (λ (o : Hosted). o .code % 256) (w .promised ∙ e) ∙ topped-taken row top (reading K body lent .answer) (reading K body lent .tables) (omega (arith, answered K .read-numbers body lent))
 
   -- where there is room for the counts
   pub measure-told : {body rows rows′ : List ℕ} {n : ℕ} → ((z : Sizes) → measuring K body ≡ accepted z → length (rowsOf (z .tables)) ≤ length rows) → HostMeasures K body rows n rows′
       → n % 256 ≡ number (measuring K body)
-  unfolding hostMeasuring measuring
-  measure-told {body} {rows} h w = ap (λ (o : Hosted). o .code % 256) (w .promised) ∙ sized-taken rows (measuring K body) h (judged-small (sizes K) body)
+  unfolding hostMeasuring
+  measure-told {body} {rows} h w = ap (λ (o : Hosted). o .code % 256) (w .promised) ∙ sized-taken rows (measuring K body) h (omega (arith, answered K .measured-numbers body))

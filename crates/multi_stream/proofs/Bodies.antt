@@ -1,6 +1,6 @@
 -- Records and rows of multi-stream bodies: what the claims and the starred list compare with.
 use Prim.Native.Nat.{ℕ}
-use mathlib.Core.List.{List, [], _∷_}
+use mathlib.Core.List.{List, _∷_}
 use Rattle.wire.specs.Prog.{span}
 use Rattle.multi_stream.specs.declared.rows.MpegH3dAudioMultiStream.{MpegH3dAudioMultiStream}
 use Rattle.multi_stream.specs.Rows.{presentMain}

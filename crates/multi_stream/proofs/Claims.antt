@@ -1,42 +1,41 @@
 -- What is claimed of the multi-stream body: every claim of every kind (frame, specs/Claims), and the few that matter most spelled out for its record and table 8.
-use Prim.Native.Nat.{ℕ, _+_, _*_, _/_, _≤_, _<_}
+use Prim.Native.Nat.{ℕ, _+_, _/_, _≤_, _<_}
 use mathlib.Core.Path.{_≡_, refl, sym, ap, subst, _∙_}
 use mathlib.Core.List.{List, [], _∷_, _++_, map, flatten}
+use mathlib.Core.Bool.{false}
 use mathlib.Core.Logic.{_↔_}
 use mathlib.Core.Option.{Option, none, some}
 use native.Mathlib.Omega.{arith}
 use lib.ListN.{length, getD, drop}
-use lib.Seq.{drop-append-seam}
 use lib.Dec.{lit<}
 use lib.Count.{ones, onesIn}
 use Rattle.wire.specs.Lists.{Every, all-nil, all-cons, each, Byte}
 use Rattle.wire.specs.Prog.{run, u8, many, _>>=_}
+use Rattle.wire.specs.declared.rows.Payload.{Payload}
 use Rattle.wire.proofs.Takes.{run-takes}
-use Rattle.wire.proofs.Tables.{laid-length}
 use Rattle.frame.specs.declared.Tallied.{Tallied}
 use Rattle.frame.specs.declared.Written.{Written}
-use Rattle.frame.specs.declared.Written.the-variants as W
 use Rattle.frame.specs.Kind.{Lent}
-use Rattle.frame.specs.Numbers.{accepted, refusal, tallied, written}
-use Rattle.frame.specs.Entry.{no-room, leaves, onto, into, Sizes, Need, needs, lacking, room, first, others, filled, judging, sizes, placing, reading, measuring, tallying, puts, trail, writing, Reads, Measures, Tallies, Writes}
-use Rattle.frame.specs.Claims.{Claims, Lowest, this, later}
+use Rattle.frame.specs.Numbers.{accepted, refuses, refusal, tallied, written}
+use Rattle.frame.specs.Entry.{no-room, leaves, onto, into, Sizes, Need, needs, lacking, room, first, others, filled, judging, sizes, placing, reading, measuring, tallying, trail, writing, Reads, Measures, Tallies, Writes}
+use Rattle.frame.specs.Claims.{Lowest, this, later, rows-agree, none-read, gives, Claims}
 use Rattle.frame.proofs.Numbers.{refusal-once, tallied-once, written-once}
 use Rattle.frame.proofs.Judged.{not-refused, was, ran-well, measured as was-measured}
 use Rattle.frame.proofs.Lawful.{Samples}
 use Rattle.frame.proofs.Proofs as P
+use Rattle.multi_stream.specs.declared.rows.MultiStreamMain.{MultiStreamMain}
 use Rattle.multi_stream.specs.declared.rows.MpegH3dAudioMultiStream.{MpegH3dAudioMultiStream}
 use Rattle.multi_stream.specs.declared.Sizes as Multi
 use Rattle.multi_stream.specs.declared.Reading.{Reading}
 use Rattle.multi_stream.specs.declared.Reading.the-variants as R
 use Rattle.multi_stream.specs.declared.Measured.{Measured}
 use Rattle.multi_stream.specs.declared.Measured.the-variants as M
-use Rattle.multi_stream.specs.Rows.{groupColumns, row, groupOf, Main, counted, groupsOf, tables}
+use Rattle.multi_stream.specs.Rows.{groupColumns, row, Main, counted, groupsOf, tables}
 use Rattle.multi_stream.specs.Read.{auxiliary, group, main, parse}
-use Rattle.multi_stream.specs.Bodies.{twoGroups, twoRows, noGroups}
+use Rattle.multi_stream.proofs.Bodies.{twoGroups, twoRows, noGroups}
 use Rattle.multi_stream.specs.Tally.{mainTally}
-use Rattle.multi_stream.specs.Write.{groupAt, value, kind}
+use Rattle.multi_stream.specs.Write.{groupAt, value, heeded, kind}
 use Rattle.multi_stream.specs.Contract.{needed, sized, read, measured}
-use Rattle.multi_stream.proofs.Sighted.{row-found}
 use Rattle.multi_stream.proofs.Row.{Once}
 use Rattle.multi_stream.proofs.Laws.{Grouped, taken, rows-in, lawful}
 
@@ -76,7 +75,7 @@ claims = P.claims kind lawful samples
 
 -- what is read writes back the same bytes, at the front of the output and nowhere else
 pub same-bytes : (body groups groups′ out : List ℕ) (m : MpegH3dAudioMultiStream) → Every Byte body → reading kind body (groups ∷ []) ≡ leaves (accepted m) (groups′ ∷ []) → length body ≤ length out
-    → writing kind m (groups′ ∷ []) body out ≡ puts (W.Done (length body)) (body ++ drop (length body) out)
+    → writing kind m (groups′ ∷ []) body out ≡ gives (accepted (length body)) (body ++ drop (length body) out)
 same-bytes body groups groups′ out m b e l = claims .round .writes-what-is-read body (groups ∷ []) m (groups′ ∷ []) out b e l
 
 -- two bodies that agree in the Rust's structs and in the trailing bytes are one body
@@ -101,37 +100,27 @@ unfolding sizes kind tables needs
 sized-so body z e = let (s, j, q) = was-measured kind body z e in (length (map row (groupsOf (s .tree .main))), sym (subst (λ (z : Sizes). sized (length (map row (groupsOf (s .tree .main)))) (z .before) ≡ z) q refl))
 
 pub lacks-room : (body groups : List ℕ) (t r : ℕ)
-    → (reading kind body (groups ∷ []) ≡ leaves (no-room t r) (groups ∷ [])) ↔ ((t ≡ 8) × (k : ℕ) × (measuring kind body ≡ accepted (sized r k)) × (length groups / groupColumns < r))
+    → (reading kind body (groups ∷ []) ≡ leaves (refuses 3 (t ∷ r ∷ [])) (groups ∷ [])) ↔ ((t ≡ 8) × (k : ℕ) × (measuring kind body ≡ accepted (sized r k)) × (length groups / groupColumns < r))
 unfolding room first
 lacks-room body groups t r = (forth, back)
   where
-    forth : reading kind body (groups ∷ []) ≡ leaves (no-room t r) (groups ∷ []) → (t ≡ 8) × (k : ℕ) × (measuring kind body ≡ accepted (sized r k)) × (length groups / groupColumns < r)
+    forth : reading kind body (groups ∷ []) ≡ leaves (refuses 3 (t ∷ r ∷ [])) (groups ∷ []) → (t ≡ 8) × (k : ℕ) × (measuring kind body ≡ accepted (sized r k)) × (length groups / groupColumns < r)
     forth h =
         let (z, e, l) = claims .more-room .no-room body (groups ∷ []) t r .0 h in
         let (n, q) = sized-so body z e in
         let (a, b, c) = low n groups (subst (λ (z : Sizes). Lowest (z .tables) (groups ∷ []) t r) q l) in
         (a, z .before, e ∙ ap accepted (q ∙ ap (λ (n : ℕ). sized n (z .before)) (sym b)), subst (λ (n : ℕ). length groups / groupColumns < n) (sym b) c)
 
-    back : (t ≡ 8) × (k : ℕ) × (measuring kind body ≡ accepted (sized r k)) × (length groups / groupColumns < r) → reading kind body (groups ∷ []) ≡ leaves (no-room t r) (groups ∷ [])
+    back : (t ≡ 8) × (k : ℕ) × (measuring kind body ≡ accepted (sized r k)) × (length groups / groupColumns < r) → reading kind body (groups ∷ []) ≡ leaves (refuses 3 (t ∷ r ∷ [])) (groups ∷ [])
     back (a, k, e, c) = claims .more-room .no-room body (groups ∷ []) t r .1 (sized r k, e, subst (λ (t : ℕ). Lowest (needed r) (groups ∷ []) t r) (sym a) (this c))
 
--- of a table that was read: its rows are the groups, each either in the main stream or with a location, and the rest keeps its content
-pub record Read (groups groups′ : List ℕ) (count : ℕ) : Type 0 where
-  pub once : Every Once (each (groupAt groups′) 0 count)
-  pub kept : drop (count * groupColumns) groups′ ≡ drop (count * groupColumns) groups
+-- of a table that was read: its rows are the groups, each either in the main stream or with a location
+read-part : (groups : List ℕ) (o : Option Main) {bs : List ℕ} → Grouped o bs → Every Once (each (groupAt (flatten (map row (groupsOf o)) ++ drop (length (flatten (map row (groupsOf o)))) groups)) 0 (counted o .part .groups))
+unfolding each
+read-part groups none g = all-nil
+read-part groups (some m) g = rw (rows-in (m .groups) _) (g .once)
 
-behind-kept : (a t : List ℕ) {n : ℕ} → length a ≡ n → drop n (a ++ drop (length a) t) ≡ drop n t
-behind-kept a t e = rw (← e) (drop-append-seam a (drop (length a) t))
-
-read-part : (groups : List ℕ) (o : Option Main) {bs : List ℕ} → Grouped o bs → Read groups (flatten (map row (groupsOf o)) ++ drop (length (flatten (map row (groupsOf o)))) groups) (counted o .part .groups)
-unfolding each flatten
-read-part groups none g = record { once = all-nil; kept = refl }
-read-part groups (some m) g = record {
-  once = rw (rows-in (m .groups) _) (g .once);
-  kept = behind-kept (flatten (map row (m .groups))) groups (laid-length groupColumns groupOf row (λ g. refl) row-found (m .groups));
-}
-
-pub read-table : (body groups groups′ : List ℕ) (m : MpegH3dAudioMultiStream) → reading kind body (groups ∷ []) ≡ leaves (accepted m) (groups′ ∷ []) → Read groups groups′ (m .main .part .groups)
+pub read-table : (body groups groups′ : List ℕ) (m : MpegH3dAudioMultiStream) → reading kind body (groups ∷ []) ≡ leaves (accepted m) (groups′ ∷ []) → Every Once (each (groupAt groups′) 0 (m .main .part .groups))
 unfolding kind filled tables first others
 read-table body groups groups′ m e =
     let w = was kind body (groups ∷ []) m (groups′ ∷ []) e in
@@ -140,7 +129,15 @@ read-table body groups groups′ m e =
     let r = read-part groups (t .main) (taken t _ d) in
     let a = ap (λ (l : Lent). first l) (w .after-is) in
     let n = ap (λ (m : MpegH3dAudioMultiStream). m .main .part .groups) (w .top-is) in
-    subst (λ (n : ℕ). Read groups groups′ n) n (subst (λ (x : List ℕ). Read groups x (counted (t .main) .part .groups)) a r)
+    subst (λ (n : ℕ). Every Once (each (groupAt groups′) 0 n)) n (subst (λ (x : List ℕ). Every Once (each (groupAt x) 0 (counted (t .main) .part .groups))) a r)
+
+-- the columns of a main part that is absent are not read
+abbrev without : ℕ → MultiStreamMain → Payload → MpegH3dAudioMultiStream
+without id p r = record { «this_stream_id» = id; main = record { present = false; part = p }; trailing = r }
+
+pub absent-part : (id : ℕ) (p p′ : MultiStreamMain) (r : Payload) (groups store out : List ℕ) → writing kind (without id p r) (groups ∷ []) store out ≡ writing kind (without id p′ r) (groups ∷ []) store out
+unfolding kind heeded
+absent-part id p p′ r groups store out = claims .writing .unread (without id p r) (without id p′ r) (groups ∷ []) (groups ∷ []) store out refl (rows-agree refl (λ i. refl) none-read)
 
 -- ---- the promises fix the answers themselves
 

@@ -23,7 +23,7 @@ use Rattle.multi_stream.specs.declared.rows.Auxiliary.{Auxiliary}
 use Rattle.multi_stream.specs.declared.rows.MultiStreamGroup.{MultiStreamGroup}
 use Rattle.multi_stream.specs.Rows.{located, absentAuxiliary, presentAuxiliary, groupId, Main, MultiStream, groupsOf}
 use Rattle.multi_stream.specs.Read.{auxiliary, group, mainOf, main, parse}
-use Rattle.multi_stream.specs.Write.{groupByte, auxiliaryActs, meant}
+use Rattle.multi_stream.specs.Write.{groupByte, auxiliaryActs, heededAuxiliary, heededGroup}
 
 -- ---- a group
 
@@ -119,14 +119,14 @@ unfolding groups seen-as As-fits groupPieces steer Then-fits two one-byte opt
 fitting g f = record { once = fits-opt _ _ _ (f .0 .1); read = ap (λ (g : MultiStreamGroup). g .auxiliary) (f .1) }
 
 -- a row that is read has nothing where its location is absent
-placed-meant : (o : Option Pair) → pick (eqb (placed o .present) 1) (placed o) absentAuxiliary ≡ placed o
-placed-meant none = refl
-placed-meant (some x) = refl
+placed-heeded : (o : Option Pair) → heededAuxiliary (placed o) ≡ placed o
+placed-heeded none = refl
+placed-heeded (some x) = refl
 
-pub group-meant : (at : ℕ) (g : MultiStreamGroup) (bs : List ℕ) → Takes group at g bs → meant g ≡ g
-group-meant at g bs t =
+pub group-read : (at : ℕ) (g : MultiStreamGroup) (bs : List ℕ) → Takes group at g bs → heededGroup g ≡ g
+group-read at g bs t =
     let u = map-takes (groupPieces .read) groupIs (rw (← group-reads) at t) in
-    subst (λ (g : MultiStreamGroup). meant g ≡ g) (u .1) (λ i. asGroup (u .0 .0) (placed-meant (u .0 .1) i))
+    subst (λ (g : MultiStreamGroup). heededGroup g ≡ g) (u .1) (λ i. asGroup (u .0 .0) (placed-heeded (u .0 .1) i))
 
 -- ---- the main part
 

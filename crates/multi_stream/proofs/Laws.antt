@@ -6,12 +6,14 @@ use mathlib.Core.Option.{Option, none, some}
 use mathlib.Core.Path.{_≡_, refl, sym, ap, subst, _∙_}
 use native.Mathlib.Omega.{arith}
 use lib.ListN.{length, drop, length-append, length-map}
+use lib.Dec.{leb}
 use borrow.Author.Tests.{le-leb}
 use Rattle.wire.specs.Lists.{Every, all-nil, all-cons, each, Column}
 use Rattle.wire.specs.Bits.{part, bit, field, fit, join}
 use Rattle.wire.specs.Prog.{span, u8, many}
 use Rattle.wire.specs.declared.rows.Payload.{Payload}
-use Rattle.wire.specs.Act.{Act, byte, when, pick, rows}
+use Rattle.wire.specs.Act.{Act, demand, byte, when, pick, rows}
+use Rattle.wire.specs.declared.pen.Fault.the-variants as F
 use Rattle.wire.specs.Pen.{clean, bytes}
 use Rattle.wire.proofs.Fields.{fits-cons}
 use Rattle.wire.proofs.Acts.{and-both, both-and, clean-both}
@@ -19,18 +21,20 @@ use Rattle.wire.proofs.Takes.{Takes, takes-split, takes-ret, map-takes, many-ta
 use Rattle.wire.proofs.Tables.{each-map, each-length, rows-each, map-same, rows-found, laid-length, every-shaped}
 use Rattle.wire.proofs.Codec.{list, Counted, Spells, spells-rows, clean-rows}
 use Rattle.frame.specs.Kind.{Lent, Held}
+use Rattle.frame.specs.Claims.{Agree}
 use Rattle.frame.specs.Entry.{needs, total, first, filled}
-use Rattle.frame.proofs.Lawful.{Taken, Lawful}
+use Rattle.frame.proofs.Lawful.{agrees, Taken, Lawful}
 use Rattle.multi_stream.specs.declared.rows.MultiStreamGroup.{MultiStreamGroup}
 use Rattle.multi_stream.specs.declared.rows.MultiStreamMain.{MultiStreamMain}
+use Rattle.multi_stream.specs.declared.rows.MainStream.{MainStream}
 use Rattle.multi_stream.specs.declared.rows.MpegH3dAudioMultiStream.{MpegH3dAudioMultiStream}
-use Rattle.multi_stream.specs.Rows.{groupColumns, row, groupOf, bounds, Main, MultiStream, counted, groupsOf, top, tables}
+use Rattle.multi_stream.specs.Rows.{groupColumns, row, groupOf, absentMain, bounds, Main, MultiStream, counted, groupsOf, top, tables}
 use Rattle.multi_stream.specs.Read.{group, mainOf, main, parse}
-use Rattle.multi_stream.specs.Write.{groupActs, groupAt, inside, auxByte, groupsByte, rowActs, mainActs, acts, meant, mainValue, value, kind}
-use Rattle.multi_stream.proofs.Format.{placed, groups, group-meant, format, isSome, partListed, mainListed, format-acts, format-fits, fits-format, format-reads, format-means, format-spans}
+use Rattle.multi_stream.specs.Write.{groupActs, groupAt, inside, streamByte, auxByte, groupsByte, rowActs, mainActs, acts, heededGroup, heededRow, heeded, mainValue, value, kind}
+use Rattle.multi_stream.proofs.Format.{placed, groups, group-read, format, isSome, partListed, mainListed, format-acts, format-fits, fits-format, format-reads, format-means, format-spans}
 use Rattle.multi_stream.proofs.Stored.{partActs}
 use Rattle.multi_stream.proofs.Sighted.{row-found}
-use Rattle.multi_stream.proofs.Row.{Once, row-spells, row-ready, small, row-columns, group-once, group-byte}
+use Rattle.multi_stream.proofs.Row.{Once, group-heeded, row-spells, row-ready, small, row-columns, group-once, group-byte}
 
 -- ---- actions without a fault are those of the meaning
 
@@ -48,7 +52,7 @@ listedActs p l = byte (auxByte p) ∷ byte (groupsByte p) ∷ flatMap (groups .a
 value-acts : (p : MultiStreamMain) (t : List ℕ) → partListed (mainValue p t) ≡ listedActs p (mainValue p t .groups)
 unfolding mainValue
 value-acts p t =
-    ap (λ (n : ℕ). byte (auxByte p) ∷ byte (field 1 (p .«reserved_groups») ∷ field 7 n ∷ []) ∷ flatMap (groups .acts) (mainValue p t .groups)) (each-length (λ i. meant (groupAt t i)) 0 (p .groups))
+    ap (λ (n : ℕ). byte (auxByte p) ∷ byte (field 1 (p .«reserved_groups») ∷ field 7 n ∷ []) ∷ flatMap (groups .acts) (mainValue p t .groups)) (each-length (λ i. heededGroup (groupAt t i)) 0 (p .groups))
 
 spells-body : (b : Bool) (id : ℕ) (p : MultiStreamMain) (t : List ℕ) → clean (actsOf b id p t) ≡ true → Spells format (actsOf b id p t) (valueOf b id p t)
 unfolding clean bytes mainValue list Counted
@@ -58,7 +62,7 @@ spells-body true id p t e =
     let (f₀, e₀) = and-both (fit (field 1 1 ∷ field 7 id ∷ [])) _ e in
     let (f₁, e₁) = and-both (fit (auxByte p)) _ e₀ in
     let (f₂, e₂) = and-both (fit (groupsByte p)) _ e₁ in
-    let r = spells-rows groups (rowActs t) (λ i. meant (groupAt t i)) (λ i. row-spells (groupAt t i)) 0 (p .groups) e₂ in
+    let r = spells-rows groups (rowActs t) (λ i. heededGroup (groupAt t i)) (λ i. row-spells (groupAt t i)) 0 (p .groups) e₂ in
     let q : format .acts v ≡ byte (field 1 1 ∷ field 7 id ∷ []) ∷ listedActs p (mainValue p t .groups) =
     format-acts v ∙ ap (λ (q : List Act). byte (field 1 1 ∷ field 7 id ∷ []) ∷ q) (value-acts p t) in
     record {
@@ -73,12 +77,38 @@ spells m lent store e =
     let s = spells-body (m .main .present) (m .«this_stream_id») (m .main .part) (first lent) (and-both (inside (m .main) (first lent)) _ e .1) in
     record { fits = s .fits; sound = s .sound; same = s .same }
 
+-- ---- what writing reads decides the actions
+
+acts-heeded : (m : MpegH3dAudioMultiStream) (lent : Lent) (store : List ℕ) → acts m lent store ≡ acts (heeded m) lent store
+unfolding acts mainActs heeded
+acts-heeded m lent store = go (m .main .present) (m .main .part)
+  where
+    with-main : MainStream → MpegH3dAudioMultiStream
+    with-main x = record { «this_stream_id» = m .«this_stream_id»; main = x; trailing = m .trailing }
+
+    go : (b : Bool) (p : MultiStreamMain) → acts (with-main (record { present = b; part = p })) lent store ≡ acts (with-main (pick b (record { present = b; part = p }) absentMain)) lent store
+    go true p = refl
+    go false p = refl
+
+trailing-heeded : (m m′ : MpegH3dAudioMultiStream) → heeded m ≡ heeded m′ → m .trailing ≡ m′ .trailing
+unfolding heeded
+trailing-heeded m m′ e = ap (λ (m : MpegH3dAudioMultiStream). m .trailing) e
+
+acts-agree : (m : MpegH3dAudioMultiStream) (lent lent′ : Lent) (store : List ℕ) → Agree (record { columns = groupColumns; row = heededRow } ∷ []) lent lent′ → acts m lent store ≡ acts m lent′ store
+unfolding acts mainActs
+acts-agree m lent lent′ store g =
+    let a = agrees g in
+    let r : (k : ℕ) → rowActs (first lent) k ≡ rowActs (first lent′) k =
+    λ k. sym (group-heeded (groupAt (first lent) k)) ∙ ap (λ (l : List ℕ). groupActs (groupOf l 0)) (a .same k) ∙ group-heeded (groupAt (first lent′) k) in
+    λ i. demand F.Range (pick (m .main .present) (leb (m .main .part .groups) (a .long i / groupColumns)) true) ∷ byte (streamByte m)
+    ∷ when (m .main .present) (byte (auxByte (m .main .part)) ∷ byte (groupsByte (m .main .part)) ∷ rows (λ k. r k i) 0 (m .main .part .groups))
+
 -- ---- what was read
 
 -- the groups of a tree: at most as many as the bytes, and with nothing where a location is absent
 pub record Grouped (o : Option Main) (bs : List ℕ) : Type 0 where
   pub few : length (groupsOf o) ≤ length bs
-  pub same : Every (λ g. meant g ≡ g) (groupsOf o)
+  pub same : Every (λ g. heededGroup g ≡ g) (groupsOf o)
   pub once : Every Once (groupsOf o)
 
 main-taken : (b : Bool) {at : ℕ} {o : Option Main} {bs : List ℕ} → Takes (main b) at o bs → Grouped o bs
@@ -91,7 +121,7 @@ main-taken true {bs = bs} t =
     let y = many-takes group _ x in
     let n : length (w .back) ≤ length bs = omega (arith, ap length (u .joined) ∙ length-append (u .front) (u .back), ap length (w .joined) ∙ length-append (w .front) (w .back)) in
     let few : length l ≤ length bs = omega (arith, n, listed-bound group group-byte y) in
-    subst (λ (o : Option Main). Grouped o bs) e (record { few = few; same = listed-every group (λ g. meant g ≡ g) group-meant y; once = listed-every group Once group-once y })
+    subst (λ (o : Option Main). Grouped o bs) e (record { few = few; same = listed-every group (λ g. heededGroup g ≡ g) group-read y; once = listed-every group Once group-once y })
 
 pub taken : (t : MultiStream) (bs : List ℕ) → Takes parse 0 t bs → Grouped (t .main) bs
 unfolding parse
@@ -115,11 +145,11 @@ pub rows-in : (l : List MultiStreamGroup) (behind : List ℕ) → each (groupAt 
 rows-in l behind = rows-found groupColumns groupOf row (λ g. refl) row-found l behind
 
 -- the record and the table mean the tree
-main-laid : (o : Option Main) (lent : Lent) → Every (λ g. meant g ≡ g) (groupsOf o) → pick (counted o .present) (some (mainValue (counted o .part) (table o lent))) none ≡ o
+main-laid : (o : Option Main) (lent : Lent) → Every (λ g. heededGroup g ≡ g) (groupsOf o) → pick (counted o .present) (some (mainValue (counted o .part) (table o lent))) none ≡ o
 unfolding mainValue
 main-laid none lent h = refl
 main-laid (some m) lent h =
-    let q = each-map meant (groupAt (table (some m) lent)) 0 (length (m .groups)) ∙ ap (map meant) (rows-in (m .groups) _) ∙ map-same meant (m .groups) h in
+    let q = each-map heededGroup (groupAt (table (some m) lent)) 0 (length (m .groups)) ∙ ap (map heededGroup) (rows-in (m .groups) _) ∙ map-same heededGroup (m .groups) h in
     λ i. some (record { «reserved_aux» = m .«reserved_aux»; «num_auxiliary_streams» = m .«num_auxiliary_streams»; «reserved_groups» = m .«reserved_groups»; groups = q i })
 
 laid : (t : MultiStream) (bs : List ℕ) (r : Payload) (lent : Lent) (store : List ℕ) → Takes parse 0 t bs → value (top t r) (filled (tables t) lent) store ≡ t
@@ -215,6 +245,10 @@ lawful = record {
   held = λ t bs rest d l. let n = length-append bs rest in held t (length bs) (length rest) (read-so t bs rest d) (omega (arith, n, l)) (omega (arith, n, l));
   columns = λ t bs rest d l. all-cons (read-so t bs rest d .part .columns) all-nil;
   ready = λ t bs rest lent d f. ready t _ lent (bs ++ rest) (subst (format .Fits) (format-means (bs ++ rest) t) (d .fits)) (ap (λ (t : MultiStream). clean (format .acts t)) (sym (format-means (bs ++ rest) t)) ∙ d .sound);
+  heeds = λ top top′ lent lent′ store e g. (
+    acts-heeded top lent store ∙ ap (λ (m : MpegH3dAudioMultiStream). acts m lent store) e ∙ sym (acts-heeded top′ lent store) ∙ acts-agree top′ lent lent′ store g,
+    trailing-heeded top top′ e,
+  );
   spells = spells;
 }
   where

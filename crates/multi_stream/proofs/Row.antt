@@ -1,7 +1,7 @@
 -- A row of table 8: its actions are those of its format, one without a fault is seen at once, what is read of it is written without a fault, and its columns fit.
 use Prim.Native.Nat.{ℕ, suc, _+_, _*_, _≤_, _<_}
 use mathlib.Core.List.{List, [], _∷_}
-use mathlib.Core.Bool.{Bool, true, false, not}
+use mathlib.Core.Bool.{Bool, true, false, not, _&&_}
 use mathlib.Core.Option.{none, some}
 use mathlib.Core.Path.{_≡_, refl, sym, ap, subst, _∙_}
 use native.Mathlib.Omega.{arith}
@@ -9,9 +9,10 @@ use lib.ListN.{length, length-append}
 use lib.Dec.{leb, eqb}
 use borrow.Author.Tests.{lt-ltb, leb-true, le-leb, eqb-true, eqb-false, eq-eqb, ne-eqb, not-true, not-false}
 use Rattle.wire.specs.Lists.{Every, all-nil, all-cons, Column}
-use Rattle.wire.specs.Bits.{part, field, fit}
+use Rattle.wire.specs.Bits.{part, isFlag, field, fit}
 use Rattle.wire.specs.Prog.{u8}
-use Rattle.wire.specs.Act.{Act, byte, when, pick}
+use Rattle.wire.specs.Act.{Act, demand, byte, when, pick}
+use Rattle.wire.specs.declared.pen.Fault.the-variants as F
 use Rattle.wire.specs.Pen.{Quick, clean, bytes}
 use Rattle.wire.proofs.Passes.{quick-clean}
 use Rattle.wire.proofs.Fields.{fits-cons}
@@ -21,9 +22,9 @@ use Rattle.wire.proofs.Codec.{Spells}
 use Rattle.frame.specs.Entry.{first}
 use Rattle.multi_stream.specs.declared.rows.Auxiliary.{Auxiliary}
 use Rattle.multi_stream.specs.declared.rows.MultiStreamGroup.{MultiStreamGroup}
-use Rattle.multi_stream.specs.Rows.{absentAuxiliary, row}
+use Rattle.multi_stream.specs.Rows.{located, absentAuxiliary, row}
 use Rattle.multi_stream.specs.Read.{auxiliary, group}
-use Rattle.multi_stream.specs.Write.{locationFlag, flags, placedOnce, groupByte, locationByte, auxiliaryActs, groupActs, acts, meant, value}
+use Rattle.multi_stream.specs.Write.{locationFlag, flags, placedOnce, groupByte, locationByte, auxiliaryActs, groupActs, acts, heededAuxiliary, heededGroup, value}
 use Rattle.multi_stream.proofs.Format.{placed, location, groups, groups-acts, groups-fit, fitting}
 
 -- ---- a row
@@ -47,18 +48,30 @@ sound g e =
     record { main-flag = leb-true _ _ m; part-flag = leb-true _ _ a; once = eqb-false _ _ (not-true _ p); fits = b; rest = r }
 
 -- the location as writing reads it
-record Meant (a b : Auxiliary) : Type 0 where
-  acts : auxiliaryActs b ≡ auxiliaryActs a
-  there : eqb (b .present) 1 ≡ eqb (a .present) 1
-  read : placed (location b) ≡ b
-
-meant-so : (a : Auxiliary) → Meant a (pick (eqb (a .present) 1) a absentAuxiliary)
+heeded-acts : (a : Auxiliary) → auxiliaryActs (heededAuxiliary a) ≡ auxiliaryActs a
 unfolding auxiliaryActs
-meant-so a = go (eqb (a .present) 1) refl
+heeded-acts a = go (eqb (a .present) 1)
   where
-    go : (b : Bool) → eqb (a .present) 1 ≡ b → Meant a (pick b a absentAuxiliary)
-    go true e = record { acts = refl; there = refl; read = rw e (λ i. record { present = sym (eqb-true (a .present) 1 e) i; location = a .location }) }
-    go false e = record { acts = rw e refl; there = sym e; read = refl }
+    go : (b : Bool) → when b (byte (locationByte (pick b (a .location) (located 0 0))) ∷ []) ≡ when b (byte (locationByte (a .location)) ∷ [])
+    go true = refl
+    go false = refl
+
+pub group-heeded : (g : MultiStreamGroup) → groupActs (heededGroup g) ≡ groupActs g
+unfolding groupActs
+group-heeded g =
+    λ i. demand F.Field (isFlag (g .«is_in_main_stream») && (isFlag (g .auxiliary .present) && flag (eqb (g .auxiliary .present) 1) i)) ∷ demand F.Auxiliary (placedOnce g) ∷ byte (groupByte g) ∷ heeded-acts (g .auxiliary) i
+  where
+    flag : (b : Bool) → pick b (isFlag (pick b (g .auxiliary .location) (located 0 0) .«is_in_ts»)) true ≡ pick b (isFlag (g .auxiliary .location .«is_in_ts»)) true
+    flag true = refl
+    flag false = refl
+
+-- where its flag holds, it is one that can be read
+heeded-placed : (a : Auxiliary) → a .present ≤ 1 → placed (location (heededAuxiliary a)) ≡ heededAuxiliary a
+heeded-placed a h = go (eqb (a .present) 1) refl
+  where
+    go : (b : Bool) → eqb (a .present) 1 ≡ b → placed (location (heededAuxiliary a)) ≡ heededAuxiliary a
+    go true e = rw e (λ i. record { present = sym (eqb-true (a .present) 1 e) i; location = a .location })
+    go false e = let n = eqb-false (a .present) 1 e in let z : 0 ≡ a .present = omega (arith, h, n) in rw e (λ i. record { present = z i; location = located 0 0 })
 
 once : (m p : ℕ) → m ≤ 1 → p ≤ 1 → (m ≡ p → ⊥) → not (eqb m 1) ≡ eqb p 1
 once m p hm hp n = go (eqb p 1) refl
@@ -67,15 +80,15 @@ once m p hm hp n = go (eqb p 1) refl
     go true e = let q : p ≡ 1 = eqb-true p 1 e in ap not (ne-eqb m 1 (λ z. n (z ∙ sym q)))
     go false e = let q = eqb-false p 1 e in let z : m ≡ 1 = omega (arith, hm, hp, n, q) in ap not (eq-eqb m 1 z)
 
-pub row-spells : (g : MultiStreamGroup) → clean (groupActs g) ≡ true → Spells groups (groupActs g) (meant g)
+pub row-spells : (g : MultiStreamGroup) → clean (groupActs g) ≡ true → Spells groups (groupActs g) (heededGroup g)
 unfolding groupActs clean bytes
 row-spells g e =
     let s = sound g e in
-    let m = meant-so (g .auxiliary) in
+    let a = heeded-acts (g .auxiliary) in
     record {
-      fits = groups-fit (meant g) (record { once = once _ _ (s .main-flag) (s .part-flag) (s .once) ∙ sym (m .there); read = m .read });
-      sound = ap clean (groups-acts (meant g)) ∙ both-and (s .fits) (ap clean (m .acts) ∙ s .rest);
-      same = sym (ap bytes (groups-acts (meant g)) ∙ ap (λ (q : List Act). bytes (byte (groupByte g) ∷ q)) (m .acts));
+      fits = groups-fit (heededGroup g) (record { once = once _ _ (s .main-flag) (s .part-flag) (s .once); read = heeded-placed (g .auxiliary) (s .part-flag) });
+      sound = ap clean (groups-acts (heededGroup g)) ∙ both-and (s .fits) (ap clean a ∙ s .rest);
+      same = sym (ap bytes (groups-acts (heededGroup g)) ∙ ap (λ (q : List Act). bytes (byte (groupByte g) ∷ q)) a);
     }
 
 -- ---- a row without a fault, seen at once

@@ -17,7 +17,7 @@ use Rattle.multi_stream.specs.declared.rows.MultiStreamGroup.{MultiStrea
 use Rattle.multi_stream.specs.declared.rows.MultiStreamMain.{MultiStreamMain}
 use Rattle.multi_stream.specs.declared.rows.MainStream.{MainStream}
 use Rattle.multi_stream.specs.declared.rows.MpegH3dAudioMultiStream.{MpegH3dAudioMultiStream}
-use Rattle.multi_stream.specs.Rows.{absentAuxiliary, groupColumns, groupOf, Main, MultiStream, retrail, bounds, top, tables}
+use Rattle.multi_stream.specs.Rows.{located, groupColumns, row, groupOf, absentMain, Main, MultiStream, retrail, bounds, top, tables}
 use Rattle.multi_stream.specs.Read.{parse}
 use Rattle.multi_stream.specs.Tally.{tally}
 
@@ -81,17 +81,28 @@ acts m lent store =
     ∷ byte (streamByte m)
     ∷ mainActs (m .main) (first lent)
 
--- ---- the meaning: the Rust's structs, and of a row the columns that writing reads
+-- ---- what writing reads of a row and of the record: of a part that is absent, nothing but its flag
 
-abbrev pub meant : MultiStreamGroup → MultiStreamGroup
-meant g = record { «group_id» = g .«group_id»; «is_in_main_stream» = g .«is_in_main_stream»; auxiliary = pick (eqb (g .auxiliary .present) 1) (g .auxiliary) absentAuxiliary }
+abbrev pub heededAuxiliary : Auxiliary → Auxiliary
+heededAuxiliary a = record { present = a .present; location = pick (eqb (a .present) 1) (a .location) (located 0 0) }
+
+abbrev pub heededGroup : MultiStreamGroup → MultiStreamGroup
+heededGroup g = record { «group_id» = g .«group_id»; «is_in_main_stream» = g .«is_in_main_stream»; auxiliary = heededAuxiliary (g .auxiliary) }
+
+abbrev pub heededRow : List ℕ → ℕ → List ℕ
+heededRow t b = row (heededGroup (groupOf t b))
+
+unfoldable pub heeded : MpegH3dAudioMultiStream → MpegH3dAudioMultiStream
+heeded m = record { «this_stream_id» = m .«this_stream_id»; main = pick (m .main .present) (m .main) absentMain; trailing = m .trailing }
+
+-- ---- the meaning: the Rust's structs, a row by what writing reads of it
 
 unfoldable pub mainValue : MultiStreamMain → List ℕ → Main
 mainValue p t = record {
   «reserved_aux» = p .«reserved_aux»;
   «num_auxiliary_streams» = p .«num_auxiliary_streams»;
   «reserved_groups» = p .«reserved_groups»;
-  groups = each (λ i. meant (groupAt t i)) 0 (p .groups);
+  groups = each (λ i. heededGroup (groupAt t i)) 0 (p .groups);
 }
 
 unfoldable pub value : MpegH3dAudioMultiStream → Lent → List ℕ → MultiStream
@@ -111,5 +122,7 @@ kind = record {
   zeros = tally;
   acts = acts;
   value = value;
+  heeded = heeded;
+  heededRows = record { columns = groupColumns; row = heededRow } ∷ [];
   bounds = bounds;
 }

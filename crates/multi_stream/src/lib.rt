@@ -18,7 +18,6 @@ use rows::GROUP_COLUMNS;
 use rows::MainStream;
 use rows::MpegH3dAudioMultiStream;
 use wire::bits;
-use wire::pen::Pen;
 use wire::reads::Sum;
 use wire::rows::has_rows;
 
@@ -107,18 +106,10 @@ fn zero_bits(main: MainStream) -> usize
 pub fn write(m: MpegH3dAudioMultiStream, groups: &[u16], store: &[u8], out: &mut [u8]) -> Written
     ensures { λ r. ⌜ Writes kind m (now (groups .entry) ∷ []) (now (store .entry)) (now (out .entry)) (written r) (now (out .exit)) ⌝ }
 {
-    let p = writing::check(m, groups, store);
-    match p {
-        Pen::Stop(fault, place) => Written::Wrong(fault, place),
-        Pen::At(n) => {
-            if 65535 < n {
-                return Written::TooLong(n);
-            }
-            if out.len() < n {
-                return Written::NoRoom(n);
-            }
-            writing::fill(m, groups, store, out);
-            Written::Done(n)
-        }
-    }
+    let w = frame::judge(writing::check(m, groups, store), out.len());
+    let Written::Done(_) = w else {
+        return w;
+    };
+    writing::fill(m, groups, store, out);
+    w
 }

@@ -4,18 +4,17 @@ use mathlib.Core.List.{List, [], _∷_}
 use mathlib.Core.Path.{_≡_}
 use lib.ListN.{replicate}
 use Rattle.wire.specs.Lists.{Every}
-use Rattle.wire.specs.Prog.{needing}
-use Rattle.frame.specs.Numbers.{Answer, accepted}
+use Rattle.frame.specs.Numbers.{Answer, accepted, refuses}
 use Rattle.frame.specs.Kind.{Kind, Lent}
-use Rattle.frame.specs.Entry.{too-short, leaves, reading, tallying}
+use Rattle.frame.specs.Entry.{leaves, reading, tallying}
 use Rattle.base.specs.declared.rows.MpegH3dAudio.{MpegH3dAudio}
-use Rattle.base.specs.Bodies.{noSets, noneListed}
+use Rattle.base.proofs.Bodies.{noSets, noneListed}
 use Rattle.base.specs.Write as Base
 use Rattle.text_label.specs.declared.rows.MpegH3dAudioTextLabel.{MpegH3dAudioTextLabel}
-use Rattle.text_label.specs.Bodies.{onePreset, english, preset2}
+use Rattle.text_label.proofs.Bodies.{onePreset, english, preset2}
 use Rattle.text_label.specs.Write as TextLabel
 use Rattle.multi_stream.specs.declared.rows.MpegH3dAudioMultiStream.{MpegH3dAudioMultiStream}
-use Rattle.multi_stream.specs.Bodies.{twoGroups, twoRows}
+use Rattle.multi_stream.proofs.Bodies.{twoGroups, twoRows}
 use Rattle.multi_stream.specs.Write as MultiStream
 
 -- a body of each kind, with what is expected of it: the answers of reading and tallying, and the lent tables before and after
@@ -40,9 +39,9 @@ nines n = replicate n 9
 
 abbrev pub starred : List Star
 starred =
-    base [] (too-short (needing 1)) (too-short (needing 1))
+    base [] (refuses 1 (1 ∷ [])) (refuses 1 (1 ∷ []))
     ∷ base (0x05 ∷ 0xC0 ∷ 0x3F ∷ []) (accepted noSets) (accepted 8)
-    ∷ base (0x05 ∷ 0x80 ∷ 0x3F ∷ []) (too-short (needing 4)) (too-short (needing 4))
+    ∷ base (0x05 ∷ 0x80 ∷ 0x3F ∷ []) (refuses 1 (4 ∷ [])) (refuses 1 (4 ∷ []))
     ∷ base (0x05 ∷ 0xBF ∷ 0xC6 ∷ 0x00 ∷ []) (accepted noneListed) (accepted 0)
     ∷ text-label (0x07 ∷ 0xF1 ∷ 0x65 ∷ 0x6E ∷ 0x67 ∷ 0x80 ∷ 0xE0 ∷ 0xE1 ∷ 0xE2 ∷ 0x02 ∷ 0x48 ∷ 0x69 ∷ []) (nines 13 ∷ nines 6 ∷ []) (accepted onePreset) (english (nines 1) ∷ preset2 (nines 2) ∷ []) (accepted 0)
     ∷ multi-stream (0x81 ∷ 0x80 ∷ 0x82 ∷ 0x07 ∷ 0x08 ∷ 0x85 ∷ []) (nines 11 ∷ []) (accepted twoGroups) (twoRows (nines 1) ∷ []) (accepted 0)

@@ -1,25 +1,22 @@
 -- What is claimed of the text label body: every claim of every kind (frame, specs/Claims), and the few that matter most spelled out for its record and tables 6 and 7.
-use Prim.Native.Nat.{ℕ, _+_, _*_, _/_, _≤_, _<_}
+use Prim.Native.Nat.{ℕ, _+_, _/_, _≤_, _<_}
 use mathlib.Core.Path.{_≡_, refl, sym, ap, subst, _∙_}
 use mathlib.Core.List.{List, [], _∷_, _++_, map, flatten, flatMap}
 use mathlib.Core.Logic.{_↔_}
 use native.Mathlib.Omega.{arith}
 use native.Mathlib.Nat.{add-zero, zero-add}
 use lib.ListN.{length, getD, drop, length-append, length-map}
-use lib.Seq.{drop-append-seam}
 use lib.Dec.{lit<}
 use lib.Count.{ones, onesIn}
 use Rattle.wire.specs.Lists.{Every, each, sum, firsts, Byte}
 use Rattle.wire.proofs.Lists.{every-each}
 use Rattle.wire.specs.Prog.{run, u8, bytes, pass, many, _>>=_}
-use Rattle.wire.proofs.Tables.{laid-length}
 use Rattle.frame.specs.declared.Tallied.{Tallied}
 use Rattle.frame.specs.declared.Written.{Written}
-use Rattle.frame.specs.declared.Written.the-variants as W
 use Rattle.frame.specs.Kind.{Lent}
-use Rattle.frame.specs.Numbers.{accepted, refusal, tallied, written}
-use Rattle.frame.specs.Entry.{no-room, leaves, onto, into, Sizes, Need, needs, lacking, room, first, others, filled, judging, sizes, placing, reading, measuring, tallying, puts, trail, writing, Reads, Measures, Tallies, Writes}
-use Rattle.frame.specs.Claims.{Claims, Lowest, this, later}
+use Rattle.frame.specs.Numbers.{accepted, refuses, refusal, tallied, written}
+use Rattle.frame.specs.Entry.{no-room, leaves, onto, into, Sizes, Need, needs, lacking, room, first, others, filled, judging, sizes, placing, reading, measuring, tallying, trail, writing, Reads, Measures, Tallies, Writes}
+use Rattle.frame.specs.Claims.{Lowest, this, later, gives, Claims}
 use Rattle.frame.proofs.Numbers.{refusal-once, tallied-once, written-once}
 use Rattle.frame.proofs.Judged.{not-refused, was, measured as was-measured}
 use Rattle.frame.proofs.Lawful.{Samples}
@@ -32,16 +29,15 @@ use Rattle.text_label.specs.declared.Reading.{Reading}
 use Rattle.text_label.specs.declared.Reading.the-variants as R
 use Rattle.text_label.specs.declared.Measured.{Measured}
 use Rattle.text_label.specs.declared.Measured.the-variants as M
-use Rattle.labels.specs.Rows.{entryColumns, entryRow, entryOf}
-use Rattle.text_label.specs.Rows.{languageColumns, languageRow, languageOf, Language, entriesOf, entriesIn, languageAs, languageRows, tables}
+use Rattle.labels.specs.Rows.{entryColumns, entryRow}
+use Rattle.text_label.specs.Rows.{languageColumns, languageRow, Language, entriesOf, entriesIn, languageAs, languageRows, tables}
 use Rattle.labels.specs.Read.{entry, labels}
 use Rattle.text_label.specs.Read.{language, parse}
-use Rattle.text_label.specs.Bodies.{onePreset, english, preset2, noLanguages}
+use Rattle.text_label.proofs.Bodies.{onePreset, english, preset2, noLanguages}
 use Rattle.text_label.specs.Write.{languageAt, value, kind}
 use Rattle.text_label.specs.Contract.{needed, sized, read, measured}
 use Rattle.text_label.proofs.Parsed.{entries-long}
-use Rattle.labels.proofs.Found.{entry-found}
-use Rattle.text_label.proofs.Found.{language-found, rows-counted, languages-found}
+use Rattle.text_label.proofs.Found.{rows-counted, languages-found}
 use Rattle.text_label.proofs.Laws.{lawful}
 
 samples : Samples kind
@@ -81,7 +77,7 @@ claims = P.claims kind lawful samples
 
 -- what is read writes back the same bytes, at the front of the output and nowhere else
 pub same-bytes : (body languages entries languages′ entries′ out : List ℕ) (m : MpegH3dAudioTextLabel) → Every Byte body → reading kind body (languages ∷ entries ∷ []) ≡ leaves (accepted m) (languages′ ∷ entries′ ∷ []) → length body ≤ length out
-    → writing kind m (languages′ ∷ entries′ ∷ []) body out ≡ puts (W.Done (length body)) (body ++ drop (length body) out)
+    → writing kind m (languages′ ∷ entries′ ∷ []) body out ≡ gives (accepted (length body)) (body ++ drop (length body) out)
 same-bytes body languages entries languages′ entries′ out m b e l = claims .round .writes-what-is-read body (languages ∷ entries ∷ []) m (languages′ ∷ entries′ ∷ []) out b e l
 
 -- two bodies that agree in the Rust's structs, labels by their bytes, and in the trailing bytes are one body
@@ -127,16 +123,16 @@ sized-so body z e =
     (l, n, sym (subst (λ (z : Sizes). sized l n (z .before) ≡ z) q refl))
 
 pub lacks-room : (body languages entries : List ℕ) (t r : ℕ)
-    → (reading kind body (languages ∷ entries ∷ []) ≡ leaves (no-room t r) (languages ∷ entries ∷ [])) ↔ ((l : ℕ) × (n : ℕ) × (k : ℕ) × (measuring kind body ≡ accepted (sized l n k)) × Lacks languages entries l n t r)
+    → (reading kind body (languages ∷ entries ∷ []) ≡ leaves (refuses 3 (t ∷ r ∷ [])) (languages ∷ entries ∷ [])) ↔ ((l : ℕ) × (n : ℕ) × (k : ℕ) × (measuring kind body ≡ accepted (sized l n k)) × Lacks languages entries l n t r)
 lacks-room body languages entries t r = (forth, back)
   where
-    forth : reading kind body (languages ∷ entries ∷ []) ≡ leaves (no-room t r) (languages ∷ entries ∷ []) → (l : ℕ) × (n : ℕ) × (k : ℕ) × (measuring kind body ≡ accepted (sized l n k)) × Lacks languages entries l n t r
+    forth : reading kind body (languages ∷ entries ∷ []) ≡ leaves (refuses 3 (t ∷ r ∷ [])) (languages ∷ entries ∷ []) → (l : ℕ) × (n : ℕ) × (k : ℕ) × (measuring kind body ≡ accepted (sized l n k)) × Lacks languages entries l n t r
     forth h =
         let (z, e, d) = claims .more-room .no-room body (languages ∷ entries ∷ []) t r .0 h in
         let (l, n, q) = sized-so body z e in
         (l, n, z .before, e ∙ ap accepted q, low languages entries l n (subst (λ (z : Sizes). Lowest (z .tables) (languages ∷ entries ∷ []) t r) q d))
 
-    back : (l : ℕ) × (n : ℕ) × (k : ℕ) × (measuring kind body ≡ accepted (sized l n k)) × Lacks languages entries l n t r → reading kind body (languages ∷ entries ∷ []) ≡ leaves (no-room t r) (languages ∷ entries ∷ [])
+    back : (l : ℕ) × (n : ℕ) × (k : ℕ) × (measuring kind body ≡ accepted (sized l n k)) × Lacks languages entries l n t r → reading kind body (languages ∷ entries ∷ []) ≡ leaves (refuses 3 (t ∷ r ∷ [])) (languages ∷ entries ∷ [])
     back (l, n, k, e, d) = claims .more-room .no-room body (languages ∷ entries ∷ []) t r .1 (sized l n k, e, lowest languages entries l n d)
 
 -- the lists of languages stand one after the other: the first begins at row n, each begins where the one before ended, and the last ends at row m
@@ -155,45 +151,23 @@ runs-on n (l ∷ ls) =
     one-more refl refl refl (subst (λ (i : ℕ). RunsOn i (map (λ (q : ℕ × Language TextLabelEntry). languageAs (q .0) (q .1)) (firsts (λ l. length (entriesOf l)) (n + length (entriesOf l)) ls)) (n + length (entriesOf l ++ entriesIn ls))) e
     (subst (RunsOn (n + length (entriesOf l)) (map (λ (q : ℕ × Language TextLabelEntry). languageAs (q .0) (q .1)) (firsts (λ l. length (entriesOf l)) (n + length (entriesOf l)) ls))) k (runs-on (n + length (entriesOf l)) ls)))
 
--- of tables that were read: the rows of table 6 have their entries in table 7 from its front on, none between, and the rest of both keeps its content
-pub record Read (languages entries languages′ entries′ : List ℕ) (count rows : ℕ) : Type 0 where
-  pub runs : RunsOn 0 (each (languageAt languages′) 0 count) rows
-  pub kept : drop (count * languageColumns) languages′ ≡ drop (count * languageColumns) languages
-  pub kept-entries : drop (rows * entryColumns) entries′ ≡ drop (rows * entryColumns) entries
-
-behind-kept : (a t : List ℕ) {n : ℕ} → length a ≡ n → drop n (a ++ drop (length a) t) ≡ drop n t
-behind-kept a t e = rw (← e) (drop-append-seam a (drop (length a) t))
-
-abbrev filledBy : List ℕ → List ℕ → List ℕ
-filledBy a t = a ++ drop (length a) t
-
-read-so : (languages entries : List ℕ) (ls : List (Language TextLabelEntry))
-    → Read languages entries (filledBy (flatten (map languageRow (languageRows ls))) languages) (filledBy (flatten (map entryRow (entriesIn ls))) entries) (length ls) (length (entriesIn ls))
-read-so languages entries ls =
-    let x = flatten (map languageRow (languageRows ls)) in
-    record {
-      runs = rw (languages-found ls (drop (length x) languages)) (subst (RunsOn 0 (languageRows ls)) (zero-add (length (entriesIn ls))) (runs-on 0 ls));
-      kept = behind-kept x languages (laid-length languageColumns languageOf languageRow (λ l. refl) language-found (languageRows ls) ∙ ap (λ (n : ℕ). n * languageColumns) (sym (length-map (languageRows ls) languageRow) ∙ rows-counted ls));
-      kept-entries = behind-kept (flatten (map entryRow (entriesIn ls))) entries (laid-length entryColumns entryOf entryRow (λ e. refl) entry-found (entriesIn ls));
-    }
-
+-- of tables that were read: the rows of table 6 have their entries in table 7 from its front on, and none between; as many rows as measuring counts
 pub read-tables : (body languages entries languages′ entries′ : List ℕ) (m : MpegH3dAudioTextLabel) → reading kind body (languages ∷ entries ∷ []) ≡ leaves (accepted m) (languages′ ∷ entries′ ∷ [])
-    → (rows : ℕ) × (k : ℕ) × (measuring kind body ≡ accepted (sized (m .languages) rows k)) × Read languages entries languages′ entries′ (m .languages) rows
+    → (rows : ℕ) × (k : ℕ) × (measuring kind body ≡ accepted (sized (m .languages) rows k)) × RunsOn 0 (each (languageAt languages′) 0 (m .languages)) rows
 unfolding kind filled tables first others measuring onto sizes needs
 read-tables body languages entries languages′ entries′ m e =
     let w = was kind body (languages ∷ entries ∷ []) m (languages′ ∷ entries′ ∷ []) e in
     let ls = w .sound .tree .languages in
     let n = ap (λ (m : MpegH3dAudioTextLabel). m .languages) (w .top-is) in
-    let a = ap (λ (l : Lent). first l) (w .after-is) in
-    let b = ap (λ (l : Lent). first (others l)) (w .after-is) in
-    let r : Read languages entries languages′ entries′ (length ls) (length (entriesIn ls)) =
-    subst (λ (y : List ℕ). Read languages entries languages′ y (length ls) (length (entriesIn ls))) b
-    (subst (λ (x : List ℕ). Read languages entries x (filledBy (flatten (map entryRow (entriesIn ls))) entries) (length ls) (length (entriesIn ls))) a (read-so languages entries ls)) in
+    let x = flatten (map languageRow (languageRows ls)) in
+    let a : x ++ drop (length x) languages ≡ languages′ = ap (λ (l : Lent). first l) (w .after-is) in
+    let r : RunsOn 0 (languageRows ls) (length (entriesIn ls)) = subst (RunsOn 0 (languageRows ls)) (zero-add (length (entriesIn ls))) (runs-on 0 ls) in
+    let q : languageRows ls ≡ each (languageAt languages′) 0 (length ls) = sym (languages-found ls (drop (length x) languages)) ∙ ap (λ (t : List ℕ). each (languageAt t) 0 (length ls)) a in
     let z : measuring kind body ≡ accepted (sized (length ls) (length (entriesIn ls)) (w .sound .before)) = ap (onto (sizes kind)) (w .judges) ∙ λ i. accepted (sized (rows-counted ls i) (length-map (entriesIn ls) entryRow i) (w .sound .before)) in (
       length (entriesIn ls),
       w .sound .before,
       subst (λ (c : ℕ). measuring kind body ≡ accepted (sized c (length (entriesIn ls)) (w .sound .before))) n z,
-      subst (λ (c : ℕ). Read languages entries languages′ entries′ c (length (entriesIn ls))) n r,
+      subst (λ (c : ℕ). RunsOn 0 (each (languageAt languages′) 0 c) (length (entriesIn ls))) n (subst (λ (l : List TextLabelLanguage). RunsOn 0 l (length (entriesIn ls))) q r),
     )
 
 -- ---- the promises fix the answers themselves

@@ -15,9 +15,9 @@ use Rattle.wire.proofs.Acts.{and-both, clean-both, listed-most, bytes-append, c
 use Rattle.wire.proofs.Passes.{slice-long}
 use Rattle.frame.specs.Kind.{Lent}
 use Rattle.frame.specs.declared.Written.the-variants as W
-use Rattle.frame.specs.Numbers.{written}
-use Rattle.frame.specs.Entry.{Output, whole, trail, writing, Writes}
-use Rattle.frame.proofs.Output.{was-long}
+use Rattle.frame.specs.Numbers.{refuses}
+use Rattle.frame.specs.Entry.{whole, trail, writing, Writes}
+use Rattle.frame.proofs.Output.{Met, met}
 use Rattle.labels.proofs.Largest.{labels-most}
 use Rattle.text_label.specs.declared.rows.MpegH3dAudioTextLabel.{MpegH3dAudioTextLabel}
 use Rattle.text_label.specs.Rows.{Language, TextLabel}
@@ -74,8 +74,8 @@ image-most m lent store b h e =
     )
 
 -- so when writing answers 10, the length is at most that; `Writes` is the promise of `write`
-pub largest : (m : MpegH3dAudioTextLabel) (lent : Lent) (store out after : List ℕ) (n : ℕ) → m .trailing .length < 65536 → Writes kind m lent store out (written (W.TooLong n)) after → n ≤ 794222
-unfolding writing
+pub largest : (m : MpegH3dAudioTextLabel) (lent : Lent) (store out after : List ℕ) (n : ℕ) → m .trailing .length < 65536 → Writes kind m lent store out (refuses 10 (n ∷ [])) after → n ≤ 794222
+unfolding writing Met
 largest m lent store out after n h w =
-    let (b, e, l) = was-long out (settle (whole kind m lent store) 0) (sym (ap (λ (o : Output). o .answer) (w .promised))) in
+    let (b, e, l, o, k) = met out (settle (whole kind m lent store) 0) (W.TooLong n) after (sym (w .promised)) in
     subst (λ (k : ℕ). k ≤ 794222) l (image-most m lent store b h e)

@@ -1,16 +1,19 @@
 -- The text label kind is lawful: its record, its tables and its actions are those of its format.
 use Prim.Native.Nat.{ℕ, _+_, _-_, _/_, _≤_, _<_}
 use mathlib.Core.List.{List, [], _∷_, _++_, map, flatten}
-use mathlib.Core.Bool.{true}
+use mathlib.Core.Bool.{Bool, true, _&&_}
 use mathlib.Core.Path.{_≡_, refl, sym, ap, subst, _∙_}
 use native.Mathlib.Omega.{arith}
 use lib.ListN.{length, drop, length-append, length-map}
+use lib.Dec.{leb}
 use borrow.Author.Tests.{le-leb}
 use Rattle.wire.specs.Lists.{Every, all-nil, all-cons, sum, firsts, Column}
 use Rattle.wire.specs.Bits.{field, fit}
 use Rattle.wire.specs.Prog.{done, run, span, Within}
 use Rattle.wire.specs.declared.rows.Payload.{Payload}
-use Rattle.wire.specs.Act.{Act, byte}
+use Rattle.wire.specs.Act.{Act, demand, byte, rows}
+use Rattle.wire.specs.declared.pen.Fault.the-variants as F
+use Rattle.wire.specs.declared.rows.Range.{Range}
 use Rattle.wire.specs.Pen.{clean, bytes}
 use Rattle.wire.proofs.Fields.{fits-cons}
 use Rattle.wire.proofs.Lists.{every-and, every-as, every-map, map-every, every-flat, flat-every, every-left, every-right, every-both, every-firsts}
@@ -21,8 +24,9 @@ use Rattle.wire.proofs.Tables.{each-length, laid-length, every-shaped}
 use Rattle.wire.proofs.Nest.{flat-length, sum-suc, firsts-below}
 use Rattle.wire.proofs.Codec.{Spells}
 use Rattle.frame.specs.Kind.{Lent, Rows, Held}
+use Rattle.frame.specs.Claims.{Agree}
 use Rattle.frame.specs.Entry.{needs, total, first, others, filled}
-use Rattle.frame.proofs.Lawful.{Taken, Lawful}
+use Rattle.frame.proofs.Lawful.{agrees, Taken, Lawful}
 use Rattle.labels.specs.declared.rows.TextLabelEntry.{TextLabelEntry}
 use Rattle.labels.proofs.Laws.{list-bare, inside-so, Small, small, list-met}
 use Rattle.text_label.specs.declared.rows.TextLabelLanguage.{TextLabelLanguage}
@@ -30,8 +34,9 @@ use Rattle.text_label.specs.declared.rows.MpegH3dAudioTextLabel.{MpegH3d
 use Rattle.labels.specs.Rows.{entryColumns, entryRow, entryOf, placed}
 use Rattle.text_label.specs.Rows.{languageColumns, languageRow, languageOf, Language, TextLabel, bounds, top, entriesOf, entriesIn, languageAs, languageRows, tables}
 use Rattle.text_label.specs.Read.{language, parse}
-use Rattle.labels.specs.Write.{listActs, Label}
-use Rattle.text_label.specs.Write.{languageAt, letterActs, languageActs, acts, languageValue, value, payloads, kind}
+use Rattle.labels.specs.declared.rows.Descriptions.{Descriptions}
+use Rattle.labels.specs.Write.{entryAt, entryActs, countByte, listActs, Label}
+use Rattle.text_label.specs.Write.{languageAt, letterActs, languageActs, languagesByte, acts, languageValue, value, heededRows, payloads, kind}
 use Rattle.labels.proofs.Parsed.{labels-weigh}
 use Rattle.text_label.proofs.Parsed.{language-run, entries-long, body-run}
 use Rattle.labels.proofs.Format.{labelsMeant, labelsListed}
@@ -41,6 +46,29 @@ use Rattle.text_label.proofs.Found.{language-found, rows-counted, langu
 
 apart : (P : TextLabelEntry → Type 0) (a b : List TextLabelEntry) → Every P (a ++ b) → Every P a × Every P b
 apart P a b h = (every-left P a b h, every-right P a b h)
+
+-- ---- what writing reads decides the actions
+
+list-agrees : (w : ℕ) (t t′ store : List ℕ) (d : Descriptions) → ((k : ℕ) → entryAt t k ≡ entryAt t′ k) → listActs w t store d ≡ listActs w t′ store d
+unfolding listActs
+list-agrees w t t′ store d e = λ i. byte (countByte w d) ∷ rows (λ k. entryActs w store (e k i)) (d .entries .first) (d .entries .count)
+
+language-agrees : (t t′ store : List ℕ) (l : TextLabelLanguage) → length t ≡ length t′ → ((k : ℕ) → entryAt t k ≡ entryAt t′ k) → languageActs t store l ≡ languageActs t′ store l
+unfolding languageActs
+language-agrees t t′ store l n e =
+    let stand : Range → ℕ → Bool = λ r m. leb (r .first + r .count) (m / entryColumns) in
+    λ i. demand F.Range (stand (l .groups .entries) (n i) && (stand (l .«switch_groups» .entries) (n i) && stand (l .presets .entries) (n i))) ∷ letterActs (l .language)
+    ++ (list-agrees 7 t t′ store (l .groups) e i ++ (list-agrees 5 t t′ store (l .«switch_groups») e i ++ list-agrees 5 t t′ store (l .presets) e i))
+
+acts-agree : (m : MpegH3dAudioTextLabel) (lent lent′ : Lent) (store : List ℕ) → Agree heededRows lent lent′ → acts m lent store ≡ acts m lent′ store
+unfolding acts
+acts-agree m lent lent′ store g =
+    let a = agrees g in
+    let b = agrees (a .rest) in
+    let l : (k : ℕ) → languageAt (first lent) k ≡ languageAt (first lent′) k = λ k. ap (λ (r : List ℕ). languageOf r 0) (a .same k) in
+    let q : (x : TextLabelLanguage) → languageActs (first (others lent)) store x ≡ languageActs (first (others lent′)) store x =
+    λ x. language-agrees (first (others lent)) (first (others lent′)) store x (b .long) (λ k. ap (λ (r : List ℕ). entryOf r 0) (b .same k)) in
+    λ i. demand F.Range (leb (m .languages) (a .long i / languageColumns)) ∷ byte (field 8 (m .«scene_info_id») ∷ []) ∷ byte (languagesByte m) ∷ rows (λ k. q (l k i) i) 0 (m .languages)
 
 -- ---- actions whose demands are met are, without them, those of the meaning
 
@@ -249,6 +277,7 @@ lawful = record {
   held = λ t bs rest d l. let n = length-append bs rest in held t (bs ++ rest) (length bs) (length rest) (held-so t (bs ++ rest) (known t bs rest d .sound)) (omega (arith, n, l)) (omega (arith, n, l));
   columns = λ t bs rest d l. columns-so t bs rest d l;
   ready = λ t bs rest lent d f. ready t _ lent (bs ++ rest) (known t bs rest d);
+  heeds = λ top top′ lent lent′ store e g. (ap (λ (m : MpegH3dAudioTextLabel). acts m lent store) e ∙ acts-agree top′ lent lent′ store g, ap (λ (m : MpegH3dAudioTextLabel). m .trailing) e);
   spells = spells;
 }
   where

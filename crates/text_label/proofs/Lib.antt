@@ -1,3 +1,4 @@
+pub mod Bodies
 pub mod Parsed
 pub mod Filled
 pub mod Format

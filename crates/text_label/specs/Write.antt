@@ -10,13 +10,14 @@ use Rattle.wire.specs.Act.{Act, demand, byte, rows}
 use Rattle.wire.specs.declared.pen.Fault.the-variants as F
 use Rattle.wire.specs.declared.rows.Payload.{Payload}
 use Rattle.labels.specs.declared.rows.TextLabelEntry.{TextLabelEntry}
+use Rattle.labels.specs.Rows.{entryColumns, entryRow, entryOf}
 use Rattle.labels.specs.Write.{inside, listActs, Label, listValue}
-use Rattle.frame.specs.Kind.{Kind, Lent}
+use Rattle.frame.specs.Kind.{Kind, Lent, Heeded}
 use Rattle.frame.specs.Entry.{first, others}
 use Rattle.text_label.specs.declared.rows.DescriptionLanguage.{DescriptionLanguage}
 use Rattle.text_label.specs.declared.rows.TextLabelLanguage.{TextLabelLanguage}
 use Rattle.text_label.specs.declared.rows.MpegH3dAudioTextLabel.{MpegH3dAudioTextLabel}
-use Rattle.text_label.specs.Rows.{languageColumns, languageOf, Language, TextLabel, retrail, bounds, top, entriesIn, tables}
+use Rattle.text_label.specs.Rows.{languageColumns, languageRow, languageOf, Language, TextLabel, retrail, bounds, top, entriesIn, tables}
 use Rattle.text_label.specs.Read.{parse}
 use Rattle.text_label.specs.Tally.{tally}
 
@@ -70,6 +71,11 @@ value m lent store = record {
   languages = each (λ i. languageValue (first (others lent)) store (languageAt (first lent) i)) 0 (m .languages);
 }
 
+-- ---- what writing reads: every column of the record and of its rows
+
+abbrev pub heededRows : List Heeded
+heededRows = record { columns = languageColumns; row = λ t b. languageRow (languageOf t b) } ∷ record { columns = entryColumns; row = λ t b. entryRow (entryOf t b) } ∷ []
+
 -- ---- the kind
 
 unfoldable pub payloads : TextLabel TextLabelEntry → List Payload
@@ -87,5 +93,7 @@ kind = record {
   zeros = tally;
   acts = acts;
   value = value;
+  heeded = λ m. m;
+  heededRows = heededRows;
   bounds = bounds;
 }

@@ -16,7 +16,6 @@ use parsing::Head;
 use rows::ENTRY_COLUMNS;
 use rows::LANGUAGE_COLUMNS;
 use rows::MpegH3dAudioTextLabel;
-use wire::pen::Pen;
 use wire::reads::Sum;
 use wire::rows::has_rows;
 
@@ -130,18 +129,10 @@ pub fn write(
 ) -> Written
     ensures { λ r. ⌜ Writes kind m (now (languages .entry) ∷ now (entries .entry) ∷ []) (now (store .entry)) (now (out .entry)) (written r) (now (out .exit)) ⌝ }
 {
-    let p = writing::check(m, languages, entries, store);
-    match p {
-        Pen::Stop(fault, place) => Written::Wrong(fault, place),
-        Pen::At(n) => {
-            if 65535 < n {
-                return Written::TooLong(n);
-            }
-            if out.len() < n {
-                return Written::NoRoom(n);
-            }
-            writing::fill(m, languages, entries, store, out);
-            Written::Done(n)
-        }
-    }
+    let w = frame::judge(writing::check(m, languages, entries, store), out.len());
+    let Written::Done(_) = w else {
+        return w;
+    };
+    writing::fill(m, languages, entries, store, out);
+    w
 }

@@ -1,6 +1,5 @@
--- `base::write` meets its contract: a case for each end of the check pass, and the fill pass.
-use Rattle.wire.proofs.Passes.{to-fill}
-use Rattle.frame.proofs.Entries.{writes-wrong, writes-long, writes-short, writes-done}
+-- `base::write` meets its contract: what is answered after the check pass, and the fill pass.
+use Rattle.frame.proofs.Entries.{writes-refused, fillable, writes-done}
 use Rattle.base.specs.Write.{kind}
 use borrow.Author.Needs.{needs}
 use Rattle.base.proofs.write.Statement.{statement}
@@ -9,40 +8,23 @@ use Rattle.base.proofs.write.Tie as tie
 check-requires : tie.Need-check-requires
 check-requires c κs = search needs
 
-enum-known-p : tie.Need-enum-known-p
-enum-known-p c = search needs
+judge-requires : tie.Need-judge-requires
+judge-requires c κs = search needs
 
-enum-known-p-2 : tie.Need-enum-known-p-2
-enum-known-p-2 c = search needs
+enum-told : tie.Need-enum-told
+enum-told c = search needs
 
 returns : tie.Need-returns
-returns c = writes-long kind _ _ _ (c .before .before .before .before .check .ensures) _ (c .before .before .p2 .given .1) (c .if1 .taken)
-
-returns-2 : tie.Need-returns-2
-returns-2 c = writes-short kind _ _ _ (c .before .before .before .before .before .check .ensures) _ (c .before .before .before .p2 .given .1) (c .before .if1 .left) (c .if2 .taken)
+returns c = writes-refused kind _ _ _ (c .before .before .check .ensures) _ (c .before .judge .ensures) (c .match .keys2)
 
 fill-requires : tie.Need-fill-requires
-fill-requires c κs = to-fill (c .before .before .before .before .before .before .check .ensures) (c .before .before .before .before .p2 .given .1) (c .before .if2 .left)
-
-returns-3 : tie.Need-returns-3
-returns-3 c = writes-wrong kind _ _ _ (c .before .before .before .check .ensures) _ (c .before .p .given .1)
+fill-requires c κs = fillable kind _ _ _ (c .before .before .before .before .check .ensures) _ (c .before .before .before .judge .ensures) (c .before .enum-told .given .1)
 
 same-length : tie.Need-same-length
 same-length c = search needs
 
-returns-4 : tie.Need-returns-4
-returns-4 c = writes-done kind _ _ _ (c .before .before .before .before .before .before .before .before .before .check .ensures) _ (c .before .before .before .before .before .before .before .p2 .given .1) (c .before .before .before .before .before .if1 .left) (c .before .before .before .before .if2 .left) (c .before .before .fill .ensures)
+returns-2 : tie.Need-returns-2
+returns-2 c = writes-done kind _ _ _ (c .before .before .before .before .before .before .before .check .ensures) _ (c .before .before .before .before .before .before .judge .ensures) (c .before .before .before .before .enum-told .given .1) (c .before .before .fill .ensures)
 
 pub write-spec : {M : Type 1} → statement M
-write-spec =
-    tie.close
-    (tie.spec
-    check-requires
-    enum-known-p
-    enum-known-p-2
-    returns
-    returns-2
-    fill-requires
-    returns-3
-    same-length
-    returns-4)
+write-spec = tie.close (tie.spec check-requires judge-requires enum-told returns fill-requires same-length returns-2)

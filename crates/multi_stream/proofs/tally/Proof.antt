@@ -1,6 +1,5 @@
 -- `multi_stream::tally` meets its contract: the reserved bits of a record that was taken fit, so their bits are counted.
 use mathlib.Core.Path.{refl}
-use Rattle.frame.specs.Numbers.{tallied}
 use Rattle.frame.proofs.Entries.{tallies-unmeasured, tallies-topped}
 use Rattle.multi_stream.specs.Write.{kind}
 use Rattle.multi_stream.specs.Tally.{mainTally}
@@ -27,12 +26,11 @@ enum-known-m-2 : tie.Need-enum-known-m-2
 enum-known-m-2 c = search needs
 
 returns : tie.Need-returns
-unfolding kind tallied
+unfolding kind
 returns c =
     rw (c .zero-bits .ensures) (tallies-topped kind _ (rw (c .before .before .before .m .given .1) at (c .before .before .before .before .before .measure .ensures)) (λ m. mainTally (m .main)) (λ t p. refl) (c .before .record-at .ensures))
 
 returns-2 : tie.Need-returns-2
-unfolding tallied
 returns-2 c =
     tallies-unmeasured kind _ (rw (c .before .m2 .given .1) at (c .before .before .before .measure .ensures))
 

@@ -1,6 +1,5 @@
 -- `text_label::tally` meets its contract: what was summed up along the body.
 use mathlib.Core.Path.{sym, ap, _∙_}
-use Rattle.frame.specs.Numbers.{tallied}
 use Rattle.wire.specs.Reads.{sumOut}
 use Rattle.frame.specs.Entry.{onto}
 use Rattle.frame.proofs.Entries.{judges-long, tallies, tallies-summed}
@@ -10,7 +9,7 @@ use Rattle.text_label.proofs.tally.Statement.{statement}
 use Rattle.text_label.proofs.tally.Tie as tie
 
 returns : tie.Need-returns
-unfolding onto tallied
+unfolding onto
 returns c =
     tallies kind _ (judges-long kind _ (c .if1 .taken))
 
@@ -24,12 +23,12 @@ enum-known-a-2 : tie.Need-enum-known-a-2
 enum-known-a-2 c = search needs
 
 returns-2 : tie.Need-returns-2
-unfolding onto tallied kind
+unfolding onto kind
 returns-2 c =
     tallies-summed kind _ (c .before .before .before .before .if1 .left) (sym (ap sumOut (c .before .a .given .1)) ∙ c .before .before .before .body-zeros .ensures)
 
 returns-3 : tie.Need-returns-3
-unfolding onto tallied kind
+unfolding onto kind
 returns-3 c =
     tallies-summed kind _ (c .before .before .before .before .if1 .left) (sym (ap sumOut (c .before .a2 .given .1)) ∙ c .before .before .before .body-zeros .ensures)
 

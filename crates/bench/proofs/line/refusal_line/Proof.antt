@@ -1,7 +1,7 @@
 -- `bench::line::refusal_line` meets its contract.
 use mathlib.Core.Path.{sym, ap, _∙_}
 use Rattle.frame.specs.declared.Refusal.{Refusal}
-use Rattle.frame.specs.Numbers.{refusal, shorts}
+use Rattle.frame.specs.Numbers.{refusal}
 use Rattle.bench.specs.Line.{refusedLine}
 use borrow.Author.Needs.{needs}
 use Rattle.bench.proofs.line.refusal_line.Statement.{statement}
@@ -29,15 +29,12 @@ refused-requires-3 : tie.Need-refused-requires-3
 refused-requires-3 c κs = search needs
 
 returns : tie.Need-returns
-unfolding refusal shorts
 returns c = c .refused .ensures ∙ ap (λ (r : Refusal). refusedLine (refusal r)) (sym (c .before .before .r .given .1))
 
 returns-2 : tie.Need-returns-2
-unfolding refusal shorts
 returns-2 c = c .refused2 .ensures ∙ ap (λ (r : Refusal). refusedLine (refusal r)) (sym (c .before .before .r2 .given .1))
 
 returns-3 : tie.Need-returns-3
-unfolding refusal shorts
 returns-3 c = c .refused3 .ensures ∙ ap (λ (r : Refusal). refusedLine (refusal r)) (sym (c .before .before .r3 .given .1))
 
 pub refusal-line-spec : {M : Type 1} → statement M

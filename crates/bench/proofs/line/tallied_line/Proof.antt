@@ -17,12 +17,10 @@ enum-known-t-2 : tie.Need-enum-known-t-2
 enum-known-t-2 c = search needs
 
 returns : tie.Need-returns
-unfolding tallied
 returns c =
     c .refusal-line .ensures ∙ ap (λ (t : Tallied). talliedLine (c .before .before .before .before .args .k) (tallied t)) (sym (c .before .before .t .given .1))
 
 returns-2 : tie.Need-returns-2
-unfolding tallied
 returns-2 c =
     ap (λ (t : Tallied). talliedLine (c .before .before .before .args .k) (tallied t)) (sym (c .before .t2 .given .1))
 

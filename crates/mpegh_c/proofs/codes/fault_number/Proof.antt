@@ -1,6 +1,5 @@
 -- `mpegh_c::codes::fault_number` meets its contract.
 use mathlib.Core.Path.{refl}
-use Rattle.frame.specs.Numbers.{faultNumber}
 use borrow.Author.Needs.{needs}
 use Rattle.mpegh_c.proofs.codes.fault_number.Statement.{statement}
 use Rattle.mpegh_c.proofs.codes.fault_number.Tie as tie
@@ -21,27 +20,22 @@ enum-told-5 : tie.Need-enum-told-5
 enum-told-5 c = search needs
 
 returns : tie.Need-returns
-unfolding faultNumber
 returns c =
     rw (c .enum-told .given .1) (refl, search needs)
 
 returns-2 : tie.Need-returns-2
-unfolding faultNumber
 returns-2 c =
     rw (c .enum-told2 .given .1) (refl, search needs)
 
 returns-3 : tie.Need-returns-3
-unfolding faultNumber
 returns-3 c =
     rw (c .enum-told3 .given .1) (refl, search needs)
 
 returns-4 : tie.Need-returns-4
-unfolding faultNumber
 returns-4 c =
     rw (c .enum-told4 .given .1) (refl, search needs)
 
 returns-5 : tie.Need-returns-5
-unfolding faultNumber
 returns-5 c =
     rw (c .enum-told5 .given .1) (refl, search needs)
 

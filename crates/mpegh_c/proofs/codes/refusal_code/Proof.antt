@@ -1,5 +1,4 @@
 -- `mpegh_c::codes::refusal_code` meets its contract.
-use Rattle.frame.specs.Numbers.{refusal, shorts}
 use borrow.Author.Needs.{needs}
 use Rattle.mpegh_c.proofs.codes.refusal_code.Statement.{statement}
 use Rattle.mpegh_c.proofs.codes.refusal_code.Tie as tie
@@ -23,17 +22,14 @@ room-code-requires : tie.Need-room-code-requires
 room-code-requires c κs = search needs
 
 returns : tie.Need-returns
-unfolding refusal shorts
 returns c =
     rw (c .before .before .x .given .1) (c .code .ensures)
 
 returns-2 : tie.Need-returns-2
-unfolding refusal
 returns-2 c =
     rw (c .before .before .x2 .given .1) (c .code2 .ensures)
 
 returns-3 : tie.Need-returns-3
-unfolding refusal
 returns-3 c =
     rw (c .before .before .x3 .given .1) (c .room-code .ensures)
 

@@ -1,5 +1,4 @@
 -- `mpegh_c::codes::tallied_code` meets its contract.
-use Rattle.frame.specs.Numbers.{tallied}
 use borrow.Author.Needs.{needs}
 use Rattle.mpegh_c.proofs.codes.tallied_code.Statement.{statement}
 use Rattle.mpegh_c.proofs.codes.tallied_code.Tie as tie
@@ -17,12 +16,10 @@ refusal-code-requires : tie.Need-refusal-code-requires
 refusal-code-requires c κs = search needs
 
 returns : tie.Need-returns
-unfolding tallied
 returns c =
     rw (c .before .before .t .given .1) (c .code .ensures)
 
 returns-2 : tie.Need-returns-2
-unfolding tallied
 returns-2 c =
     rw (c .before .before .t2 .given .1) (c .refusal-code .ensures)
 

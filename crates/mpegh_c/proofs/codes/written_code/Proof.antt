@@ -1,5 +1,4 @@
 -- `mpegh_c::codes::written_code` meets its contract.
-use Rattle.frame.specs.Numbers.{written}
 use borrow.Author.Needs.{needs}
 use Rattle.mpegh_c.proofs.codes.written_code.Statement.{statement}
 use Rattle.mpegh_c.proofs.codes.written_code.Tie as tie
@@ -32,22 +31,18 @@ code-requires-4 : tie.Need-code-requires-4
 code-requires-4 c κs = search needs
 
 returns : tie.Need-returns
-unfolding written
 returns c =
     rw (c .before .before .w .given .1) (c .code .ensures)
 
 returns-2 : tie.Need-returns-2
-unfolding written
 returns-2 c =
     rw (c .before .before .w2 .given .1) (c .code2 .ensures)
 
 returns-3 : tie.Need-returns-3
-unfolding written
 returns-3 c =
     rw (c .before .before .before .w3 .given .1, ← c .before .fault-number .ensures .0) (c .code3 .ensures)
 
 returns-4 : tie.Need-returns-4
-unfolding written
 returns-4 c =
     rw (c .before .before .w4 .given .1) (c .code4 .ensures)
 

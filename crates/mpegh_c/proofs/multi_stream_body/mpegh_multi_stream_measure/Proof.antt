@@ -1,5 +1,4 @@
 -- `mpegh_c::multi_stream_body::mpegh_multi_stream_measure` meets its contract.
-use Rattle.frame.specs.Numbers.{refusal}
 use Rattle.multi_stream.specs.Write.{kind}
 use Rattle.mpegh_c.proofs.Hosted.{measures-refused, measures-unroomed, measures-sized}
 use borrow.Author.Needs.{needs}
@@ -18,7 +17,6 @@ room-code-requires : tie.Need-room-code-requires
 room-code-requires c κs = search needs
 
 returns : tie.Need-returns
-unfolding refusal
 returns c =
     measures-unroomed kind (rw (c .before .before .before .m .given .1) at (c .before .before .before .before .before .measure .ensures)) (c .before .if1 .taken) (c .room-code .ensures)
 

@@ -1,5 +1,4 @@
 -- `mpegh_c::multi_stream_body::unread` meets its contract.
-use Rattle.frame.specs.Numbers.{refusal}
 use Rattle.multi_stream.specs.Write.{kind}
 use Rattle.mpegh_c.proofs.Hosted.{unread-so}
 use borrow.Author.Needs.{needs}
@@ -22,7 +21,6 @@ refusal-code-requires : tie.Need-refusal-code-requires
 refusal-code-requires c κs = search needs
 
 returns : tie.Need-returns
-unfolding refusal
 returns c =
     unread-so kind (rw (c .before .enum-told .given .1) at (c .before .before .before .measure .ensures)) (c .room-code .ensures)
 

@@ -1,5 +1,4 @@
 -- `mpegh_c::text_label_body::mpegh_text_label_measure` meets its contract.
-use Rattle.frame.specs.Numbers.{refusal}
 use Rattle.text_label.specs.Write.{kind}
 use Rattle.mpegh_c.proofs.Hosted.{measures-refused, measures-unroomed, measures-sized}
 use borrow.Author.Needs.{needs}
@@ -16,7 +15,6 @@ room-code-requires : tie.Need-room-code-requires
 room-code-requires c κs = search needs
 
 returns : tie.Need-returns
-unfolding refusal
 returns c =
     measures-unroomed kind (rw (c .before .before .before .m .given .1) at (c .before .before .before .before .before .measure .ensures)) (c .before .if1 .taken) (c .room-code .ensures)
 
