@@ -1,5 +1,6 @@
 -- `base::zero_bits` meets its contract: the two counts and their sum.
 use Rattle.base.specs.Tally.{tally}
+use native.Mathlib.Omega.{arith}
 use borrow.Author.Needs.{needs}
 use Rattle.base.proofs.zero_bits.Statement.{statement}
 use Rattle.base.proofs.zero_bits.Tie as tie
@@ -24,7 +25,7 @@ cast-result c = search needs
 
 returns : tie.Need-returns
 unfolding tally
-returns c = rw (c .before .before .zero-bits .ensures, c .zero-bits2 .ensures, c .before .before .before .wide .ensures, c .before .wide2 .ensures)
+returns c = rw (c .before .before .zero-bits .ensures, c .zero-bits2 .ensures, c .before .before .before .wide .ensures, c .before .wide2 .ensures) (omega arith)
 
 pub zero-bits-spec : {M : Type 1} → statement M
 zero-bits-spec =

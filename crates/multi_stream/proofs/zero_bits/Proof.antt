@@ -1,5 +1,6 @@
 -- `multi_stream::zero_bits` meets its contract.
 use Rattle.multi_stream.specs.Tally.{mainTally}
+use native.Mathlib.Omega.{arith}
 use borrow.Author.Needs.{needs}
 use Rattle.multi_stream.proofs.zero_bits.Statement.{statement}
 use Rattle.multi_stream.proofs.zero_bits.Tie as tie
@@ -25,7 +26,7 @@ cast-result c = search needs
 returns : tie.Need-returns
 unfolding mainTally
 returns c =
-    rw (c .before .before .before .before .if1 .taken, c .before .before .zero-bits .ensures, c .zero-bits2 .ensures, c .before .before .before .wide .ensures, c .before .wide2 .ensures)
+    rw (c .before .before .before .before .if1 .taken, c .before .before .zero-bits .ensures, c .zero-bits2 .ensures, c .before .before .before .wide .ensures, c .before .wide2 .ensures) (omega arith)
 
 returns-2 : tie.Need-returns-2
 unfolding mainTally

@@ -1,6 +1,5 @@
 -- `labels::tallying::list_zeros` meets its contract: the bits before the count, and the tally of so many entries.
-use mathlib.Core.Path.{refl, sym, ap}
-use Prim.Native.Nat.{_+_}
+use mathlib.Core.Path.{refl, ap}
 use native.Mathlib.Omega.{arith}
 use Rattle.wire.specs.Prog.{ret, u8, many}
 use Rattle.wire.specs.Reads.{byteOut}
@@ -65,7 +64,7 @@ unfolding labels
 returns-3 c =
     let g = sum-onward (many _ (entry _)) (λ l. ret (labelsIs _ _ l)) (onward u8 (afterCount _) (begun (labels _) _ _ (c .before .before .before .before .before .before .before .before .before .before .before .pre .0)) (c .before .before .before .before .before .before .before .before .before .byte-at .ensures .is) (ap byteOut (c .before .before .before .before .before .before .before .a .given .1))) (rw (c .before .before .before .before .before .part .ensures) at (c .before .before .before .before .entries-zeros .ensures)) (c .before .before .c .given .1) in
     let h = count-small _ _ (c .before .before .before .before .before .before .before .before .before .before .before .pre .1) (c .before .before .before .before .before .part .ensures) in
-    summed-done (finished (g .place) refl) (λ i. c .zeros-above .ensures .0 i + sym (g .is) i) (omega (arith, h, sum-small (c .before .before .before .before .entries-zeros .ensures) (c .before .before .c .given .1), c .zeros-above .ensures .1))
+    summed-done (finished (g .place) refl) (omega (arith, c .zeros-above .ensures .0, g .is)) (omega (arith, h, sum-small (c .before .before .before .before .entries-zeros .ensures) (c .before .before .c .given .1), c .zeros-above .ensures .1))
 
 pub list-zeros-spec : {M : Type 1} → statement M
 list-zeros-spec =

@@ -17,7 +17,7 @@ shared-slice-read-if1 c = search needs
 
 returns : tie.Need-returns
 returns c =
-    quick-odd _ 2 (odd-id (groupOf (c .before .before .before .args .groups .now) (c .before .before .before .args .b)) (c .if1 .taken))
+    quick-odd _ 2 (odd-id (groupOf (c .before .before .before .args .groups .now) (c .before .before .before .args .b)) (omega (arith, c .if1 .taken)))
 
 add-pair : tie.Need-add-pair
 add-pair c = search needs
@@ -42,7 +42,7 @@ pair-requires c κs = search needs
 
 returns-2 : tie.Need-returns-2
 returns-2 c =
-    plain-main (groupOf (c .before .before .before .before .before .before .before .args .groups .now) (c .before .before .before .before .before .before .before .args .b)) (c .before .before .before .before .if1 .left) (let l = c .before .before .before .before .before .before .shared-slice-known .given (c .before .before .before .before .before .before .before .args .b + 1) in omega arith) (sym (c .before .pair .ensures) ∙ c .if2 .taken)
+    plain-main (groupOf (c .before .before .before .before .before .before .before .args .groups .now) (c .before .before .before .before .before .before .before .args .b)) (omega (arith, c .before .before .before .before .if1 .left)) (let l = c .before .before .before .before .before .before .shared-slice-known .given (c .before .before .before .before .before .before .before .args .b + 1) in omega arith) (sym (c .before .pair .ensures) ∙ c .if2 .taken)
 
 add-fits2 : tie.Need-add-fits2
 add-fits2 c = search needs
@@ -67,7 +67,7 @@ fits2-requires c κs = search needs
 
 returns-3 : tie.Need-returns-3
 returns-3 c =
-    plain-located (groupOf (c .before .before .before .before .before .before .before .before .before .before .before .before .args .groups .now) (c .before .before .before .before .before .before .before .before .before .before .before .before .args .b)) (c .before .before .before .before .before .before .before .before .before .if1 .left) (let l = c .before .before .before .before .before .before .before .before .before .before .before .shared-slice-known .given (c .before .before .before .before .before .before .before .before .before .before .before .before .args .b + 1) in omega arith) (sym (c .before .before .before .before .before .before .pair .ensures) ∙ c .before .before .before .before .if3 .taken) (sym (c .before .fits2 .ensures) ∙ c .if4 .taken)
+    plain-located (groupOf (c .before .before .before .before .before .before .before .before .before .before .before .before .args .groups .now) (c .before .before .before .before .before .before .before .before .before .before .before .before .args .b)) (omega (arith, c .before .before .before .before .before .before .before .before .before .if1 .left)) (let l = c .before .before .before .before .before .before .before .before .before .before .before .shared-slice-known .given (c .before .before .before .before .before .before .before .before .before .before .before .before .args .b + 1) in omega arith) (sym (c .before .before .before .before .before .before .pair .ensures) ∙ c .before .before .before .before .if3 .taken) (sym (c .before .fits2 .ensures) ∙ c .if4 .taken)
 
 returns-4 : tie.Need-returns-4
 returns-4 c =

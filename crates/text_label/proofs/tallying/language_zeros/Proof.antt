@@ -1,6 +1,5 @@
 -- `text_label::tallying::language_zeros` meets its contract: the tallies of the three lists, one after the other.
 use mathlib.Core.Path.{ap}
-use Prim.Native.Nat.{_+_}
 use native.Mathlib.Omega.{arith}
 use Rattle.wire.specs.Reads.{runOut}
 use Rattle.wire.proofs.Loops.{summed-done, summed-short, summed-cut, sum-small}
@@ -75,7 +74,7 @@ returns-4 c =
 
 add-t15 : tie.Need-add-t15
 add-t15 c =
-    omega (arith, sum-small (c .before .before .before .before .before .before .before .before .before .before .before .list-zeros .ensures) (c .before .before .before .before .before .before .before .before .before .g .given .1), sum-small (c .before .before .before .before .before .before .before .list-zeros2 .ensures) (c .before .before .before .before .before .s .given .1))
+    omega (arith, sum-small (c .before .before .before .before .before .before .before .before .before .before .before .list-zeros .ensures) (c .before .before .before .before .before .before .before .before .before .g .given .1), sum-small (c .before .before .before .before .before .before .before .list-zeros2 .ensures) (c .before .before .before .before .before .s .given .1), sum-small (c .before .before .before .list-zeros3 .ensures) (c .before .p .given .1))
 
 add-t16 : tie.Need-add-t16
 add-t16 c =
@@ -85,7 +84,7 @@ returns-5 : tie.Need-returns-5
 returns-5 c =
     let w = letters-place _ _ (c .before .before .before .before .before .before .before .before .before .before .before .before .before .before .before .before .before .pre) (c .before .before .before .before .before .before .before .before .before .before .before .before .before .before .before .run-at .ensures) (ap runOut (c .before .before .before .before .before .before .before .before .before .before .before .before .before .letters .given .1)) in
     let t = three (labelsTally 7) (labelsTally 5) _ _ w (c .before .before .before .before .before .before .before .before .before .before .before .list-zeros .ensures) (c .before .before .before .before .before .before .before .before .before .g .given .1) (c .before .before .before .before .before .before .before .list-zeros2 .ensures) (c .before .before .before .before .before .s .given .1) (c .before .before .before .list-zeros3 .ensures) (c .before .p .given .1) in
-    summed-done (t .reads) (λ i. t .groups i + t .switch-groups i + t .presets i) (omega (arith, sum-small (c .before .before .before .before .before .before .before .before .before .before .before .list-zeros .ensures) (c .before .before .before .before .before .before .before .before .before .g .given .1), sum-small (c .before .before .before .before .before .before .before .list-zeros2 .ensures) (c .before .before .before .before .before .s .given .1), sum-small (c .before .before .before .list-zeros3 .ensures) (c .before .p .given .1)))
+    summed-done (t .reads) (omega (arith, t .groups, t .switch-groups, t .presets)) (omega (arith, sum-small (c .before .before .before .before .before .before .before .before .before .before .before .list-zeros .ensures) (c .before .before .before .before .before .before .before .before .before .g .given .1), sum-small (c .before .before .before .before .before .before .before .list-zeros2 .ensures) (c .before .before .before .before .before .s .given .1), sum-small (c .before .before .before .list-zeros3 .ensures) (c .before .p .given .1)))
 
 pub language-zeros-spec : {M : Type 1} → statement M
 language-zeros-spec =
