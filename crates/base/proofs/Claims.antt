@@ -10,12 +10,13 @@ use lib.Count.{ones, onesIn}
 use Rattle.wire.specs.Lists.{Every, all-nil, all-cons, Byte}
 use Rattle.wire.specs.Bits.{part}
 use Rattle.wire.specs.Prog.{done, run, u8, pass, _>>=_, span, Within}
+use Rattle.wire.specs.declared.rows.Payload.{Payload}
 use Rattle.wire.proofs.Runs.{run-split, run-ret, u8-done}
 use Rattle.frame.specs.declared.Tallied.{Tallied}
 use Rattle.frame.specs.declared.Written.{Written}
 use Rattle.frame.specs.Numbers.{accepted, refuses, refusal, tallied, written}
 use Rattle.frame.specs.Entry.{leaves, onto, into, Sizes, needs, lacking, filled, judging, sizes, placing, reading, measuring, tallying, trail, writing, Reads, Measures, Tallies, Writes}
-use Rattle.frame.specs.Claims.{gives, Claims}
+use Rattle.frame.specs.Claims.{none-read, gives, Claims}
 use Rattle.frame.proofs.Numbers.{refusal-once, tallied-once, written-once}
 use Rattle.frame.proofs.Judged.{not-refused, was, ran-well}
 use Rattle.frame.proofs.Lawful.{Samples}
@@ -31,7 +32,7 @@ use Rattle.base.specs.Rows.{absentSets, listedSets}
 use Rattle.base.specs.Read.{sets, fields, parse}
 use Rattle.base.proofs.Bodies.{noSets, noneListed}
 use Rattle.base.specs.Tally.{tally}
-use Rattle.base.specs.Write.{value, payloads, kind}
+use Rattle.base.specs.Write.{value, heeded, payloads, kind}
 use Rattle.base.specs.Contract.{read, measured}
 use Rattle.base.proofs.Laws.{lawful}
 
@@ -91,6 +92,22 @@ unfolding kind payloads
 inside body m e =
     let (s, j, q, a, h) = claims .bounded .payloads-inside body [] m [] e in
     subst (λ (x : MpegH3dAudio). Every (Within body) (m .trailing ∷ payloads x)) q h
+
+-- offset and length of sets that are absent are not read
+abbrev without : MpegH3dAudio → Payload → MpegH3dAudio
+without m p = record {
+  «profile_level_indication» = m .«profile_level_indication»;
+  «interactivity_enabled» = m .«interactivity_enabled»;
+  «compatible_sets» = record { present = false; indications = p };
+  «reserved_flags» = m .«reserved_flags»;
+  «reserved_layout» = m .«reserved_layout»;
+  «reference_channel_layout» = m .«reference_channel_layout»;
+  trailing = m .trailing;
+}
+
+pub absent-sets : (m : MpegH3dAudio) (p p′ : Payload) (store out : List ℕ) → writing kind (without m p) [] store out ≡ writing kind (without m p′) [] store out
+unfolding kind heeded
+absent-sets m p p′ store out = claims .writing .unread (without m p) (without m p′) [] [] store out refl none-read
 
 -- bit 0x40 of byte 1 is set exactly if there are no sets
 sets-flag : (a : Bool) (s : List ℕ) (at : ℕ) {x : CompatibleSets} {k : ℕ} → run (sets a) s at ≡ done x k → x .present ≡ not a

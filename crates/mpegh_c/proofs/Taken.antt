@@ -6,13 +6,13 @@ use mathlib.Core.Path.{_≡_, refl, ap, _∙_}
 use mathlib.Core.Logic.{_⊎_, inl, inr}
 use native.Mathlib.Omega.{arith}
 use lib.ListN.{length}
-use borrow.Author.Tests.{le-leb}
+use borrow.Author.Tests.{le-leb, lt-leb}
 use Rattle.frame.specs.Numbers.{Answer, accepted, refused, number}
 use Rattle.frame.specs.Kind.{Kind, Lent}
-use Rattle.frame.specs.Entry.{Sizes, leaves, put, reading, measuring, tallying, writing}
+use Rattle.frame.specs.Entry.{Sizes, no-room, leaves, put, reading, measuring, tallying, writing}
 use Rattle.frame.proofs.More.{answered}
 use Rattle.mpegh_c.specs.Code.{code, tableCode, valuesCode, answerCode}
-use Rattle.mpegh_c.specs.Host.{Hosted, topped, rowsOf, sized, hostReading, hostMeasuring, HostReads, HostMeasures, HostTallies, HostWrites}
+use Rattle.mpegh_c.specs.Host.{Hosted, hosted, topped, rowsOf, sized, hostReading, hostMeasuring, HostReads, HostMeasures, HostTallies, HostWrites}
 
 -- ---- a code
 
@@ -81,3 +81,11 @@ module _ {Tree Top Value : Type 0} (K : Kind Tree Top Value) where
       → n % 256 ≡ number (measuring K body)
   unfolding hostMeasuring
   measure-told {body} {rows} h w = ap (λ (o : Hosted). o .code % 256) (w .promised) ∙ sized-taken rows (measuring K body) h (omega (arith, answered K .measured-numbers body))
+
+  -- where there is none, and the body is sound: 3, table 0, 1 row, and nothing is stored
+  pub measure-roomless : {body rows rows′ : List ℕ} {n : ℕ} (z : Sizes) → measuring K body ≡ accepted z → length rows < length (rowsOf (z .tables)) → HostMeasures K body rows n rows′ → (n ≡ tableCode 3 0 1) × (rows′ ≡ rows)
+  unfolding hostMeasuring
+  measure-roomless {rows = rows} z e h w =
+      let r : sized rows (accepted z) ≡ hosted (no-room 0 1) rows [] = rw (lt-leb _ _ h, sized) refl in
+      let q = w .promised ∙ ap (sized rows) e ∙ r in
+      (ap (λ (o : Hosted). o .code) q, ap (λ (o : Hosted). o .front) q)
