@@ -1,4 +1,4 @@
--- Condition 2, of every kind: what is read is written as the same bytes, what is written is read back equal in meaning, and two different bodies never give one record.
+-- Condition 2, of every kind: what is read is written as the same bytes, what is written is read back equal in meaning, and no two bodies have the same record, payload bytes and trailing bytes.
 use Prim.Native.Nat.{ℕ, suc, _+_, _-_, _≤_, _<_}
 use mathlib.Core.List.{List, [], _∷_, _++_, append-nil, flatten}
 use mathlib.Core.Bool.{true}

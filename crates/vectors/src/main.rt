@@ -1,12 +1,11 @@
 // Answers the list of cases on standard input, a line of answers for each case, by calling the library for hosts. docs/ORACLE.md says what the
 // letters of the list mean, and where the answers come from that these are compared with.
-mod list;
 mod reads;
 mod show;
-mod tables;
 mod writes;
 
-use list::State;
+use cases::list;
+use cases::list::State;
 
 // The list comes in pieces, at most 64.
 fn main() {

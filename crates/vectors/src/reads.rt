@@ -1,7 +1,7 @@
 // Bodies that are read, measured and tallied.
-use super::list::State;
+use cases::list::State;
 use super::show;
-use super::tables;
+use cases::tables;
 use mpegh_c::base_body;
 use mpegh_c::multi_stream_body;
 use mpegh_c::text_label_body;

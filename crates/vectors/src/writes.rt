@@ -1,8 +1,8 @@
 // Values that are written: the top record and tables as they stand, the body as the store.
-use super::list::State;
+use cases::list::State;
 use super::show;
-use super::tables;
-use super::tables::column;
+use cases::tables;
+use cases::tables::column;
 use mpegh_c::base_body;
 use mpegh_c::multi_stream_body;
 use mpegh_c::text_label_body;

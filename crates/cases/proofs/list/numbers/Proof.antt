@@ -1,10 +1,10 @@
--- `vectors::list::numbers` is safe and ends.
+-- `cases::list::numbers` is safe and ends.
 use mathlib.Core.Path.{_≡_}
 use Prim.Native.Nat.{_-_}
 use lib.ListN.{length}
 use borrow.Author.Needs.{needs}
-use Rattle.vectors.proofs.list.numbers.Statement.{statement}
-use Rattle.vectors.proofs.list.numbers.Tie as tie
+use Rattle.cases.proofs.list.numbers.Statement.{statement}
+use Rattle.cases.proofs.list.numbers.Tie as tie
 
 abbrev Inv-loop : tie.InvT-loop
 Inv-loop line hex out₀ d₀ i₀ out d i = length out ≡ length out₀

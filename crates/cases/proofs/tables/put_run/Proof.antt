@@ -1,9 +1,9 @@
--- `vectors::tables::put_run` is safe and ends.
+-- `cases::tables::put_run` is safe and ends.
 use mathlib.Core.Path.{_≡_}
 use lib.ListN.{length}
 use borrow.Author.Needs.{needs}
-use Rattle.vectors.proofs.tables.put_run.Statement.{statement}
-use Rattle.vectors.proofs.tables.put_run.Tie as tie
+use Rattle.cases.proofs.tables.put_run.Statement.{statement}
+use Rattle.cases.proofs.tables.put_run.Tie as tie
 
 abbrev Inv-loop : tie.InvT-loop
 Inv-loop body₀ at count byte to₀ left₀ body to left = length body ≡ length body₀

@@ -1,10 +1,10 @@
--- `vectors::tables::put_bytes` is safe and ends.
+-- `cases::tables::put_bytes` is safe and ends.
 use mathlib.Core.Path.{_≡_}
 use Prim.Native.Nat.{_-_}
 use lib.ListN.{length}
 use borrow.Author.Needs.{needs}
-use Rattle.vectors.proofs.tables.put_bytes.Statement.{statement}
-use Rattle.vectors.proofs.tables.put_bytes.Tie as tie
+use Rattle.cases.proofs.tables.put_bytes.Statement.{statement}
+use Rattle.cases.proofs.tables.put_bytes.Tie as tie
 
 abbrev Inv-loop : tie.InvT-loop
 Inv-loop body₀ at n v to₀ i₀ body to i = length body ≡ length body₀

@@ -1,9 +1,9 @@
--- `vectors::tables::mix_bytes` is safe and ends.
+-- `cases::tables::mix_bytes` is safe and ends.
 use Prim.Native.Nat.{_-_, _≤_}
 use lib.ListN.{length}
 use borrow.Author.Needs.{needs}
-use Rattle.vectors.proofs.tables.mix_bytes.Statement.{statement}
-use Rattle.vectors.proofs.tables.mix_bytes.Tie as tie
+use Rattle.cases.proofs.tables.mix_bytes.Statement.{statement}
+use Rattle.cases.proofs.tables.mix_bytes.Tie as tie
 
 abbrev Inv-loop : tie.InvT-loop
 Inv-loop digest bytes d₀ i₀ d i = 0 ≤ d

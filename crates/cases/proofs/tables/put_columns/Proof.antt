@@ -1,10 +1,10 @@
--- `vectors::tables::put_columns` is safe and ends.
+-- `cases::tables::put_columns` is safe and ends.
 use mathlib.Core.Path.{_≡_}
 use Prim.Native.Nat.{_-_}
 use lib.ListN.{length}
 use borrow.Author.Needs.{needs}
-use Rattle.vectors.proofs.tables.put_columns.Statement.{statement}
-use Rattle.vectors.proofs.tables.put_columns.Tie as tie
+use Rattle.cases.proofs.tables.put_columns.Statement.{statement}
+use Rattle.cases.proofs.tables.put_columns.Tie as tie
 
 abbrev Inv-loop : tie.InvT-loop
 Inv-loop table₀ n v i₀ table i = length table ≡ length table₀

@@ -1,10 +1,10 @@
--- `vectors::tables::fill_columns` is safe and ends.
+-- `cases::tables::fill_columns` is safe and ends.
 use mathlib.Core.Path.{_≡_}
 use Prim.Native.Nat.{_-_}
 use lib.ListN.{length}
 use borrow.Author.Needs.{needs}
-use Rattle.vectors.proofs.tables.fill_columns.Statement.{statement}
-use Rattle.vectors.proofs.tables.fill_columns.Tie as tie
+use Rattle.cases.proofs.tables.fill_columns.Statement.{statement}
+use Rattle.cases.proofs.tables.fill_columns.Tie as tie
 
 abbrev Inv-loop : tie.InvT-loop
 Inv-loop table₀ i₀ table i = length table ≡ length table₀
