@@ -28,7 +28,7 @@ use Rattle.base.specs.declared.Reading.{Reading}
 use Rattle.base.specs.declared.Reading.the-variants as R
 use Rattle.base.specs.declared.Measured.{Measured}
 use Rattle.base.specs.declared.Measured.the-variants as M
-use Rattle.base.specs.Rows.{absentSets, listedSets}
+use Rattle.base.specs.Rows.{absentSets, listedSets, withSets}
 use Rattle.base.specs.Read.{sets, fields, parse}
 use Rattle.base.proofs.Bodies.{noSets, noneListed}
 use Rattle.base.specs.Tally.{tally}
@@ -95,15 +95,7 @@ inside body m e =
 
 -- offset and length of sets that are absent are not read
 abbrev without : MpegH3dAudio → Payload → MpegH3dAudio
-without m p = record {
-  «profile_level_indication» = m .«profile_level_indication»;
-  «interactivity_enabled» = m .«interactivity_enabled»;
-  «compatible_sets» = record { present = false; indications = p };
-  «reserved_flags» = m .«reserved_flags»;
-  «reserved_layout» = m .«reserved_layout»;
-  «reference_channel_layout» = m .«reference_channel_layout»;
-  trailing = m .trailing;
-}
+without m p = withSets m (record { present = false; indications = p })
 
 pub absent-sets : (m : MpegH3dAudio) (p p′ : Payload) (store out : List ℕ) → writing kind (without m p) [] store out ≡ writing kind (without m p′) [] store out
 unfolding kind heeded

@@ -21,9 +21,8 @@ use Rattle.wire.proofs.Fields.{fits-cons}
 use Rattle.frame.specs.Kind.{Held, Lent}
 use Rattle.frame.specs.Entry.{needs, total, filled}
 use Rattle.frame.proofs.Lawful.{Lawful}
-use Rattle.base.specs.declared.rows.CompatibleSets.{CompatibleSets}
 use Rattle.base.specs.declared.rows.MpegH3dAudio.{MpegH3dAudio}
-use Rattle.base.specs.Rows.{absentSets, retrail, bounds}
+use Rattle.base.specs.Rows.{absentSets, retrail, withSets, bounds}
 use Rattle.base.specs.Write.{inside, listed, setsActs, acts, Value, value, heeded, payloads, kind}
 use Rattle.base.proofs.Stored.{listed-long}
 use Rattle.base.proofs.Format.{isNone, listingActs, headActs, format, format-acts, format-fits, format-reads, format-means, format-spans, placed, record-from}
@@ -58,18 +57,7 @@ acts-heeded : (m : MpegH3dAudio) (lent lent′ : Lent) (store : List ℕ) → ac
 unfolding acts setsActs heeded
 acts-heeded m lent lent′ store = go (m .«compatible_sets» .present) (m .«compatible_sets» .indications)
   where
-    with-sets : CompatibleSets → MpegH3dAudio
-    with-sets s = record {
-      «profile_level_indication» = m .«profile_level_indication»;
-      «interactivity_enabled» = m .«interactivity_enabled»;
-      «compatible_sets» = s;
-      «reserved_flags» = m .«reserved_flags»;
-      «reserved_layout» = m .«reserved_layout»;
-      «reference_channel_layout» = m .«reference_channel_layout»;
-      trailing = m .trailing;
-    }
-
-    go : (b : Bool) (p : Payload) → acts (with-sets (record { present = b; indications = p })) lent store ≡ acts (with-sets (pick b (record { present = b; indications = p }) absentSets)) lent′ store
+    go : (b : Bool) (p : Payload) → acts (withSets m (record { present = b; indications = p })) lent store ≡ acts (withSets m (pick b (record { present = b; indications = p }) absentSets)) lent′ store
     go true p = refl
     go false p = refl
 

@@ -26,6 +26,18 @@ retrail m r = record {
   trailing = r;
 }
 
+-- the record with other sets
+abbrev pub withSets : MpegH3dAudio → CompatibleSets → MpegH3dAudio
+withSets m s = record {
+  «profile_level_indication» = m .«profile_level_indication»;
+  «interactivity_enabled» = m .«interactivity_enabled»;
+  «compatible_sets» = s;
+  «reserved_flags» = m .«reserved_flags»;
+  «reserved_layout» = m .«reserved_layout»;
+  «reference_channel_layout» = m .«reference_channel_layout»;
+  trailing = m .trailing;
+}
+
 unfoldable pub bounds : MpegH3dAudio → List Bound
 bounds m =
     bounded 256 (m .«profile_level_indication») ∷ bounded 65536 (m .«compatible_sets» .indications .offset) ∷ bounded 65536 (m .«compatible_sets» .indications .length)

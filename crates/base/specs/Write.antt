@@ -13,7 +13,7 @@ use Rattle.wire.specs.declared.rows.Payload.{Payload}
 use Rattle.frame.specs.Kind.{Kind, Lent}
 use Rattle.base.specs.declared.rows.CompatibleSets.{CompatibleSets}
 use Rattle.base.specs.declared.rows.MpegH3dAudio.{MpegH3dAudio}
-use Rattle.base.specs.Rows.{absentSets, retrail, bounds}
+use Rattle.base.specs.Rows.{absentSets, retrail, withSets, bounds}
 use Rattle.base.specs.Read.{parse}
 use Rattle.base.specs.Tally.{tally}
 
@@ -65,15 +65,7 @@ value m lent store = record {
 -- ---- what writing reads: of sets that are absent, nothing
 
 unfoldable pub heeded : MpegH3dAudio → MpegH3dAudio
-heeded m = record {
-  «profile_level_indication» = m .«profile_level_indication»;
-  «interactivity_enabled» = m .«interactivity_enabled»;
-  «compatible_sets» = pick (m .«compatible_sets» .present) (m .«compatible_sets») absentSets;
-  «reserved_flags» = m .«reserved_flags»;
-  «reserved_layout» = m .«reserved_layout»;
-  «reference_channel_layout» = m .«reference_channel_layout»;
-  trailing = m .trailing;
-}
+heeded m = withSets m (pick (m .«compatible_sets» .present) (m .«compatible_sets») absentSets)
 
 -- ---- the kind
 

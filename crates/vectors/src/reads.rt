@@ -1,6 +1,6 @@
 // Bodies that are read, measured and tallied.
-use cases::list::State;
 use super::show;
+use cases::list::State;
 use cases::tables;
 use mpegh_c::base_body;
 use mpegh_c::multi_stream_body;

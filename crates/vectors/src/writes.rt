@@ -1,6 +1,6 @@
 // Values that are written: the top record and tables as they stand, the body as the store.
-use cases::list::State;
 use super::show;
+use cases::list::State;
 use cases::tables;
 use cases::tables::column;
 use mpegh_c::base_body;
