@@ -15,8 +15,8 @@ use Rattle.wire.proofs.Runs.{run-split, run-ret, u8-done}
 use Rattle.frame.specs.declared.Tallied.{Tallied}
 use Rattle.frame.specs.declared.Written.{Written}
 use Rattle.frame.specs.Numbers.{accepted, refuses, refusal, tallied, written}
-use Rattle.frame.specs.Entry.{leaves, onto, into, Sizes, needs, lacking, filled, judging, sizes, placing, reading, measuring, tallying, trail, writing, Reads, Measures, Tallies, Writes}
-use Rattle.frame.specs.Claims.{none-read, gives, Claims}
+use Rattle.frame.specs.Entry.{leaves, onto, into, Sizes, needs, lacking, filled, judging, sizes, placing, reading, measuring, tallying, gives, trail, writing, Reads, Measures, Tallies, Writes}
+use Rattle.frame.specs.Claims.{none-read, Claims}
 use Rattle.frame.proofs.Numbers.{refusal-once, tallied-once, written-once}
 use Rattle.frame.proofs.Judged.{not-refused, was, ran-well}
 use Rattle.frame.proofs.Lawful.{Samples}

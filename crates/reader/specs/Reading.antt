@@ -42,7 +42,9 @@ pub record GivesRest (r : Reader) (s : List ℕ) (r′ : Reader) : Type 0 where
   pub same : r′ .body ≡ r .body
   pub moved : r′ .pos ≡ length (now (r .body))
 
--- a read of one byte on a list, with the position after it
+-- ---- the reads behind them, on a list and a position
+
+-- a read of one byte, with the position after it
 pub record SteppedByte (s : List ℕ) (at : ℕ) (r : ByteStep) : Type 0 where
   pub is : byteOut (r .byte) ≡ told (run u8 s at)
   pub small : byteOf (r .byte) < 256

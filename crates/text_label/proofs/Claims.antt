@@ -15,8 +15,8 @@ use Rattle.frame.specs.declared.Tallied.{Tallied}
 use Rattle.frame.specs.declared.Written.{Written}
 use Rattle.frame.specs.Kind.{Lent}
 use Rattle.frame.specs.Numbers.{accepted, refuses, refusal, tallied, written}
-use Rattle.frame.specs.Entry.{no-room, leaves, onto, into, Sizes, Need, needs, lacking, room, first, others, filled, judging, sizes, placing, reading, measuring, tallying, trail, writing, Reads, Measures, Tallies, Writes}
-use Rattle.frame.specs.Claims.{Lowest, this, later, gives, Claims}
+use Rattle.frame.specs.Entry.{no-room, leaves, onto, into, Sizes, Need, needs, lacking, room, first, others, filled, judging, sizes, placing, reading, measuring, tallying, gives, trail, writing, Reads, Measures, Tallies, Writes}
+use Rattle.frame.specs.Claims.{Lowest, this, later, Claims}
 use Rattle.frame.proofs.Numbers.{refusal-once, tallied-once, written-once}
 use Rattle.frame.proofs.Judged.{not-refused, was, measured as was-measured}
 use Rattle.frame.proofs.Lawful.{Samples}
