@@ -52,10 +52,10 @@ module _ {Tree Top Value : Type 0} (K : Kind Tree Top Value) where
     pub placed : (t : Tree) → format .spans t ≡ K .payloads t
     -- the tables: all are there, rows are as wide as they should be, and at most as many as the bytes read
     pub all-there : (t : Tree) → length (K .tables t) ≡ K .lends
-    pub shaped : (t : Tree) → Every Shaped (K .tables t)
+    pub shaped : (t : Tree) (bs : List ℕ) → Takes (K .program) 0 t bs → Every Shaped (K .tables t)
     pub bounded : (t : Tree) (bs : List ℕ) → Takes (K .program) 0 t bs → total (needs (K .tables t)) ≤ length bs
     -- what stands in the record and the tables means what was read, and is what the code's types can hold
-    pub laid : (t : Tree) (bs rest : List ℕ) (lent : Lent) → Takes (K .program) 0 t bs → lacking (needs (K .tables t)) lent ≡ none
+    pub laid : (t : Tree) (bs rest : List ℕ) (lent : Lent) → Taken format t bs rest → lacking (needs (K .tables t)) lent ≡ none
         → K .value (top-of t bs rest) (filled (K .tables t) lent) (bs ++ rest) ≡ format .means (bs ++ rest) t
     pub held : (t : Tree) (bs rest : List ℕ) → Taken format t bs rest → length (bs ++ rest) < 65536 → Every Held (K .bounds (top-of t bs rest))
     pub columns : (t : Tree) (bs rest : List ℕ) → Taken format t bs rest → length (bs ++ rest) < 65536 → Every (λ (r : Rows). Every (Every Column) (r .rows)) (K .tables t)

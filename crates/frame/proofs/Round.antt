@@ -139,7 +139,7 @@ module _ {Tree Top Value : Type 0} (K : Kind Tree Top Value) where
     rewritten t bs rest lent d b f =
         let top = top-of K t bs rest in
         let after = filled (K .tables t) lent in
-        let v = L .laid t bs rest lent d f in
+        let v = L .laid t bs rest lent (taken t bs rest d b) f in
         let w = wrote t bs rest d b in
         let c = L .ready t bs rest lent (taken t bs rest d b) f in
         let e : bs ≡ bytes (L .format .acts (K .value top after (bs ++ rest))) = w .makes .is ∙ ap (λ (x : Value). bytes (L .format .acts x)) (sym v) in
@@ -203,11 +203,12 @@ module _ {Tree Top Value : Type 0} (K : Kind Tree Top Value) where
         (sym (x .means) ∙ (λ i. L .format .means (e i) (t i)) ∙ y .means, sym (back-rest x) ∙ (λ i. drop (k i) (e i)) ∙ back-rest y)
 
     -- a body of which the tree is read means what its tree means
-    means-so : (t : Tree) (b front rest : List ℕ) (lent : Lent) (v : Value) → b ≡ front ++ rest → Takes (K .program) 0 t front → lacking (needs (K .tables t)) lent ≡ none → L .format .means b t ≡ v
+    means-so : (t : Tree) (b front rest : List ℕ) (lent : Lent) (v : Value) → b ≡ front ++ rest → Takes (K .program) 0 t front → lacking (needs (K .tables t)) lent ≡ none → L .format .means b t ≡ v → L .format .Fits v → clean (L .format .acts v) ≡ true
         → meaning K (K .top t (tail (length front) b)) (filled (K .tables t) lent) b ≡ record { value = v; trailing = rest }
-    means-so t b front rest lent v j d f m =
+    means-so t b front rest lent v j d f m g c =
         let e : L .format .means (front ++ rest) t ≡ v = rw j at m in
-        rw (j, the-tail front rest) (λ i. record { value = (L .laid t front rest lent d f ∙ e) i; trailing = trail-of t front rest i })
+        let w : Taken K (L .format) t front rest = record { takes = d; inside = payloads-inside t front rest d; fits = rw e g; sound = rw e c } in
+        rw (j, the-tail front rest) (λ i. record { value = (L .laid t front rest lent w f ∙ e) i; trailing = trail-of t front rest i })
 
     rereads : (top : Top) (lent : Lent) (store b : List ℕ) → Image K top lent store b → length b ≤ 65535 → (lent′ : Lent) → Room K b lent′
         → (top′ : Top) × (after : Lent) × (reading K b lent′ ≡ leaves (accepted top′) after) × (meaning K top′ after b ≡ meaning K top lent store)
@@ -216,7 +217,8 @@ module _ {Tree Top Value : Type 0} (K : Kind Tree Top Value) where
         let s : Sound Tree = record { tree = x .tree; before = length (x .front) } in
         let j = judged K b (x .tree) (length (x .front)) h (back-runs x) in
         let f = roomy b lent′ s j never in
-        (_, _, reads-so K b lent′ s j f, means-so (x .tree) b (x .front) (trail K top store) lent′ _ (x .joins) (x .takes) f (x .means))
+        let y = L .spells top lent store (wholly top lent store b e .sound) in
+        (_, _, reads-so K b lent′ s j f, means-so (x .tree) b (x .front) (trail K top store) lent′ _ (x .joins) (x .takes) f (x .means) (y .fits) (y .sound))
 
     -- ---- acceptance
 

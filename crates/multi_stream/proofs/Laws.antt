@@ -239,9 +239,9 @@ lawful = record {
   reads = format-reads;
   placed = format-spans;
   all-there = λ t. refl;
-  shaped = λ t. all-cons (every-shaped groupColumns groupOf row (λ g. refl) row-found (groupsOf (t .main))) all-nil;
+  shaped = λ t bs d. all-cons (every-shaped groupColumns groupOf row (λ g. refl) row-found (groupsOf (t .main))) all-nil;
   bounded = λ t bs d. omega (arith, taken t bs d .few, length-map (groupsOf (t .main)) row);
-  laid = λ t bs rest lent d f. laid t bs _ lent (bs ++ rest) d ∙ sym (format-means (bs ++ rest) t);
+  laid = λ t bs rest lent d f. laid t bs _ lent (bs ++ rest) (d .takes) ∙ sym (format-means (bs ++ rest) t);
   held = λ t bs rest d l. let n = length-append bs rest in held t (length bs) (length rest) (read-so t bs rest d) (omega (arith, n, l)) (omega (arith, n, l));
   columns = λ t bs rest d l. all-cons (read-so t bs rest d .part .columns) all-nil;
   ready = λ t bs rest lent d f. ready t _ lent (bs ++ rest) (subst (format .Fits) (format-means (bs ++ rest) t) (d .fits)) (ap (λ (t : MultiStream). clean (format .acts t)) (sym (format-means (bs ++ rest) t)) ∙ d .sound);

@@ -271,7 +271,7 @@ lawful = record {
   reads = format-reads;
   placed = format-spans;
   all-there = λ t. refl;
-  shaped = λ t. all-cons (every-shaped languageColumns languageOf languageRow (λ l. refl) language-found (languageRows (t .languages))) (all-cons (every-shaped entryColumns entryOf entryRow (λ e. refl) entry-found (entriesIn (t .languages))) all-nil);
+  shaped = λ t bs d. all-cons (every-shaped languageColumns languageOf languageRow (λ l. refl) language-found (languageRows (t .languages))) (all-cons (every-shaped entryColumns entryOf entryRow (λ e. refl) entry-found (entriesIn (t .languages))) all-nil);
   bounded = λ t bs d. omega (arith, few t bs d, rows-counted (t .languages), length-map (entriesIn (t .languages)) entryRow);
   laid = λ t bs rest lent d f. laid t _ lent (bs ++ rest) ∙ sym (format-means (bs ++ rest) t);
   held = λ t bs rest d l. let n = length-append bs rest in held t (bs ++ rest) (length bs) (length rest) (held-so t (bs ++ rest) (known t bs rest d .sound)) (omega (arith, n, l)) (omega (arith, n, l));

@@ -11,3 +11,12 @@ pub mod Passes
 pub mod Tables
 pub mod Nest
 pub mod Codec
+pub mod Cells
+pub mod Forms
+pub mod Rowed
+pub mod Straight
+pub mod Spelling
+pub mod Plain
+pub mod Adding
+pub mod Heeds
+pub mod Families

@@ -11,12 +11,13 @@ use lib.Seq.{drop-append-seam}
 use lib.Dec.{leb}
 use borrow.Author.Tests.{leb-true, leb-false, le-leb, lt-leb}
 use Rattle.wire.specs.Lists.{Every, all-cons}
+use Rattle.wire.proofs.Takes.{run-takes}
 use Rattle.wire.proofs.Lists.{every-head, every-tail}
 use Rattle.frame.specs.Numbers.{accepted, number}
 use Rattle.frame.specs.Kind.{Kind, Lent, Rows}
 use Rattle.frame.specs.Entry.{no-room, Outcome, leaves, onto, Sizes, Need, needs, first, others, room, lacking, filled, sizes, reading, measuring}
 use Rattle.frame.specs.Claims.{Lowest, this, later, Kept, all-kept, kept-behind, Roomier, none-lent, one-more, More-room}
-use Rattle.frame.proofs.Judged.{not-refused, short-room, long-room, same-room, answers, View, is-read, lacks, is-short, is-long, view, reads-so, lacks-so, refused-so, was, measured}
+use Rattle.frame.proofs.Judged.{not-refused, short-room, long-room, same-room, answers, View, is-read, lacks, is-short, is-long, view, reads-so, lacks-so, refused-so, ran-well, was, measured}
 use Rattle.frame.proofs.Lawful.{Shaped, Lawful}
 use Rattle.frame.proofs.More.{judge-long}
 
@@ -36,7 +37,7 @@ roomier-others [] [] none-lent = none-lent
 roomier-others (t ∷ ts) (u ∷ us) (one-more h r) = r
 
 -- what a test of the room says, as a derivation
-data Fit : List Need → Lent → Type 0 where
+pub data Fit : List Need → Lent → Type 0 where
   fit-nil : {lent : Lent} → Fit [] lent
   fit-cons : {n : Need} {ns : List Need} {lent : Lent} → n .rows ≤ room n lent → Fit ns (others lent) → Fit (n ∷ ns) lent
 
@@ -49,7 +50,7 @@ unfolding lacking
 fit-none fit-nil = refl
 fit-none (fit-cons h f) = rw (le-leb _ _ h, lacking) (fit-none f)
 
-none-fit : (ns : List Need) (lent : Lent) → lacking ns lent ≡ none → Fit ns lent
+pub none-fit : (ns : List Need) (lent : Lent) → lacking ns lent ≡ none → Fit ns lent
 unfolding lacking
 none-fit [] lent e = fit-nil
 none-fit (n ∷ ns) lent e = go (leb (n .rows) (room n lent)) refl e (none-fit ns (others lent))
@@ -80,7 +81,7 @@ unfolding lacking
 from-lowest (this {n = n} h) = record { need = n; found = rw (lt-leb _ _ h, lacking) refl; table = refl; rows = refl }
 from-lowest (later h l) = let x = from-lowest l in record { need = x .need; found = rw (le-leb _ _ h, lacking) (x .found); table = x .table; rows = x .rows }
 
-fit-head : {n : Need} {ns : List Need} {lent : Lent} → Fit (n ∷ ns) lent → (n .rows ≤ room n lent) × Fit ns (others lent)
+pub fit-head : {n : Need} {ns : List Need} {lent : Lent} → Fit (n ∷ ns) lent → (n .rows ≤ room n lent) × Fit ns (others lent)
 fit-head (fit-cons h f) = (h, f)
 
 div-fits : (r n c : ℕ) → r ≤ n / c → r * c ≤ n
@@ -156,7 +157,8 @@ module _ {Tree Top Value : Type 0} (K : Kind Tree Top Value) where
     kept = λ body lent top after e n.
         let w = was K body lent top after e in
         let t = w .sound .tree in
-        let k = keeps (K .tables t) lent (L .shaped t) (none-fit _ lent (w .fits)) (n ∙ sym (L .all-there t)) in
+        let d = run-takes (K .program) body 0 (ran-well K body (w .sound) (w .judges) .reads) (omega arith) in
+        let k = keeps (K .tables t) lent (L .shaped t _ d) (none-fit _ lent (w .fits)) (n ∙ sym (L .all-there t)) in
         (sizes K (w .sound), ap (onto (sizes K)) (w .judges), subst (Kept (needs (K .tables t)) lent) (w .after-is) k);
     more-room = room-changes;
     same-rows = λ body lent more top after r e.

@@ -1,0 +1,71 @@
+-- The room of the lent tables, one after the other, is what is lacking of all.
+use Prim.Native.Nat.{ℕ, _/_}
+use mathlib.Core.List.{List, [], _∷_}
+use mathlib.Core.Bool.{Bool, true, false}
+use mathlib.Core.Option.{Option, none, some}
+use mathlib.Core.Path.{_≡_, refl, sym, ap, _∙_}
+use native.Mathlib.Omega.{arith}
+use lib.ListN.{length}
+use lib.Dec.{leb}
+use Rattle.frame.specs.declared.Room.{Room}
+use Rattle.frame.specs.declared.Room.the-variants as M
+use Rattle.frame.specs.Kind.{Lent}
+use Rattle.frame.specs.Entry.{Need, room, first, others, lacking}
+use Rattle.frame.specs.Sight.{andTable, andTables}
+
+-- ---- one table
+
+module _ (n : Need) (t : List ℕ) where
+  pub lacks-before : {r : Room} {i k : ℕ} → r ≡ M.Lacks i k → r ≡ andTable r n t
+  unfolding andTable
+  lacks-before {i = i} {k} e = e ∙ sym (ap (λ (r : Room). andTable r n t) e)
+
+  pub has-table : {r : Room} → r ≡ M.Enough → leb (n .rows) (length t / n .columns) ≡ true → M.Enough ≡ andTable r n t
+  unfolding andTable
+  has-table e h = sym (ap (λ (r : Room). andTable r n t) e ∙ rw (h, andTable) refl)
+
+  pub lacks-table : {r : Room} → r ≡ M.Enough → leb (n .rows) (length t / n .columns) ≡ false → M.Lacks (n .number) (n .rows) ≡ andTable r n t
+  unfolding andTable
+  lacks-table e h = sym (ap (λ (r : Room). andTable r n t) e ∙ rw (h, andTable) refl)
+
+-- ---- all of them
+
+stays : (i k : ℕ) (ns : List Need) (lent : Lent) → andTables (M.Lacks i k) ns lent ≡ M.Lacks i k
+unfolding andTables andTable
+stays i k [] lent = refl
+stays i k (n ∷ ns) lent = stays i k ns (others lent)
+
+abbrev found : Option Need → Room
+found none = M.Enough
+found (some n) = M.Lacks (n .number) (n .rows)
+
+all-so : (ns : List Need) (lent : Lent) → andTables M.Enough ns lent ≡ found (lacking ns lent)
+unfolding andTables lacking andTable room
+all-so [] lent = refl
+all-so (n ∷ ns) lent = go (leb (n .rows) (length (first lent) / n .columns)) (all-so ns (others lent))
+  where
+    go : (b : Bool) → andTables M.Enough ns (others lent) ≡ found (lacking ns (others lent))
+        → andTables (elim b [ true ↦ M.Enough | false ↦ M.Lacks (n .number) (n .rows) ]) ns (others lent) ≡ found (elim b [ true ↦ lacking ns (others lent) | false ↦ some n ])
+    go true h = h
+    go false h = stays (n .number) (n .rows) ns (others lent)
+
+-- enough is enough for all, and what is lacking is the lowest
+pub enough : (ns : List Need) (lent : Lent) → andTables M.Enough ns lent ≡ M.Enough → lacking ns lent ≡ none
+enough ns lent e = go (lacking ns lent) (sym (all-so ns lent) ∙ e)
+  where
+    go : (o : Option Need) → found o ≡ M.Enough → o ≡ none
+    go none e = refl
+    go (some n) e = let z : _≡_ {A = ℕ} 0 1 = cc e in absurd (omega arith)
+
+pub record Lack (ns : List Need) (lent : Lent) (i k : ℕ) : Type 0 where
+  pub need : Need
+  pub is : lacking ns lent ≡ some need
+  pub number : need .number ≡ i
+  pub rows : need .rows ≡ k
+
+pub lowest : (ns : List Need) (lent : Lent) {i k : ℕ} → andTables M.Enough ns lent ≡ M.Lacks i k → Lack ns lent i k
+lowest ns lent {i} {k} e = go (lacking ns lent) refl (sym (all-so ns lent) ∙ e)
+  where
+    go : (o : Option Need) → lacking ns lent ≡ o → found o ≡ M.Lacks i k → Lack ns lent i k
+    go none q e = let z : _≡_ {A = ℕ} 0 1 = cc e in absurd (omega arith)
+    go (some n) q e = record { need = n; is = q; number = cc e; rows = cc e }

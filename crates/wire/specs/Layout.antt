@@ -1,0 +1,248 @@
+-- A row as a syntax table: its bytes in body order, each split into cells that have a column, and what stands only where a flag is set. Reading, writing, the
+-- tally, the flags and the meaning of a row are derived from its layout; a row type is its layout.
+use Prim.Native.Nat.{ℕ, _+_, _*_, _-_, _/_}
+use mathlib.Core.List.{List, [], _∷_, _++_, map, flatten, flatMap}
+use mathlib.Core.Bool.{Bool, true, false, _&&_, _||_}
+use lib.ListN.{length, getD, drop}
+use lib.Dec.{eqb, leb}
+use Rattle.wire.specs.Lists.{each, sum, firsts}
+use Rattle.wire.specs.Bits.{Field, field, split, isFlag, zeros}
+use Rattle.wire.specs.Prog.{Prog, ret, look, many, _>>=_}
+use Rattle.wire.specs.Act.{Act, demand, byte, when, pick, rows}
+use Rattle.wire.specs.declared.pen.Fault.the-variants as F
+
+-- a field of w bits with its column: a number, reserved bits, a flag of one bit, a count that is stored minus one
+pub data Cell : Type 0 where
+  num : ℕ → ℕ → Cell
+  reserved : ℕ → ℕ → Cell
+  flag : ℕ → Cell
+  less-one : ℕ → ℕ → Cell
+
+-- the bytes of one read, each a list of cells, the first the highest; what stands only if a column passes a test
+pub data Layout : Type 0 where
+  end : Layout
+  line : List (List Cell) → Layout → Layout
+  given : ℕ → (ℕ → Bool) → Layout → Layout → Layout
+
+abbrev pub one : List Cell → Layout → Layout
+one cs l = line (cs ∷ []) l
+
+-- a part that a flag steers
+abbrev pub optional : ℕ → Layout → Layout → Layout
+optional k p l = given k (λ v. eqb v 1) p l
+
+-- one line after the other, as a syntax table stands on the page
+infixr 5 _▹_
+abbrev pub _▹_ : (Layout → Layout) → Layout → Layout
+f ▹ l = f l
+
+-- ---- a cell
+
+abbrev pub width : Cell → ℕ
+width (num w k) = w
+width (reserved w k) = w
+width (flag k) = 1
+width (less-one w k) = w
+
+abbrev pub column : Cell → ℕ
+column (num w k) = k
+column (reserved w k) = k
+column (flag k) = k
+column (less-one w k) = k
+
+-- what stands in the byte for a column, and the column for what stands there
+abbrev pub stored : Cell → ℕ → ℕ
+stored (num w k) v = v
+stored (reserved w k) v = v
+stored (flag k) v = v
+stored (less-one w k) v = v - 1
+
+abbrev pub loaded : Cell → ℕ → ℕ
+loaded (num w k) v = v
+loaded (reserved w k) v = v
+loaded (flag k) v = v
+loaded (less-one w k) v = v + 1
+
+-- what is demanded of it before any field: a flag is 0 or 1 (5); a count that is stored minus one is not 0 (7)
+abbrev pub flagged : Cell → ℕ → Bool
+flagged (num w k) v = true
+flagged (reserved w k) v = true
+flagged (flag k) v = isFlag v
+flagged (less-one w k) v = true
+
+abbrev pub counted : Cell → ℕ → Bool
+counted (num w k) v = true
+counted (reserved w k) v = true
+counted (flag k) v = true
+counted (less-one w k) v = leb 1 v
+
+-- its reserved bits at 0
+abbrev pub idle : Cell → ℕ → ℕ
+idle (num w k) v = 0
+idle (reserved w k) v = zeros w v
+idle (flag k) v = 0
+idle (less-one w k) v = 0
+
+-- ---- the columns of a row, by their numbers
+
+abbrev pub Columns : Type 0
+Columns = ℕ → ℕ
+
+abbrev pub of : List ℕ → Columns
+of r j = getD r j 0
+
+-- the columns of a table from column b on; row i of a table whose rows have n columns
+abbrev pub from : List ℕ → ℕ → Columns
+from t b j = getD t (b + j) 0
+
+abbrev pub at : ℕ → List ℕ → ℕ → Columns
+at n t i = from t (i * n)
+
+-- the first n columns
+abbrev pub row : ℕ → Columns → List ℕ
+row n f = each f 0 n
+
+abbrev pub set : ℕ → ℕ → Columns → Columns
+set k v f j = pick (eqb j k) v (f j)
+
+-- ---- reading: each cell goes to its column; the columns of an absent part stay as they are
+
+unfoldable pub put : List Cell → List Field → Columns → Columns
+put [] fs f = f
+put (c ∷ cs) [] f = f
+put (c ∷ cs) (field w v ∷ fs) f = set (column c) (loaded c v) (put cs fs f)
+
+unfoldable pub puts : List (List Cell) → List ℕ → Columns → Columns
+puts [] l f = f
+puts (cs ∷ css) l f = put cs (split (map width cs) (getD l 0 0)) (puts css (drop 1 l) f)
+
+unfoldable pub reads : Layout → Columns → Prog Columns
+reads end f = ret f
+reads (line css l) f = look (length css) (λ b. reads l (puts css b f))
+reads (given k is p l) f = pick (is (f k)) (reads p f) (ret f) >>= λ g. reads l g
+
+-- ---- writing
+
+abbrev pub fieldOf : Columns → Cell → Field
+fieldOf g c = field (width c) (stored c (g (column c)))
+
+abbrev pub byteOf : Columns → List Cell → Act
+byteOf g cs = byte (map (fieldOf g) cs)
+
+unfoldable pub writes : Layout → Columns → List Act
+writes end g = []
+writes (line css l) g = map (byteOf g) css ++ writes l g
+writes (given k is p l) g = when (is (g k)) (writes p g) ++ writes l g
+
+-- ---- the cells that stand in the body, and what they say together
+
+unfoldable pub shown : Layout → Columns → List Cell
+shown end g = []
+shown (line css l) g = flatten css ++ shown l g
+shown (given k is p l) g = pick (is (g k)) (shown p g) [] ++ shown l g
+
+-- a row is broken where rows of another table stand: these are the layouts between its breaks
+unfoldable pub cells : List Layout → Columns → List Cell
+cells [] g = []
+cells (l ∷ []) g = shown l g
+cells (l ∷ m ∷ ls) g = shown l g ++ cells (m ∷ ls) g
+
+unfoldable pub every : (Cell → ℕ → Bool) → Columns → List Cell → Bool
+every test g [] = true
+every test g (c ∷ cs) = test c (g (column c)) && every test g cs
+
+-- what stands before the bytes of a row: flags, then empty lists
+abbrev pub demands : List Layout → Columns → List Act
+demands ls g = demand F.Field (every flagged g (cells ls g)) ∷ demand F.Empty (every counted g (cells ls g)) ∷ []
+
+unfoldable pub tally : List Layout → Columns → ℕ
+tally ls g = sum (λ c. idle c (g (column c))) (cells ls g)
+
+-- ---- the meaning: the columns that writing reads, and what reading leaves in the others
+
+unfoldable pub has : ℕ → List ℕ → Bool
+has j [] = false
+has j (k ∷ ks) = eqb j k || has j ks
+
+abbrev pub mix : List ℕ → Columns → Columns → Columns
+mix ks g f j = pick (has j ks) (g j) (f j)
+
+abbrev pub columns : List Cell → List ℕ
+columns cs = map column cs
+
+-- g but for what an absent part has: there it is as in f
+abbrev pub kept : List Layout → Columns → Columns → Columns
+kept ls g f = mix (columns (cells ls g)) g f
+
+abbrev pub blank : Columns
+blank j = 0
+
+-- ---- rows of n columns with no break, and with one where rows of another table stand, whose first row and count are columns
+
+abbrev pub flat : ℕ → Layout → Prog (List ℕ)
+flat n l = do
+  g ← reads l blank
+  ret (row n g)
+
+abbrev pub flatActs : Layout → Columns → List Act
+flatActs l g = demands (l ∷ []) g ++ writes l g
+
+abbrev pub flatMeans : ℕ → Layout → Columns → List ℕ
+flatMeans n l g = row n (kept (l ∷ []) g blank)
+
+pub record Broken : Type 0 where
+  pub width : ℕ
+  pub head : Layout
+  pub first : ℕ
+  pub count : ℕ
+  pub tail : Layout
+
+abbrev pub layouts : Broken → List Layout
+layouts b = b .head ∷ b .tail ∷ []
+
+abbrev pub broken : {A : Type 0} → Broken → Prog A → Prog (List ℕ × List A)
+broken b kid = do
+  f ← reads (b .head) blank
+  l ← many (f (b .count)) kid
+  g ← reads (b .tail) f
+  ret (row (b .width) g, l)
+
+-- the other table has `room` rows, and kid is what its row i is written as
+abbrev pub brokenActs : Broken → ℕ → (ℕ → List Act) → Columns → List Act
+brokenActs b room kid g =
+    demand F.Range (leb (g (b .first) + g (b .count)) room)
+    ∷ demands (layouts b) g
+    ++ (writes (b .head) g ++ (rows kid (g (b .first)) (g (b .count)) ++ writes (b .tail) g))
+
+abbrev pub brokenMeans : {A : Type 0} → Broken → (ℕ → A) → Columns → List ℕ × List A
+brokenMeans b kid g = (row (b .width) (kept (layouts b) g blank), each kid (g (b .first)) (g (b .count)))
+
+-- what writing reads of the row itself: the columns that have a meaning, and the first of its rows
+abbrev pub brokenHeeds : Broken → Columns → List ℕ
+brokenHeeds b g = row (b .width) (set (b .first) (g (b .first)) (kept (layouts b) g blank))
+
+-- what was read, with its first row
+abbrev pub brokenRow : {A : Type 0} → Broken → ℕ × (List ℕ × List A) → List ℕ
+brokenRow b q = row (b .width) (set (b .first) (q .0) (of (q .1 .0)))
+
+-- ---- lists of such rows, each with its own rows
+
+abbrev pub Family : Type 0
+Family = List ℕ × List (List ℕ)
+
+-- the rows of both tables: each has for its first row how many are filled before it
+abbrev pub parents : Broken → List Family → List (List ℕ)
+parents b l = map (brokenRow b) (firsts (λ x. length (x .1)) 0 l)
+
+abbrev pub kids : List Family → List (List ℕ)
+kids l = flatMap (λ x. x .1) l
+
+abbrev pub familyTally : Broken → Layout → Family → ℕ
+familyTally b kid x = tally (layouts b) (of (x .0)) + sum (λ r. tally (kid ∷ []) (of r)) (x .1)
+
+-- row i of table t, whose rows stand in table u and have n columns
+abbrev pub familyActs : Broken → ℕ → Layout → List ℕ → List ℕ → ℕ → List Act
+familyActs b n kid t u i = brokenActs b (length u / n) (λ j. flatActs kid (at n u j)) (at (b .width) t i)
+
+abbrev pub familyMeans : Broken → ℕ → Layout → List ℕ → List ℕ → ℕ → Family
+familyMeans b n kid t u i = brokenMeans b (λ j. flatMeans n kid (at n u j)) (at (b .width) t i)
