@@ -1,0 +1,42 @@
+-- `parsing::gain_at` meets its contract.
+use Rattle.conditions.specs.Rows.{gain, none}
+use Rattle.conditions.proofs.Taken.{gain-there, part-none}
+use borrow.Author.Needs.{needs}
+use Rattle.conditions.proofs.parsing.gain_at.Statement.{statement}
+use Rattle.conditions.proofs.parsing.gain_at.Tie as tie
+
+shared-slice-read-wide : tie.Need-shared-slice-read-wide
+shared-slice-read-wide c = search needs
+
+wide-requires : tie.Need-wide-requires
+wide-requires c κs = search needs
+
+part-requires : tie.Need-part-requires
+part-requires c κs = search needs
+
+new-requires : tie.Need-new-requires
+new-requires c κs = search needs
+
+absent-requires : tie.Need-absent-requires
+absent-requires c κs = search needs
+
+returns : tie.Need-returns
+returns c =
+    rw (c .new .ensures, c .before .part .ensures, c .before .before .wide .ensures) (gain-there _ _ (c .before .before .before .before .if1 .taken))
+
+returns-2 : tie.Need-returns-2
+unfolding none
+returns-2 c =
+    rw (c .absent .ensures) (part-none 5 1 gain _ _ (c .before .before .before .pre .1) (c .before .if1 .left))
+
+pub gain-at-spec : {M : Type 1} → statement M
+gain-at-spec =
+    tie.close
+    (tie.spec
+    shared-slice-read-wide
+    wide-requires
+    part-requires
+    new-requires
+    absent-requires
+    returns
+    returns-2)

@@ -1,0 +1,209 @@
+// Writing conditions: their bytes as numbers, the check pass with a quick test of a plain row, and the fill pass.
+ghost use mathlib.Core.Path.{_≡_};
+ghost use mathlib.Core.List.{map};
+ghost use Prim.Native.Nat.{_+_, _*_, _<_, _≤_, _^_};
+ghost use lib.ListN.{length};
+ghost use Rattle.wire.specs.Act.{rows};
+ghost use Rattle.wire.specs.Layout.{fieldOf};
+ghost use Rattle.wire.specs.Pen.{reach, Checked, Quick, Ready, Filled};
+ghost use Rattle.wire.specs.Spell.{Spells, Spelt, PlainRows};
+ghost use Rattle.wire.specs.declared.pen.Pen.the-variants.{At};
+ghost use Rattle.conditions.specs.Rows.{flagCells};
+ghost use Rattle.conditions.specs.Write.{detailCols, positionFields, flagsOf, detailActs, detailLong, conditionActs, rowActs};
+use super::rows::CONDITION_COLUMNS;
+use super::rows::PresetCondition;
+use super::rows::PresetConditionDetail;
+use super::rows::PresetPosition;
+use wire::bits::is_flag;
+use wire::pen;
+use wire::pen::Fault;
+use wire::pen::Pen;
+use wire::spell::Joined;
+use wire::spell::check_all;
+use wire::spell::fill_all;
+use wire::spell::fits_all;
+use wire::spell::fits_part;
+use wire::spell::one;
+use wire::spell::two;
+
+// ---- the bytes
+
+fn flags_byte(d: PresetConditionDetail) -> u32
+    ensures { λ r. ⌜ Spells (map (fieldOf (detailCols d)) flagCells) r ⌝ }
+{
+    let a = Joined::none().field(d.reserved, 4);
+    let b = a.field(d.disable_gain_interactivity, 1);
+    b.field(d.gain.present, 1)
+        .field(d.disable_position_interactivity, 1)
+        .field(d.position.present, 1)
+        .spelt()
+}
+
+fn position_bytes(p: PresetPosition) -> [u32; 3]
+    ensures { λ r. ⌜ Spelt (positionFields p) r ⌝ }
+{
+    [
+        one(p.az_offset),
+        two(p.reserved_el, 2, p.el_offset, 6),
+        two(p.reserved_dist, 4, p.dist_factor, 4),
+    ]
+}
+
+// ---- the check pass
+
+// Of a detail that is not there only its own flag counts.
+fn flags_hold(d: PresetConditionDetail) -> bool
+    ensures { λ r. ⌜ r ≡ flagsOf (detailCols d) ⌝ }
+{
+    if d.present == 1 {
+        is_flag(d.disable_gain_interactivity)
+            & (is_flag(d.gain.present)
+                & (is_flag(d.disable_position_interactivity) & is_flag(d.position.present)))
+    } else {
+        is_flag(d.present)
+    }
+}
+
+// Each byte of a detail that is there.
+fn check_detail(p: Pen, d: PresetConditionDetail) -> Pen
+    requires { ⌜ reach p < 2 ^ 31 ⌝ }
+    ensures { λ r. ⌜ Checked (detailActs (detailCols d)) 5 p r ⌝ }
+{
+    let p1 = check_all(p, true, &[flags_byte(d)]);
+    let p2 = check_all(p1, d.gain.present == 1, &[one(d.gain.gain)]);
+    check_all(p2, d.position.present == 1, &position_bytes(d.position))
+}
+
+// Flags at the start of the row, then each byte at its place.
+fn check_condition(n: usize, c: PresetCondition) -> Pen
+    requires { ⌜ n < 2 ^ 30 ⌝ }
+    ensures { λ r. ⌜ Checked (conditionActs c) 6 (At n) r ⌝ }
+{
+    let d = c.detail;
+    let p0 = pen::demand(Pen::At(n), Fault::Field, flags_hold(d));
+    let p1 = check_all(p0, true, &[two(c.group_id.0, 7, d.present, 1)]);
+    if d.present == 1 {
+        check_detail(p1, d)
+    } else {
+        p1
+    }
+}
+
+// The bytes of a condition whose detail is this one and is there, or 0 if a field does not fit.
+fn plain_detail(d: PresetConditionDetail) -> usize
+    ensures { λ r. ⌜ r ≡ detailLong (detailCols d) ⌝ }
+{
+    let gain = fits_part(d.gain.present == 1, &[one(d.gain.gain)]);
+    let position = fits_part(d.position.present == 1, &position_bytes(d.position));
+    if fits_all(&[flags_byte(d)]) & (gain & position) {
+        2 + ((d.gain.present as usize) + (d.position.present as usize) * 3)
+    } else {
+        0
+    }
+}
+
+// Its bytes, or 0 if it has a fault: in almost every row nothing is wrong, and this is seen at once. A flag is a field of one bit, so the bytes tell.
+fn plain_bytes(c: PresetCondition) -> usize
+    ensures { λ r. ⌜ Quick (conditionActs c) 6 r ⌝ }
+{
+    if 65536 <= two(c.group_id.0, 7, c.detail.present, 1) {
+        return 0;
+    }
+    if c.detail.present == 1 {
+        plain_detail(c.detail)
+    } else {
+        1
+    }
+}
+
+// The plain rows before the first that is not, and their bytes.
+pub struct Passed {
+    pub rows: usize,
+    pub bytes: usize,
+}
+
+// Plain rows of `count` rows, from the row `first` on.
+pub fn plain_rows(conditions: &[u16], first: usize, count: usize) -> Passed
+    requires { ⌜ ((first + count) * 13 ≤ length (now conditions)) × (first + count < 2 ^ 20) ⌝ }
+    ensures { λ r. ⌜ PlainRows (λ j. rowActs (now (conditions .entry)) (first + j)) 6 count (r .rows) (r .bytes) ⌝ }
+{
+    let mut bytes: usize = 0;
+    let mut i: usize = 0;
+    while i < count {
+        let row = (first + i) * CONDITION_COLUMNS;
+        let k = plain_bytes(PresetCondition::of_columns(conditions, row));
+        if k == 0 {
+            return Passed { rows: i, bytes };
+        }
+        bytes += k;
+        i += 1;
+    }
+    Passed { rows: i, bytes }
+}
+
+// `count` rows from the row `first` on; the row that is not plain is looked at again to name its fault.
+pub fn check_conditions(n: usize, conditions: &[u16], first: usize, count: usize) -> Pen
+    requires { ⌜ ((first + count) * 13 ≤ length (now conditions)) × (first + count < 2 ^ 20) × (n < 2 ^ 20) ⌝ }
+    ensures { λ r. ⌜ Checked (rows (rowActs (now (conditions .entry))) first count) (6 * count) (At n) r ⌝ }
+{
+    let p = plain_rows(conditions, first, count);
+    let i = p.rows;
+    let at = n + p.bytes;
+    if i < count {
+        let row = (first + i) * CONDITION_COLUMNS;
+        check_condition(at, PresetCondition::of_columns(conditions, row))
+    } else {
+        Pen::At(at)
+    }
+}
+
+// ---- the fill pass
+
+// A detail that is there.
+fn fill_detail(d: PresetConditionDetail, out: &mut [u8], n: usize) -> usize
+    requires { ⌜ Ready (detailActs (detailCols d)) n (now out) ⌝ }
+    ensures { λ r. ⌜ Filled (detailActs (detailCols d)) n (now (out .entry)) r (now (out .exit)) ⌝ }
+{
+    let n1 = fill_all(out, n, true, &[flags_byte(d)]);
+    let n2 = fill_all(out, n1, d.gain.present == 1, &[one(d.gain.gain)]);
+    fill_all(
+        out,
+        n2,
+        d.position.present == 1,
+        &position_bytes(d.position),
+    )
+}
+
+fn fill_condition(c: PresetCondition, out: &mut [u8], n: usize) -> usize
+    requires { ⌜ Ready (conditionActs c) n (now out) ⌝ }
+    ensures { λ r. ⌜ Filled (conditionActs c) n (now (out .entry)) r (now (out .exit)) ⌝ }
+{
+    let n1 = fill_all(out, n, true, &[two(c.group_id.0, 7, c.detail.present, 1)]);
+    if c.detail.present == 1 {
+        fill_detail(c.detail, out, n1)
+    } else {
+        n1
+    }
+}
+
+// `count` rows from the row `first` on.
+pub fn fill_conditions(
+    conditions: &[u16],
+    first: usize,
+    count: usize,
+    out: &mut [u8],
+    n: usize,
+) -> usize
+    requires { ⌜ ((first + count) * 13 ≤ length (now conditions)) × (first + count < 2 ^ 20) × Ready (rows (rowActs (now conditions)) first count) n (now out) ⌝ }
+    ensures { λ r. ⌜ Filled (rows (rowActs (now (conditions .entry))) first count) n (now (out .entry)) r (now (out .exit)) ⌝ }
+{
+    let end = first + count;
+    let mut at = n;
+    let mut i = first;
+    while i < end {
+        let c = PresetCondition::of_columns(conditions, i * CONDITION_COLUMNS);
+        at = fill_condition(c, out, at);
+        i += 1;
+    }
+    at
+}

@@ -1,0 +1,86 @@
+-- `parsing::fill_presets` meets its contract.
+use mathlib.Core.Path.{refl}
+use native.Mathlib.Omega.{arith}
+use Rattle.wire.proofs.Families.{Families, families-start, family-ask, families-turn, families-end}
+use Rattle.conditions.specs.Layout.{condition}
+use Rattle.presets.specs.Layout.{preset}
+use Rattle.presets.proofs.Taken.{test-so}
+use borrow.Author.Needs.{needs}
+use Rattle.presets.proofs.parsing.fill_presets.Statement.{statement}
+use Rattle.presets.proofs.parsing.fill_presets.Tie as tie
+
+abbrev Inv-loop : tie.InvT-loop
+Inv-loop body at count presets₀ conditions₀ pos₀ left₀ to₀ first₀ presets conditions pos left to first = Families preset 13 condition body at count presets₀ conditions₀ presets conditions pos left to first
+
+abbrev μ-loop : tie.MeasureT-loop
+μ-loop body at count presets₀ conditions₀ pos₀ left₀ to₀ first₀ presets conditions pos left to first = left
+
+loop-holds : tie.Need-loop-holds Inv-loop μ-loop
+loop-holds c =
+    families-start preset 13 condition _ _ _ _ _ (c .before .before .before .pre .0)
+
+fill-preset-requires : tie.Need-fill-preset-requires Inv-loop μ-loop
+fill-preset-requires c κs =
+    family-ask preset 13 condition _ _ _ _ _ (c .before .before .loop .inv) (c .before .loop-test .taken)
+
+columns-requires : tie.Need-columns-requires Inv-loop μ-loop
+columns-requires c κs = search needs
+
+slice-aggregate-put-row : tie.Need-slice-aggregate-put-row Inv-loop μ-loop
+slice-aggregate-put-row c = search needs
+
+put-row-requires : tie.Need-put-row-requires Inv-loop μ-loop
+put-row-requires c κs =
+    let i = c .before .before .before .before .before .before .before .before .loop .inv in omega (arith, i .place, i .long-outer, c .before .before .before .before .before .before .before .loop-test .taken, c .before .before .before .before .before .before .before .before .before .before .before .before .pre .1)
+
+cast-first : tie.Need-cast-first Inv-loop μ-loop
+cast-first c = search needs
+
+add-first : tie.Need-add-first Inv-loop μ-loop
+add-first c =
+    let i = c .before .before .before .before .before .before .before .before .before .before .before .before .loop .inv in omega (arith, i .before, i .inside, i .short)
+
+sub-left : tie.Need-sub-left Inv-loop μ-loop
+sub-left c = search needs
+
+add-to : tie.Need-add-to Inv-loop μ-loop
+add-to c =
+    let i = c .before .before .before .before .before .before .before .before .before .before .before .before .loop .inv in omega (arith, i .place, c .before .before .before .before .before .before .before .before .before .before .before .loop-test .taken, c .before .before .before .before .before .before .before .before .before .before .before .before .before .before .before .before .pre .1, c .before .before .before .before .before .before .before .before .before .before .before .before .before .before .before .before .good)
+
+loop-less : tie.Need-loop-less Inv-loop μ-loop
+loop-less c = search needs
+
+loop-again : tie.Need-loop-again Inv-loop μ-loop
+loop-again c =
+    families-turn preset 13 condition _ _ _ _ _ (c .before .before .before .before .before .before .before .before .before .before .before .before .loop .inv) test-so (c .before .before .before .before .before .before .before .before .before .before .before .loop-test .taken) (c .before .before .before .before .before .before .before .before .before .fill-preset .ensures) refl (rw (c .before .before .before .before .before .before .columns .ensures) at (c .before .before .before .put-row .ensures))
+
+same-length : tie.Need-same-length Inv-loop μ-loop
+same-length c = search needs
+
+same-length-2 : tie.Need-same-length-2 Inv-loop μ-loop
+same-length-2 c = search needs
+
+returns : tie.Need-returns Inv-loop μ-loop
+returns c =
+    families-end preset 13 condition _ _ _ _ _ (c .before .loop .inv) (c .loop-test .left)
+
+pub fill-presets-spec : {M : Type 1} → statement M
+fill-presets-spec =
+    tie.close
+    (tie.spec
+    Inv-loop
+    μ-loop
+    loop-holds
+    fill-preset-requires
+    columns-requires
+    slice-aggregate-put-row
+    put-row-requires
+    cast-first
+    add-first
+    sub-left
+    add-to
+    loop-less
+    loop-again
+    same-length
+    same-length-2
+    returns)

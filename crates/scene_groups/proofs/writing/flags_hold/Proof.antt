@@ -1,0 +1,33 @@
+-- `writing::flags_hold` meets its contract.
+use borrow.Author.Needs.{needs}
+use Rattle.scene_groups.proofs.writing.flags_hold.Statement.{statement}
+use Rattle.scene_groups.proofs.writing.flags_hold.Tie as tie
+
+is-flag-requires : tie.Need-is-flag-requires
+is-flag-requires c κs = search needs
+
+is-flag-requires-2 : tie.Need-is-flag-requires-2
+is-flag-requires-2 c κs = search needs
+
+is-flag-requires-3 : tie.Need-is-flag-requires-3
+is-flag-requires-3 c κs = search needs
+
+is-flag-requires-4 : tie.Need-is-flag-requires-4
+is-flag-requires-4 c κs = search needs
+
+is-flag-requires-5 : tie.Need-is-flag-requires-5
+is-flag-requires-5 c κs = search needs
+
+returns : tie.Need-returns
+returns c = cc
+
+pub flags-hold-spec : {M : Type 1} → statement M
+flags-hold-spec =
+    tie.close
+    (tie.spec
+    is-flag-requires
+    is-flag-requires-2
+    is-flag-requires-3
+    is-flag-requires-4
+    is-flag-requires-5
+    returns)

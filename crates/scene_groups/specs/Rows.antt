@@ -1,0 +1,123 @@
+-- The declared rows of table 1 as columns, the layout of a group in its parts, and what the functions of a part promise.
+use Prim.Native.Nat.{ℕ, _+_, _-_, _≤_}
+use mathlib.Core.Path.{_≡_}
+use mathlib.Core.List.{List, [], _∷_, _++_}
+use mathlib.Core.Bool.{Bool}
+use lib.ListN.{length, getD}
+use Rattle.wire.specs.Lists.{each}
+use Rattle.wire.specs.Bits.{part}
+use Rattle.wire.specs.Layout.{Cell, Layout, end, line, optional, _▹_, num, reserved, flag, Columns, of, row}
+use Rattle.wire.specs.Straight.{taken}
+use Rattle.wire.specs.Spell.{Spelt, fieldsOf}
+use Rattle.scene_groups.specs.Layout.{position, gain, language}
+use Rattle.scene_groups.specs.declared.rows.PositionInteractivity.{PositionInteractivity}
+use Rattle.scene_groups.specs.declared.rows.GainInteractivity.{GainInteractivity}
+use Rattle.scene_groups.specs.declared.rows.ContentLanguage.{ContentLanguage}
+use Rattle.scene_groups.specs.declared.rows.SceneGroup.{SceneGroup}
+
+abbrev pub positionRow : PositionInteractivity → List ℕ
+positionRow p =
+    p .present ∷ p .«reserved_min_az» ∷ p .«min_az_offset» ∷ p .«reserved_max_az» ∷ p .«max_az_offset» ∷ p .«reserved_min_el» ∷ p .«min_el_offset» ∷ p .«reserved_max_el» ∷ p .«max_el_offset» ∷ p .«min_dist_offset» ∷ p .«max_dist_offset» ∷ []
+
+abbrev pub gainRow : GainInteractivity → List ℕ
+gainRow g = g .present ∷ g .«reserved_min» ∷ g .«min_gain» ∷ g .«reserved_max» ∷ g .«max_gain» ∷ []
+
+abbrev pub languageRow : ContentLanguage → List ℕ
+languageRow l = l .present ∷ l .first ∷ l .second ∷ l .third ∷ []
+
+abbrev pub headRow : SceneGroup → List ℕ
+headRow g = g .«reserved_id» ∷ g .«group_id» .0 ∷ g .«reserved_flags» ∷ g .«allow_on_off» ∷ g .«default_on_off» ∷ g .«reserved_kind» ∷ g .«content_kind» ∷ []
+
+-- the 27 columns
+abbrev pub groupRow : SceneGroup → List ℕ
+groupRow g = headRow g ++ (positionRow (g .position) ++ (gainRow (g .gain) ++ languageRow (g .«content_language»)))
+
+abbrev pub groupCols : SceneGroup → Columns
+groupCols g = of (groupRow g)
+
+-- the columns of a part, the first of which is k
+abbrev pub from : ℕ → List ℕ → Columns
+from k r j = getD r (j - k) 0
+
+-- the row that begins at column b of a table
+abbrev pub groupOf : List ℕ → ℕ → SceneGroup
+groupOf t b = record {
+  «reserved_id» = getD t b 0;
+  «group_id» = record { 0 = getD t (b + 1) 0 };
+  «reserved_flags» = getD t (b + 2) 0;
+  «allow_on_off» = getD t (b + 3) 0;
+  «default_on_off» = getD t (b + 4) 0;
+  «reserved_kind» = getD t (b + 5) 0;
+  «content_kind» = getD t (b + 6) 0;
+  position = record {
+    present = getD t (b + 7) 0;
+    «reserved_min_az» = getD t (b + 8) 0;
+    «min_az_offset» = getD t (b + 9) 0;
+    «reserved_max_az» = getD t (b + 10) 0;
+    «max_az_offset» = getD t (b + 11) 0;
+    «reserved_min_el» = getD t (b + 12) 0;
+    «min_el_offset» = getD t (b + 13) 0;
+    «reserved_max_el» = getD t (b + 14) 0;
+    «max_el_offset» = getD t (b + 15) 0;
+    «min_dist_offset» = getD t (b + 16) 0;
+    «max_dist_offset» = getD t (b + 17) 0;
+  };
+  gain = record {
+    present = getD t (b + 18) 0;
+    «reserved_min» = getD t (b + 19) 0;
+    «min_gain» = getD t (b + 20) 0;
+    «reserved_max» = getD t (b + 21) 0;
+    «max_gain» = getD t (b + 22) 0;
+  };
+  «content_language» = record {
+    present = getD t (b + 23) 0;
+    first = getD t (b + 24) 0;
+    second = getD t (b + 25) 0;
+    third = getD t (b + 26) 0;
+  };
+}
+
+-- parts that are there, from their bytes
+abbrev pub positionFrom : List ℕ → ℕ → PositionInteractivity
+positionFrom s at = record {
+  present = 1;
+  «reserved_min_az» = part 7 1 (getD s at 0);
+  «min_az_offset» = part 0 7 (getD s at 0);
+  «reserved_max_az» = part 7 1 (getD s (at + 1) 0);
+  «max_az_offset» = part 0 7 (getD s (at + 1) 0);
+  «reserved_min_el» = part 5 3 (getD s (at + 2) 0);
+  «min_el_offset» = part 0 5 (getD s (at + 2) 0);
+  «reserved_max_el» = part 5 3 (getD s (at + 3) 0);
+  «max_el_offset» = part 0 5 (getD s (at + 3) 0);
+  «min_dist_offset» = part 4 4 (getD s (at + 4) 0);
+  «max_dist_offset» = part 0 4 (getD s (at + 4) 0);
+}
+
+abbrev pub gainFrom : List ℕ → ℕ → GainInteractivity
+gainFrom s at = record { present = 1; «reserved_min» = part 6 2 (getD s at 0); «min_gain» = part 0 6 (getD s at 0); «reserved_max» = part 5 3 (getD s (at + 1) 0); «max_gain» = part 0 5 (getD s (at + 1) 0) }
+
+abbrev pub languageFrom : List ℕ → ℕ → ContentLanguage
+languageFrom s at = record { present = 1; first = part 0 8 (getD s at 0); second = part 0 8 (getD s (at + 1) 0); third = part 0 8 (getD s (at + 2) 0) }
+
+-- ---- the layout of a group in its parts: the bytes that are always there, and three parts
+
+abbrev pub idCells : List Cell
+idCells = reserved 1 0 ∷ num 7 1 ∷ []
+
+abbrev pub flagCells : List Cell
+flagCells = reserved 3 2 ∷ flag 3 ∷ flag 4 ∷ flag 7 ∷ flag 18 ∷ flag 23 ∷ []
+
+abbrev pub contentCells : List Cell
+contentCells = reserved 4 5 ∷ num 4 6 ∷ []
+
+abbrev pub positionCells : List (List Cell)
+positionCells = (reserved 1 8 ∷ num 7 9 ∷ []) ∷ (reserved 1 10 ∷ num 7 11 ∷ []) ∷ (reserved 3 12 ∷ num 5 13 ∷ []) ∷ (reserved 3 14 ∷ num 5 15 ∷ []) ∷ (num 4 16 ∷ num 4 17 ∷ []) ∷ []
+
+abbrev pub gainCells : List (List Cell)
+gainCells = (reserved 2 19 ∷ num 6 20 ∷ []) ∷ (reserved 3 21 ∷ num 5 22 ∷ []) ∷ []
+
+abbrev pub languageCells : List (List Cell)
+languageCells = (num 8 24 ∷ []) ∷ (num 8 25 ∷ []) ∷ (num 8 26 ∷ []) ∷ []
+
+abbrev pub parts : Layout
+parts = optional 7 position ▹ optional 18 gain ▹ optional 23 language ▹ end

@@ -1,0 +1,68 @@
+-- `parsing::measure_switch_groups` meets its contract: the members so far, and those of the switch groups that are left.
+use native.Mathlib.Omega.{arith}
+use lib.ListN.{length}
+use Rattle.wire.proofs.Loops.{Summing, sum-start, sum-turn, sum-cut, sum-end, sum-small, summed-as}
+use Rattle.wire.proofs.Families.{kids-summed}
+use Rattle.switch_groups.specs.Layout.{switchGroups}
+use borrow.Author.Needs.{needs}
+use Rattle.switch_groups.proofs.parsing.measure_switch_groups.Statement.{statement}
+use Rattle.switch_groups.proofs.parsing.measure_switch_groups.Tie as tie
+
+abbrev Inv-loop : tie.InvT-loop
+Inv-loop body at count pos₀ left₀ rows₀ pos left rows = Summing switchGroups (λ x. length (x .1)) 32 body at count pos left rows
+
+abbrev μ-loop : tie.MeasureT-loop
+μ-loop body at count pos₀ left₀ rows₀ pos left rows = left
+
+loop-holds : tie.Need-loop-holds Inv-loop μ-loop
+loop-holds c =
+    sum-start switchGroups (λ x. length (x .1)) 32 _ _ _ (c .before .pre .0)
+
+switch-group-rows-requires : tie.Need-switch-group-rows-requires Inv-loop μ-loop
+switch-group-rows-requires c κs =
+    c .before .loop .inv .carries .inside
+
+enum-known-a : tie.Need-enum-known-a Inv-loop μ-loop
+enum-known-a c = search needs
+
+enum-told : tie.Need-enum-told Inv-loop μ-loop
+enum-told c = search needs
+
+returns : tie.Need-returns Inv-loop μ-loop
+returns c =
+    summed-as kids-summed (sum-cut switchGroups (λ x. length (x .1)) 32 _ _ _ (c .before .before .before .before .loop .inv) (c .before .before .before .loop-test .taken) (c .before .before .switch-group-rows .ensures) (c .enum-told .given .1))
+
+add-rows : tie.Need-add-rows Inv-loop μ-loop
+add-rows c =
+    omega (arith, sum-small (c .before .before .before .switch-group-rows .ensures) (c .before .a .given .1), c .before .before .before .before .before .loop .inv .small, c .before .before .before .before .before .before .before .pre .1)
+
+sub-left : tie.Need-sub-left Inv-loop μ-loop
+sub-left c = search needs
+
+loop-less : tie.Need-loop-less Inv-loop μ-loop
+loop-less c = search needs
+
+loop-again : tie.Need-loop-again Inv-loop μ-loop
+loop-again c =
+    sum-turn switchGroups (λ x. length (x .1)) 32 _ _ _ (c .before .before .before .before .before .loop .inv) (c .before .before .before .before .loop-test .taken) (c .before .before .before .switch-group-rows .ensures) (c .before .a .given .1)
+
+returns-2 : tie.Need-returns-2 Inv-loop μ-loop
+returns-2 c =
+    summed-as kids-summed (sum-end switchGroups (λ x. length (x .1)) 32 _ _ _ (c .before .loop .inv) (c .loop-test .left))
+
+pub measure-switch-groups-spec : {M : Type 1} → statement M
+measure-switch-groups-spec =
+    tie.close
+    (tie.spec
+    Inv-loop
+    μ-loop
+    loop-holds
+    switch-group-rows-requires
+    enum-known-a
+    enum-told
+    returns
+    add-rows
+    sub-left
+    loop-less
+    loop-again
+    returns-2)

@@ -1,0 +1,41 @@
+-- `writing::id_byte` meets its contract.
+use native.Mathlib.Omega.{arith}
+use Rattle.wire.specs.Bits.{total, widths}
+use borrow.Author.Needs.{needs}
+use Rattle.switch_groups.proofs.writing.id_byte.Statement.{statement}
+use Rattle.switch_groups.proofs.writing.id_byte.Tie as tie
+
+none-requires : tie.Need-none-requires
+none-requires c κs = search needs
+
+field-requires : tie.Need-field-requires
+field-requires c κs = search needs
+
+field-requires-2 : tie.Need-field-requires-2
+field-requires-2 c κs = search needs
+
+field-requires-3 : tie.Need-field-requires-3
+field-requires-3 c κs = search needs
+
+field-requires-4 : tie.Need-field-requires-4
+field-requires-4 c κs = search needs
+
+spelt-requires : tie.Need-spelt-requires
+spelt-requires c κs = search needs
+
+returns : tie.Need-returns
+unfolding total widths
+returns c =
+    c .spelt .ensures .of _ (omega arith) (c .before .field4 .ensures .of _ (omega arith) (c .before .before .field3 .ensures .of _ (omega arith) (c .before .before .before .field2 .ensures .of _ (omega arith) (c .before .before .before .before .field .ensures .of _ (omega arith) (c .before .before .before .before .before .none .ensures)))))
+
+pub id-byte-spec : {M : Type 1} → statement M
+id-byte-spec =
+    tie.close
+    (tie.spec
+    none-requires
+    field-requires
+    field-requires-2
+    field-requires-3
+    field-requires-4
+    spelt-requires
+    returns)
