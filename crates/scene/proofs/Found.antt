@@ -1,0 +1,133 @@
+-- Of a body whose sections were found: where its rows stand, its sizes, its record and its tables; and what the entry points answer then.
+use Prim.Native.Nat.{ℕ, _+_, _*_, _≤_, _<_}
+use mathlib.Core.Path.{_≡_, refl, sym, ap, subst, _∙_}
+use mathlib.Core.List.{List, [], _∷_, _++_, map, flatten, flatMap}
+use mathlib.Core.Option.{none}
+use native.Mathlib.Omega.{arith}
+use lib.ListN.{length, getD, drop}
+use lib.Dec.{eqb}
+use lib.Seq.{sets}
+use Rattle.wire.specs.Bits.{part}
+use Rattle.wire.specs.Lists.{firsts}
+use Rattle.wire.specs.Prog.{Prog, done, short, run, many}
+use Rattle.wire.specs.Reads.{rowsOf, isDone}
+use Rattle.wire.specs.Nest.{Fillable, Nests}
+use Rattle.wire.specs.Layout.{flat, Family, parents, kids, brokenRow}
+use Rattle.wire.proofs.Walk.{ends}
+use Rattle.wire.proofs.Loops.{many-long}
+use Rattle.wire.proofs.Rowed.{parents-long}
+use Rattle.frame.specs.Kind.{Lent}
+use Rattle.frame.specs.Numbers.{accepted}
+use Rattle.frame.specs.Entry.{Sizes, needs, sizes, tail, Measures, Reads, filled, lacking, first, others}
+use Rattle.frame.proofs.Entries.{measures-done, reads-done, judges}
+use Rattle.scene_groups.specs.Layout.{group}
+use Rattle.switch_groups.specs.Layout.{switchGroup, switchGroups}
+use Rattle.presets.specs.Layout.{preset, presets}
+use Rattle.scene.specs.declared.parsing.Places.{Places}
+use Rattle.scene.specs.declared.Sizes.{Sizes as CodeSizes}
+use Rattle.scene.specs.declared.rows.MpegH3dAudioScene.{MpegH3dAudioScene}
+use Rattle.scene.specs.Rows.{section, sceneOf, tables}
+use Rattle.scene.specs.Read.{all}
+use Rattle.scene.specs.Kind.{kind}
+use Rattle.scene.specs.Contract.{needed}
+use Rattle.scene.specs.Walk.{rowsAt, countAt, reservedAt, groupsFlag, switchesFlag, presetsFlag, Found, tree, Recorded, Counted}
+use Rattle.scene.proofs.Format.{switchRows, presetRows}
+use Rattle.scene.proofs.Sections.{Stands, stands}
+use Rattle.scene.proofs.Walked.{found-reads}
+
+module _ {s : List ℕ} {p : Places} (f : Found s p) where
+  -- each section begins in the body
+  pub at-switches : p .«switch_groups» ≤ length s
+  at-switches = ends _ s 2 (f .head) refl (f .groups-read)
+
+  pub at-presets : p .presets ≤ length s
+  at-presets = ends _ s (p .«switch_groups») at-switches refl (f .switches-read)
+
+  pub at-end : p .k ≤ length s
+  at-end = ends _ s (p .presets) at-presets refl (f .presets-read)
+
+  -- and stands where its byte says
+  pub groups-stand : Stands (flat 27 group) 1 7 1 s (groupsFlag s) 2 (f .in-groups) (p .«switch_groups»)
+  groups-stand = stands (flat 27 group) 1 7 1 s (groupsFlag s) 2 (f .head) (f .groups-read)
+
+  pub switches-stand : Stands switchGroups 3 5 7 s (switchesFlag s) (p .«switch_groups») (f .in-switches) (p .presets)
+  switches-stand = stands switchGroups 3 5 7 s (switchesFlag s) (p .«switch_groups») at-switches (f .switches-read)
+
+  pub presets-stand : Stands presets 3 5 7 s (presetsFlag s) (p .presets) (f .in-presets) (p .k)
+  presets-stand = stands presets 3 5 7 s (presetsFlag s) (p .presets) at-presets (f .presets-read)
+
+  -- how many rows each has
+  pub groups-counted : countAt 7 s (groupsFlag s) 2 ≡ length (f .in-groups .rows)
+  groups-counted = sym (many-long (flat 27 group) s _ _ _ _ (groups-stand .reads))
+
+  pub switches-counted : countAt 5 s (switchesFlag s) (p .«switch_groups») ≡ length (f .in-switches .rows)
+  switches-counted = sym (many-long switchGroups s _ _ _ _ (switches-stand .reads))
+
+  pub presets-counted : countAt 5 s (presetsFlag s) (p .presets) ≡ length (f .in-presets .rows)
+  presets-counted = sym (many-long presets s _ _ _ _ (presets-stand .reads))
+
+  pub needs-found : needed (countAt 7 s (groupsFlag s) 2) (countAt 5 s (switchesFlag s) (p .«switch_groups»)) (p .members) (countAt 5 s (presetsFlag s) (p .presets)) (p .conditions) ≡ needs (tables (tree f))
+  unfolding needs tables
+  needs-found = λ i.
+      needed (groups-counted i) ((switches-counted ∙ sym (parents-long switchRows (f .in-switches .rows))) i) (f .members-are i) ((presets-counted ∙ sym (parents-long presetRows (f .in-presets .rows))) i) (f .conditions-are i)
+
+  module _ (h : length s ≤ 65535) where
+    -- what is measured, and what is read into tables that have room
+    pub measures-found : Measures kind s (accepted (sizes kind (record { tree = tree f; before = p .k })))
+    unfolding kind
+    measures-found = measures-done kind s h (found-reads s p f)
+
+    pub reads-found : (lent : Lent) → lacking (needs (tables (tree f))) lent ≡ none → Reads kind s lent (accepted (kind .top (tree f) (tail (p .k) s))) (filled (tables (tree f)) lent)
+    unfolding kind
+    reads-found lent e = reads-done kind s lent (judges kind s {o = done (tree f) (p .k)} h (sym (found-reads s p f))) e
+
+-- ---- the record and the sizes, from the bytes
+
+-- flags as code has them
+pub record Flags (s : List ℕ) (g t q : ℕ) : Type 0 where
+  pub of-groups : g ≡ groupsFlag s
+  pub of-switches : t ≡ switchesFlag s
+  pub of-presets : q ≡ presetsFlag s
+
+pub flags-so : {s : List ℕ} {v g t q : ℕ} → v ≡ getD s 0 0 → g ≡ part 7 1 v → t ≡ part 6 1 v → q ≡ part 5 1 v → Flags s g t q
+flags-so e a b c = record { of-groups = a ∙ ap (part 7 1) e; of-switches = b ∙ ap (part 6 1) e; of-presets = c ∙ ap (part 5 1) e }
+
+module _ {s : List ℕ} {p : Places} (f : Found s p) where
+  pub groups-there : {g : ℕ} → g ≡ groupsFlag s → rowsAt g 2 ≤ length s
+  groups-there e = rw e (groups-stand f .there-is)
+
+  pub switches-there : {t : ℕ} → t ≡ switchesFlag s → rowsAt t (p .«switch_groups») ≤ length s
+  switches-there e = rw e (switches-stand f .there-is)
+
+  pub presets-there : {q : ℕ} → q ≡ presetsFlag s → rowsAt q (p .presets) ≤ length s
+  presets-there e = rw e (presets-stand f .there-is)
+
+module _ {s : List ℕ} {p : Places} {g t q : ℕ} (w : Flags s g t q) where
+  pub counted : {r : CodeSizes} → r .groups ≡ countAt 7 s g 2 → r .«switch_groups» ≡ countAt 5 s t (p .«switch_groups») → r .members ≡ p .members → r .presets ≡ countAt 5 s q (p .presets) → r .conditions ≡ p .conditions → r .k ≡ p .k → Counted s p r
+  unfolding sizes kind
+  counted {r} a b c d e k = record {
+    is = λ f.
+        (λ i. record { tables = needed ((a ∙ ap (λ (g : ℕ). countAt 7 s g 2) (w .of-groups)) i) ((b ∙ ap (λ (t : ℕ). countAt 5 s t (p .«switch_groups»)) (w .of-switches)) i) (c i) ((d ∙ ap (λ (q : ℕ). countAt 5 s q (p .presets)) (w .of-presets)) i) (e i); before = k i })
+        ∙ (λ i. record { tables = needs-found f i; before = p .k });
+  }
+
+  pub recorded : {r : MpegH3dAudioScene} → r .«reserved_flags» ≡ part 0 5 (getD s 0 0) → r .«scene_info_id» ≡ all (getD s 1 0)
+      → r .groups ≡ section g (countAt 7 s g 2) → r .«reserved_switch_groups» ≡ reservedAt 3 5 7 s t (p .«switch_groups») → r .«switch_groups» ≡ section t (countAt 5 s t (p .«switch_groups»))
+      → r .«reserved_presets» ≡ reservedAt 3 5 7 s q (p .presets) → r .presets ≡ section q (countAt 5 s q (p .presets)) → r .«reserved_groups» ≡ reservedAt 1 7 1 s g 2 → r .trailing ≡ tail (p .k) s → Recorded s p r
+  recorded {r} a b c d e h j k l = record {
+    is = λ f.
+        let x = groups-stand f .is in
+        let y = switches-stand f .is in
+        let z = presets-stand f .is in
+        λ i. record {
+          «reserved_flags» = a i;
+          «scene_info_id» = b i;
+          groups = (c ∙ (λ i. section (w .of-groups i) (countAt 7 s (w .of-groups i) 2)) ∙ (λ i. section (groupsFlag s) (sym x i .count))) i;
+          «reserved_switch_groups» = (d ∙ (λ i. reservedAt 3 5 7 s (w .of-switches i) (p .«switch_groups»)) ∙ (λ i. sym y i .reserved)) i;
+          «switch_groups» = (e ∙ (λ i. section (w .of-switches i) (countAt 5 s (w .of-switches i) (p .«switch_groups»))) ∙ (λ i. section (switchesFlag s) (sym y i .count))) i;
+          «reserved_presets» = (h ∙ (λ i. reservedAt 3 5 7 s (w .of-presets i) (p .presets)) ∙ (λ i. sym z i .reserved)) i;
+          presets = (j ∙ (λ i. section (w .of-presets i) (countAt 5 s (w .of-presets i) (p .presets))) ∙ (λ i. section (presetsFlag s) (sym z i .count))) i;
+          «reserved_groups» = (k ∙ (λ i. reservedAt 1 7 1 s (w .of-groups i) 2) ∙ (λ i. sym x i .reserved)) i;
+          trailing = l i;
+        };
+  }

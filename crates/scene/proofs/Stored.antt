@@ -1,0 +1,141 @@
+-- Filling the tables of a body whose sections were found: what the functions that fill ask for, and that they leave the rows of the tree.
+use Prim.Native.Nat.{ℕ, _+_, _*_, _≤_, _<_, _^_}
+use mathlib.Core.Path.{_≡_, refl, sym, ap, subst, _∙_}
+use mathlib.Core.List.{List, [], _∷_, _++_, map, map-id, flatten, flatMap, append-assoc}
+use mathlib.Core.Bool.{true}
+use mathlib.Core.Option.{none}
+use native.Mathlib.Omega.{arith}
+use lib.ListN.{length, drop}
+use lib.Seq.{sets, slice}
+use Rattle.wire.specs.Lists.{Every, firsts}
+use Rattle.wire.specs.Prog.{Prog, Out, done, run, many}
+use Rattle.wire.specs.Reads.{rowsOf, isDone}
+use Rattle.wire.specs.Nest.{Fillable, Nests}
+use Rattle.wire.specs.Layout.{flat, Broken, Family, parents, kids, brokenRow}
+use Rattle.wire.proofs.Steps.{front-stored}
+use Rattle.wire.proofs.Takes.{run-takes}
+use Rattle.wire.proofs.Tables.{flat-map}
+use Rattle.wire.proofs.Rowed.{Wide, rows-long, Nest, parents-long, parents-wide}
+use Rattle.frame.specs.Kind.{Lent}
+use Rattle.frame.specs.Entry.{needs, lacking, room, first, others, filled}
+use Rattle.frame.proofs.MoreRoom.{none-fit, fit-head}
+use Rattle.scene_groups.specs.Layout.{group}
+use Rattle.switch_groups.specs.Layout.{switchGroup, switchGroups}
+use Rattle.presets.specs.Layout.{preset, presets}
+use Rattle.scene.specs.declared.parsing.Places.{Places}
+use Rattle.scene.specs.Rows.{tables}
+use Rattle.scene.specs.Kind.{parse}
+use Rattle.scene.specs.Walk.{rowsAt, countAt, groupsFlag, switchesFlag, presetsFlag, Found, tree, Rooms, Stored}
+use Rattle.scene.proofs.Format.{switchRows, presetRows}
+use Rattle.scene.proofs.Laws.{Few, few}
+use Rattle.scene.proofs.Walked.{found-reads}
+use Rattle.scene.proofs.Found.{Flags, groups-stand, switches-stand, presets-stand, groups-counted, switches-counted, presets-counted, at-presets, at-switches}
+
+-- ---- rows at the front of a table
+
+front : (n : ℕ) (l : List (List ℕ)) (t : List ℕ) → Every (Wide n) l → length l * n ≤ length t → sets t 0 (flatten l) ≡ flatten l ++ drop (length (flatten l)) t
+front n l t w h = front-stored t (flatten l) (omega (arith, rows-long n l w))
+
+flatten-append : (a b : List (List ℕ)) → flatten (a ++ b) ≡ flatten a ++ flatten b
+unfolding flatten
+flatten-append [] b = refl
+flatten-append (x ∷ a) b = ap (λ (l : List ℕ). x ++ l) (flatten-append a b) ∙ sym (append-assoc x (flatten a) (flatten b))
+
+kids-flat : (l : List Family) → flatMap (λ x. flatten (x .1)) l ≡ flatten (kids l)
+unfolding flatMap flatten
+kids-flat [] = refl
+kids-flat (x ∷ l) = ap (λ (r : List ℕ). flatten (x .1) ++ r) (kids-flat l) ∙ sym (flatten-append (x .1) (kids l))
+
+-- rows with rows of another table, both at the front of theirs
+record Both (b : Broken) (l : List Family) (t u t′ u′ : List ℕ) : Type 0 where
+  outer : t′ ≡ flatten (parents b l) ++ drop (length (flatten (parents b l))) t
+  inner : u′ ≡ flatten (kids l) ++ drop (length (flatten (kids l))) u
+
+both : (n : Nest) (p : Prog Family) {s : List ℕ} {at count end : ℕ} (l : List Family) (t u : List ℕ) {t′ u′ : List ℕ} → Nests p (λ x. length (x .1)) (λ i x. brokenRow (n .row) (i, x)) (λ x. flatten (x .1)) s at count t u t′ u′ → run (many count p) s at ≡ done l end
+    → Every (Wide (n .kid .columns)) (kids l) → length l * n .row .width ≤ length t → length (kids l) * n .kid .columns ≤ length u → Both (n .row) l t u t′ u′
+both n p {end = end} l t u v d w h k =
+    let z : done (v .value) (v .end) ≡ done l end = sym (v .reads) ∙ d in
+    let e : v .value ≡ l = cc z in
+    let m = parents-long n l in
+    let a : length (parents (n .row) l) * n .row .width ≤ length t = subst (λ (k : ℕ). k * n .row .width ≤ length t) (sym m) h in
+    record {
+      outer = v .outer ∙ ap (λ (l : List Family). sets t 0 (flatMap (brokenRow (n .row)) (firsts (λ x. length (x .1)) 0 l))) e ∙ ap (sets t 0) (flat-map (brokenRow (n .row)) (firsts (λ (x : Family). length (x .1)) 0 l)) ∙ front (n .row .width) (parents (n .row) l) t (parents-wide n l) a;
+      inner = v .inner ∙ ap (λ (l : List Family). sets u 0 (flatMap (λ x. flatten (x .1)) l)) e ∙ ap (sets u 0) (kids-flat l) ∙ front (n .kid .columns) (kids l) u w k;
+    }
+
+-- ---- the room of all tables
+
+module _ {s : List ℕ} {p : Places} (f : Found s p) (t₁ t₂ t₃ t₄ t₅ : List ℕ) (r : Rooms s p (t₁ ∷ t₂ ∷ t₃ ∷ t₄ ∷ t₅ ∷ [])) where
+  record Space : Type 0 where
+    groups : length (f .in-groups .rows) * 27 ≤ length t₁
+    switches : length (f .in-switches .rows) * 9 ≤ length t₂
+    members : length (kids (f .in-switches .rows)) * 2 ≤ length t₃
+    presets : length (f .in-presets .rows) * 7 ≤ length t₄
+    conditions : length (kids (f .in-presets .rows)) * 13 ≤ length t₅
+
+  space : Space
+  unfolding needs tables room first others
+  space =
+      let h₁ = fit-head (none-fit (needs (tables (tree f))) (t₁ ∷ t₂ ∷ t₃ ∷ t₄ ∷ t₅ ∷ []) (r .has f)) in
+      let h₂ = fit-head (h₁ .1) in
+      let h₃ = fit-head (h₂ .1) in
+      let h₄ = fit-head (h₃ .1) in
+      let h₅ = fit-head (h₄ .1) in
+      record {
+        groups = omega (arith, h₁ .0);
+        switches = omega (arith, h₂ .0, parents-long switchRows (f .in-switches .rows));
+        members = omega (arith, h₃ .0);
+        presets = omega (arith, h₄ .0, parents-long presetRows (f .in-presets .rows));
+        conditions = omega (arith, h₅ .0);
+      }
+
+  -- what is asked for before each section is stored, with the flags as code has them
+  pub groups-ask : {g : ℕ} → g ≡ groupsFlag s → (rowsAt g 2 ≤ length s) × (isDone (run (many (countAt 7 s g 2) (flat 27 group)) s (rowsAt g 2)) ≡ true) × (27 * countAt 7 s g 2 ≤ length t₁) × (2 < 2 ^ 32)
+  groups-ask e = let w = groups-stand f in rw e (w .there-is, ap isDone (w .reads), omega (arith, space .groups, groups-counted f), omega arith)
+
+  module _ (short : length s < 65536) where
+    pub switches-ask : {t : ℕ} → t ≡ switchesFlag s → Fillable (many (countAt 5 s t (p .«switch_groups»)) switchGroups) 2 (λ l. length (kids l)) s (rowsAt t (p .«switch_groups»)) 0 t₃ × (9 * countAt 5 s t (p .«switch_groups») ≤ length t₂) × (p .«switch_groups» < 2 ^ 32)
+    switches-ask e =
+        let w = switches-stand f in
+        rw e
+        (record { value = f .in-switches .rows; end = p .presets; reads = w .reads; begun = w .there-is; all = short; before = omega arith; room = omega (arith, space .members) }, omega (arith, space .switches, switches-counted f), omega (arith, at-switches f, short))
+
+    pub presets-ask : {q : ℕ} → q ≡ presetsFlag s → Fillable (many (countAt 5 s q (p .presets)) presets) 13 (λ l. length (kids l)) s (rowsAt q (p .presets)) 0 t₅ × (7 * countAt 5 s q (p .presets) ≤ length t₄) × (p .presets < 2 ^ 32)
+    presets-ask e =
+        let w = presets-stand f in
+        rw e
+        (record { value = f .in-presets .rows; end = p .k; reads = w .reads; begun = w .there-is; all = short; before = omega arith; room = omega (arith, space .conditions) }, omega (arith, space .presets, presets-counted f), omega (arith, at-presets f, short))
+
+  -- ---- and what they leave
+
+  wide : Few (tree f) (slice 0 (p .k) s)
+  wide = few (tree f) (slice 0 (p .k) s) (run-takes parse s 0 (found-reads s p f) (omega arith))
+
+  pub groups-stored : {g : ℕ} {t′ : List ℕ} → g ≡ groupsFlag s → t′ ≡ sets t₁ 0 (flatMap (λ r. r) (rowsOf (run (many (countAt 7 s g 2) (flat 27 group)) s (rowsAt g 2)))) → t′ ≡ flatten (f .in-groups .rows) ++ drop (length (flatten (f .in-groups .rows))) t₁
+  groups-stored e q =
+      let l = f .in-groups .rows in
+      q ∙ (λ i. sets t₁ 0 (flatMap (λ r. r) (rowsOf (run (many (countAt 7 s (e i) 2) (flat 27 group)) s (rowsAt (e i) 2))))) ∙ ap (λ (o : Out (List (List ℕ))). sets t₁ 0 (flatMap (λ r. r) (rowsOf o))) (groups-stand f .reads)
+      ∙ ap (sets t₁ 0) (flat-map (λ (r : List ℕ). r) l ∙ ap flatten (map-id l)) ∙ front 27 l t₁ (wide .groups) (space .groups)
+
+  switches-stored : {t : ℕ} {t′ u′ : List ℕ} → t ≡ switchesFlag s → Nests switchGroups (λ x. length (x .1)) (λ n x. brokenRow switchGroup (n, x)) (λ x. flatten (x .1)) s (rowsAt t (p .«switch_groups»)) (countAt 5 s t (p .«switch_groups»)) t₂ t₃ t′ u′
+      → Both switchGroup (f .in-switches .rows) t₂ t₃ t′ u′
+  switches-stored e v = both switchRows switchGroups {end = p .presets} (f .in-switches .rows) t₂ t₃ v (rw e (switches-stand f .reads)) (wide .members) (space .switches) (space .members)
+
+  presets-stored : {q : ℕ} {t′ u′ : List ℕ} → q ≡ presetsFlag s → Nests presets (λ x. length (x .1)) (λ n x. brokenRow preset (n, x)) (λ x. flatten (x .1)) s (rowsAt q (p .presets)) (countAt 5 s q (p .presets)) t₄ t₅ t′ u′
+      → Both preset (f .in-presets .rows) t₄ t₅ t′ u′
+  presets-stored e v = both presetRows presets {end = p .k} (f .in-presets .rows) t₄ t₅ v (rw e (presets-stand f .reads)) (wide .conditions) (space .presets) (space .conditions)
+
+-- all five tables
+pub stored : {s : List ℕ} {p : Places} (t₁ t₂ t₃ t₄ t₅ : List ℕ) {u₁ u₂ u₃ u₄ u₅ : List ℕ} {g t q : ℕ} → Flags s g t q → Rooms s p (t₁ ∷ t₂ ∷ t₃ ∷ t₄ ∷ t₅ ∷ [])
+    → u₁ ≡ sets t₁ 0 (flatMap (λ r. r) (rowsOf (run (many (countAt 7 s g 2) (flat 27 group)) s (rowsAt g 2))))
+    → Nests switchGroups (λ x. length (x .1)) (λ n x. brokenRow switchGroup (n, x)) (λ x. flatten (x .1)) s (rowsAt t (p .«switch_groups»)) (countAt 5 s t (p .«switch_groups»)) t₂ t₃ u₂ u₃
+    → Nests presets (λ x. length (x .1)) (λ n x. brokenRow preset (n, x)) (λ x. flatten (x .1)) s (rowsAt q (p .presets)) (countAt 5 s q (p .presets)) t₄ t₅ u₄ u₅
+    → Stored s p (t₁ ∷ t₂ ∷ t₃ ∷ t₄ ∷ t₅ ∷ []) (u₁ ∷ u₂ ∷ u₃ ∷ u₄ ∷ u₅ ∷ [])
+unfolding filled tables first others
+stored {s} {p} t₁ t₂ t₃ t₄ t₅ w r a b c = record {
+  is = λ f.
+      let x = groups-stored f t₁ t₂ t₃ t₄ t₅ r (w .of-groups) a in
+      let y = switches-stored f t₁ t₂ t₃ t₄ t₅ r (w .of-switches) b in
+      let z = presets-stored f t₁ t₂ t₃ t₄ t₅ r (w .of-presets) c in
+      λ i. x i ∷ y .outer i ∷ y .inner i ∷ z .outer i ∷ z .inner i ∷ [];
+}

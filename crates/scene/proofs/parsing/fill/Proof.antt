@@ -1,0 +1,74 @@
+-- `scene::parsing::fill` meets its contract: section after section.
+use mathlib.Core.Path.{ap, _∙_}
+use Rattle.wire.specs.Bits.{part}
+use Rattle.scene.proofs.Found.{flags-so}
+use Rattle.scene.proofs.Stored.{groups-ask, switches-ask, presets-ask, stored}
+use borrow.Author.Needs.{needs}
+use Rattle.scene.proofs.parsing.fill.Statement.{statement}
+use Rattle.scene.proofs.parsing.fill.Tie as tie
+use Rattle.scene.proofs.parsing.fill.Reads as reads
+
+shared-slice-read-wide : tie.Need-shared-slice-read-wide
+shared-slice-read-wide c = search needs
+
+wide-requires : tie.Need-wide-requires
+wide-requires c κs = search needs
+
+part-requires : tie.Need-part-requires
+part-requires c κs = search needs
+
+fill-groups-section-requires : tie.Need-fill-groups-section-requires
+fill-groups-section-requires c κs =
+    groups-ask (c .before .before .before .before .before .before .before .before .before .before .pre .0) _ _ _ _ _ (c .before .before .before .before .before .before .before .before .before .before .pre .2) (c .before .part .ensures ∙ ap (part 7 1) (c .before .before .wide .ensures))
+
+part-requires-2 : tie.Need-part-requires-2
+part-requires-2 c κs = search needs
+
+fill-switch-groups-section-requires : tie.Need-fill-switch-groups-section-requires
+fill-switch-groups-section-requires c κs =
+    switches-ask (c .before .before .before .before .before .before .before .before .before .before .before .before .before .before .before .before .pre .0) _ _ _ _ _ (c .before .before .before .before .before .before .before .before .before .before .before .before .before .before .before .before .pre .2) (c .before .before .before .before .before .before .before .before .before .before .before .before .before .before .before .before .pre .1) (c .before .before .part2 .ensures ∙ ap (part 6 1) (c .before .before .before .before .before .before .before .before .wide .ensures))
+
+part-requires-3 : tie.Need-part-requires-3
+part-requires-3 c κs = search needs
+
+fill-presets-section-requires : tie.Need-fill-presets-section-requires
+fill-presets-section-requires c κs =
+    presets-ask (c .before .before .before .before .before .before .before .before .before .before .before .before .before .before .before .before .before .before .before .before .before .before .before .before .pre .0) _ _ _ _ _ (c .before .before .before .before .before .before .before .before .before .before .before .before .before .before .before .before .before .before .before .before .before .before .before .before .pre .2) (c .before .before .before .before .before .before .before .before .before .before .before .before .before .before .before .before .before .before .before .before .before .before .before .before .pre .1) (c .before .before .part3 .ensures ∙ ap (part 5 1) (c .before .before .before .before .before .before .before .before .before .before .before .before .before .before .before .before .wide .ensures))
+
+same-length : tie.Need-same-length
+same-length c = search needs
+
+same-length-2 : tie.Need-same-length-2
+same-length-2 c = search needs
+
+same-length-3 : tie.Need-same-length-3
+same-length-3 c = search needs
+
+same-length-4 : tie.Need-same-length-4
+same-length-4 c = search needs
+
+same-length-5 : tie.Need-same-length-5
+same-length-5 c = search needs
+
+returns : tie.Need-returns
+returns c =
+    stored _ _ _ _ _ (flags-so (c .before .before .before .before .before .before .before .before .before .before .before .before .before .before .before .before .before .before .before .before .before .wide .ensures) (c .before .before .before .before .before .before .before .before .before .before .before .before .before .before .before .before .before .before .before .before .part .ensures) (c .before .before .before .before .before .before .before .before .before .before .before .before .before .before .before .part2 .ensures) (c .before .before .before .before .before .before .before .part3 .ensures)) (c .before .before .before .before .before .before .before .before .before .before .before .before .before .before .before .before .before .before .before .before .before .before .before .before .before .before .before .before .before .pre .2) (c .before .before .before .before .before .before .before .before .before .before .before .before .before .before .before .before .before .before .fill-groups-section .ensures) (c .before .before .before .before .before .before .before .before .before .before .before .before .fill-switch-groups-section .ensures) (c .before .before .before .before .fill-presets-section .ensures)
+
+pub fill-spec : {M : Type 1} → statement M
+fill-spec =
+    tie.close
+    (tie.spec
+    shared-slice-read-wide
+    wide-requires
+    part-requires
+    fill-groups-section-requires
+    part-requires-2
+    fill-switch-groups-section-requires
+    part-requires-3
+    fill-presets-section-requires
+    same-length
+    same-length-2
+    same-length-3
+    same-length-4
+    same-length-5
+    returns)

@@ -1,0 +1,40 @@
+-- `scene::parsing::fill_presets_section` meets its contract.
+use borrow.Author.Needs.{needs}
+use Rattle.scene.proofs.parsing.fill_presets_section.Statement.{statement}
+use Rattle.scene.proofs.parsing.fill_presets_section.Tie as tie
+use Rattle.scene.proofs.parsing.fill_presets_section.Reads as reads
+
+count-at-requires : tie.Need-count-at-requires
+count-at-requires c κs = search needs
+
+rows-at-requires : tie.Need-rows-at-requires
+rows-at-requires c κs = search needs
+
+cast-fill-presets : tie.Need-cast-fill-presets
+cast-fill-presets c = search needs
+
+fill-presets-requires : tie.Need-fill-presets-requires
+fill-presets-requires c κs =
+    rw (c .before .before .rows-at .ensures, c .before .before .before .count-at .ensures .0) (c .before .before .before .before .before .before .before .pre .0, c .before .before .before .before .before .before .before .pre .1)
+
+same-length : tie.Need-same-length
+same-length c = search needs
+
+same-length-2 : tie.Need-same-length-2
+same-length-2 c = search needs
+
+returns : tie.Need-returns
+returns c =
+    rw (← c .before .before .before .before .before .before .before .rows-at .ensures, ← c .before .before .before .before .before .before .before .before .count-at .ensures .0) (c .before .before .before .before .fill-presets .ensures)
+
+pub fill-presets-section-spec : {M : Type 1} → statement M
+fill-presets-section-spec =
+    tie.close
+    (tie.spec
+    count-at-requires
+    rows-at-requires
+    cast-fill-presets
+    fill-presets-requires
+    same-length
+    same-length-2
+    returns)

@@ -1,0 +1,66 @@
+-- `scene::read` meets its contract: the sections, or why there are none.
+use native.Mathlib.Omega.{arith}
+use Rattle.frame.proofs.Entries.{measures-long, measures-short, reads-unmeasured}
+use Rattle.scene.specs.Kind.{kind}
+use borrow.Author.Needs.{needs}
+use Rattle.scene.proofs.read.Statement.{statement}
+use Rattle.scene.proofs.read.Tie as tie
+use Rattle.scene.proofs.read.Reads as reads
+
+returns : tie.Need-returns
+returns c =
+    reads-unmeasured kind _ (measures-long kind _ (c .if1 .taken)) _
+
+find-sections-requires : tie.Need-find-sections-requires
+find-sections-requires c κs = search needs
+
+enum-known-w : tie.Need-enum-known-w
+enum-known-w c = search needs
+
+read-found-requires : tie.Need-read-found-requires
+read-found-requires c κs =
+    (rw (c .before .before .before .before .before .before .w .given .1) at (c .before .before .before .before .before .before .before .before .find-sections .ensures) .finds, omega (arith, c .before .before .before .before .before .before .before .before .before .if1 .left))
+
+enum-known-w-2 : tie.Need-enum-known-w-2
+enum-known-w-2 c = search needs
+
+same-length : tie.Need-same-length
+same-length c = search needs
+
+same-length-2 : tie.Need-same-length-2
+same-length-2 c = search needs
+
+same-length-3 : tie.Need-same-length-3
+same-length-3 c = search needs
+
+same-length-4 : tie.Need-same-length-4
+same-length-4 c = search needs
+
+same-length-5 : tie.Need-same-length-5
+same-length-5 c = search needs
+
+returns-2 : tie.Need-returns-2
+returns-2 c =
+    c .before .before .before .before .before .before .before .before .before .before .read-found .ensures
+
+returns-3 : tie.Need-returns-3
+unfolding kind
+returns-3 c =
+    reads-unmeasured kind _ (measures-short kind _ (omega (arith, c .before .before .before .before .if1 .left)) (rw (c .before .w2 .given .1) at (c .before .before .before .find-sections .ensures) .finds)) _
+
+pub read-spec : {M : Type 1} → statement M
+read-spec =
+    tie.close
+    (tie.spec
+    returns
+    find-sections-requires
+    enum-known-w
+    read-found-requires
+    enum-known-w-2
+    same-length
+    same-length-2
+    same-length-3
+    same-length-4
+    same-length-5
+    returns-2
+    returns-3)

@@ -1,0 +1,82 @@
+-- The top record of the scene body as columns, and what was read of a body: rows as their columns.
+use Prim.Native.Nat.{ℕ}
+use mathlib.Core.List.{List, [], _∷_, _++_}
+use lib.ListN.{getD}
+use lib.Dec.{eqb}
+use Rattle.wire.specs.Bits.{bit}
+use Rattle.wire.specs.declared.rows.Payload.{Payload}
+use Rattle.wire.specs.Layout.{Columns, of, Family, parents, kids}
+use Rattle.frame.specs.Kind.{Rows, Bound, bounded}
+use Rattle.switch_groups.specs.Layout.{switchGroup}
+use Rattle.presets.specs.Layout.{preset}
+use Rattle.scene.specs.declared.rows.Section.{Section}
+use Rattle.scene.specs.declared.rows.MpegH3dAudioScene.{MpegH3dAudioScene}
+
+-- ---- the record
+
+-- its columns in the Rust's order, the trailing run apart
+abbrev pub fields : MpegH3dAudioScene → List ℕ
+fields m =
+    m .«reserved_flags» ∷ m .«scene_info_id» ∷ bit (m .groups .present) ∷ m .groups .count
+    ∷ m .«reserved_switch_groups» ∷ bit (m .«switch_groups» .present) ∷ m .«switch_groups» .count
+    ∷ m .«reserved_presets» ∷ bit (m .presets .present) ∷ m .presets .count
+    ∷ m .«reserved_groups» ∷ []
+
+abbrev pub section : ℕ → ℕ → Section
+section present count = record { present = eqb present 1; count = count }
+
+abbrev pub sceneOf : List ℕ → Payload → MpegH3dAudioScene
+sceneOf r run = record {
+  «reserved_flags» = getD r 0 0;
+  «scene_info_id» = getD r 1 0;
+  groups = section (getD r 2 0) (getD r 3 0);
+  «reserved_switch_groups» = getD r 4 0;
+  «switch_groups» = section (getD r 5 0) (getD r 6 0);
+  «reserved_presets» = getD r 7 0;
+  presets = section (getD r 8 0) (getD r 9 0);
+  «reserved_groups» = getD r 10 0;
+  trailing = run;
+}
+
+abbrev pub topColumns : ℕ
+topColumns = 13
+
+abbrev pub topRow : MpegH3dAudioScene → List ℕ
+topRow m = fields m ++ (m .trailing .offset ∷ m .trailing .length ∷ [])
+
+abbrev pub retrail : MpegH3dAudioScene → Payload → MpegH3dAudioScene
+retrail m run = record {
+  «reserved_flags» = m .«reserved_flags»;
+  «scene_info_id» = m .«scene_info_id»;
+  groups = m .groups;
+  «reserved_switch_groups» = m .«reserved_switch_groups»;
+  «switch_groups» = m .«switch_groups»;
+  «reserved_presets» = m .«reserved_presets»;
+  presets = m .presets;
+  «reserved_groups» = m .«reserved_groups»;
+  trailing = run;
+}
+
+unfoldable pub bounds : MpegH3dAudioScene → List Bound
+bounds m =
+    bounded 256 (m .«reserved_flags») ∷ bounded 256 (m .«scene_info_id») ∷ bounded 65536 (m .groups .count)
+    ∷ bounded 256 (m .«reserved_switch_groups») ∷ bounded 65536 (m .«switch_groups» .count)
+    ∷ bounded 256 (m .«reserved_presets») ∷ bounded 65536 (m .presets .count)
+    ∷ bounded 256 (m .«reserved_groups») ∷ bounded 65536 (m .trailing .offset) ∷ bounded 65536 (m .trailing .length) ∷ []
+
+-- ---- what is read: the 11 columns, the groups, and the switch groups and presets each with its own rows
+
+pub record Scene : Type 0 where
+  pub top : List ℕ
+  pub groups : List (List ℕ)
+  pub «switch_groups» : List Family
+  pub presets : List Family
+
+unfoldable pub tables : Scene → List Rows
+tables t =
+    record { number = 1; columns = 27; rows = t .groups }
+    ∷ record { number = 2; columns = 9; rows = parents switchGroup (t .«switch_groups») }
+    ∷ record { number = 3; columns = 2; rows = kids (t .«switch_groups») }
+    ∷ record { number = 4; columns = 7; rows = parents preset (t .presets) }
+    ∷ record { number = 5; columns = 13; rows = kids (t .presets) }
+    ∷ []

@@ -1,0 +1,97 @@
+-- What the walk along a scene body finds: where its sections stand, and how many rows they need of the tables below theirs. The promises of the entry points do not rest on it.
+use Prim.Native.Nat.{ℕ, _+_, _≤_}
+use mathlib.Core.List.{List, [], _∷_}
+use mathlib.Core.Option.{none}
+use mathlib.Core.Path.{_≡_}
+use lib.ListN.{length, getD}
+use lib.Dec.{eqb}
+use Rattle.wire.specs.Bits.{part, zeros}
+use Rattle.wire.specs.Prog.{Prog, done, short, run}
+use Rattle.wire.specs.Act.{pick}
+use Rattle.wire.specs.Layout.{flat, Family, kids}
+use Rattle.frame.specs.Kind.{Lent}
+use Rattle.frame.specs.Entry.{needs, lacking, filled, tail, sizes}
+use Rattle.scene_groups.specs.Layout.{group}
+use Rattle.switch_groups.specs.Layout.{switchGroups}
+use Rattle.presets.specs.Layout.{presets}
+use Rattle.scene.specs.declared.parsing.Places.{Places}
+use Rattle.scene.specs.declared.parsing.Walk.{Walk}
+use Rattle.scene.specs.declared.parsing.Walk.the-variants as W
+use Rattle.scene.specs.declared.rows.MpegH3dAudioScene.{MpegH3dAudioScene}
+use Rattle.scene.specs.declared.Sizes.{Sizes}
+use Rattle.scene.specs.Rows.{Scene, sceneOf, tables}
+use Rattle.scene.specs.Read.{all, Section, section}
+use Rattle.scene.specs.Kind as K
+use Rattle.scene.specs.Kind.{parse, kind}
+use Rattle.scene.specs.Contract.{sized}
+
+-- of a section whose byte stands at a position, if its flag is 1: where its rows begin, and how many there are
+unfoldable pub rowsAt : ℕ → ℕ → ℕ
+rowsAt flag at = at + pick (eqb flag 1) 1 0
+
+unfoldable pub countAt : ℕ → List ℕ → ℕ → ℕ → ℕ
+countAt w s flag at = pick (eqb flag 1) (part 0 w (getD s at 0)) 0
+
+unfoldable pub reservedAt : (r w ones : ℕ) → List ℕ → ℕ → ℕ → ℕ
+reservedAt r w ones s flag at = pick (eqb flag 1) (part w r (getD s at 0)) ones
+
+unfoldable pub reservedZeros : (r w : ℕ) → List ℕ → ℕ → ℕ → ℕ
+reservedZeros r w s flag at = pick (eqb flag 1) (zeros r (part w r (getD s at 0))) 0
+
+-- the three flags
+abbrev pub groupsFlag : List ℕ → ℕ
+groupsFlag s = part 7 1 (getD s 0 0)
+
+abbrev pub switchesFlag : List ℕ → ℕ
+switchesFlag s = part 6 1 (getD s 0 0)
+
+abbrev pub presetsFlag : List ℕ → ℕ
+presetsFlag s = part 5 1 (getD s 0 0)
+
+-- each section is read where the one before it ends
+pub record Found (s : List ℕ) (p : Places) : Type 0 where
+  pub in-groups : Section (List ℕ)
+  pub in-switches : Section Family
+  pub in-presets : Section Family
+  pub head : 2 ≤ length s
+  pub groups-read : run (section (groupsFlag s) 1 7 1 (flat 27 group)) s 2 ≡ done in-groups (p .«switch_groups»)
+  pub switches-read : run (section (switchesFlag s) 3 5 7 switchGroups) s (p .«switch_groups») ≡ done in-switches (p .presets)
+  pub presets-read : run (section (presetsFlag s) 3 5 7 presets) s (p .presets) ≡ done in-presets (p .k)
+  pub members-are : p .members ≡ length (kids (in-switches .rows))
+  pub conditions-are : p .conditions ≡ length (kids (in-presets .rows))
+  pub members-few : p .members ≤ 992
+  pub conditions-few : p .conditions ≤ 496
+
+-- the tree of what was found: its columns, and the rows of the sections
+abbrev pub topOf : List ℕ → Section (List ℕ) → Section Family → Section Family → List ℕ
+topOf s g x p =
+    part 0 5 (getD s 0 0) ∷ all (getD s 1 0) ∷ groupsFlag s ∷ g .count ∷ x .reserved ∷ switchesFlag s ∷ x .count ∷ p .reserved ∷ presetsFlag s ∷ p .count ∷ g .reserved ∷ []
+
+abbrev pub treeOf : List ℕ → Section (List ℕ) → Section Family → Section Family → Scene
+treeOf s g x p = record { top = topOf s g x p; groups = g .rows; «switch_groups» = x .rows; presets = p .rows }
+
+abbrev pub tree : {s : List ℕ} {p : Places} → Found s p → Scene
+tree {s} f = treeOf s (f .in-groups) (f .in-switches) (f .in-presets)
+
+-- of a body whose sections were found: its record, its sizes, its tally, the room for its rows, and what filling the tables leaves
+pub record Recorded (s : List ℕ) (p : Places) (r : MpegH3dAudioScene) : Type 0 where
+  pub is : (f : Found s p) → r ≡ sceneOf (tree f .top) (tail (p .k) s)
+
+pub record Counted (s : List ℕ) (p : Places) (r : Sizes) : Type 0 where
+  pub is : (f : Found s p) → sized r ≡ sizes kind (record { tree = tree f; before = p .k })
+
+pub record Zeros (s : List ℕ) (p : Places) (r : ℕ) : Type 0 where
+  pub is : (f : Found s p) → r ≡ K.zeros (tree f)
+
+pub record Rooms (s : List ℕ) (p : Places) (lent : Lent) : Type 0 where
+  pub has : (f : Found s p) → lacking (needs (tables (tree f))) lent ≡ none
+
+pub record Stored (s : List ℕ) (p : Places) (lent after : Lent) : Type 0 where
+  pub is : (f : Found s p) → after ≡ filled (tables (tree f)) lent
+
+abbrev pub walks : List ℕ → Walk → Type 0
+walks s (W.Done p) = Found s p
+walks s (W.Short x) = run parse s 0 ≡ short x
+
+pub record Walks (s : List ℕ) (r : Walk) : Type 0 where
+  pub finds : walks s r
