@@ -30,13 +30,13 @@ use Rattle.conditions.specs.Layout.{condition}
 use Rattle.presets.specs.Layout.{preset, presets}
 use Rattle.scene.specs.declared.parsing.Places.{Places}
 use Rattle.scene.specs.declared.Sizes.{Sizes}
-use Rattle.scene.specs.declared.rows.MpegH3dAudioScene.{MpegH3dAudioScene}
-use Rattle.scene.specs.Layout as T
-use Rattle.scene.specs.Layout.{layouts}
-use Rattle.scene.specs.Rows.{sceneOf, tables}
-use Rattle.scene.specs.Read.{Section}
-use Rattle.scene.specs.Kind as K
-use Rattle.scene.specs.Kind.{kind}
+use Rattle.scene_kind.specs.declared.rows.MpegH3dAudioScene.{MpegH3dAudioScene}
+use Rattle.scene_kind.specs.Layout as T
+use Rattle.scene_kind.specs.Layout.{layouts}
+use Rattle.scene_kind.specs.Rows.{sceneOf, tables}
+use Rattle.scene_kind.specs.Read.{Section}
+use Rattle.scene_kind.specs.Kind as K
+use Rattle.scene_kind.specs.Kind.{kind}
 use Rattle.scene.specs.Contract.{sized}
 use Rattle.scene.specs.Walk.{rowsAt, countAt, reservedAt, reservedZeros, groupsFlag, switchesFlag, presetsFlag, Found, topOf, tree, Recorded, Counted, Zeros, Rooms, Stored}
 use Rattle.scene.proofs.Walked.{found-reads}

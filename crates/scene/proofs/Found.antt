@@ -25,13 +25,13 @@ use Rattle.switch_groups.specs.Layout.{switchGroup, switchGroups}
 use Rattle.presets.specs.Layout.{preset, presets}
 use Rattle.scene.specs.declared.parsing.Places.{Places}
 use Rattle.scene.specs.declared.Sizes.{Sizes as CodeSizes}
-use Rattle.scene.specs.declared.rows.MpegH3dAudioScene.{MpegH3dAudioScene}
-use Rattle.scene.specs.Rows.{section, sceneOf, tables}
-use Rattle.scene.specs.Read.{all}
-use Rattle.scene.specs.Kind.{kind}
+use Rattle.scene_kind.specs.declared.rows.MpegH3dAudioScene.{MpegH3dAudioScene}
+use Rattle.scene_kind.specs.Rows.{section, sceneOf, tables}
+use Rattle.scene_kind.specs.Read.{all}
+use Rattle.scene_kind.specs.Kind.{kind}
 use Rattle.scene.specs.Contract.{needed}
 use Rattle.scene.specs.Walk.{rowsAt, countAt, reservedAt, groupsFlag, switchesFlag, presetsFlag, Found, tree, Recorded, Counted}
-use Rattle.scene.proofs.Format.{switchRows, presetRows}
+use Rattle.scene_kind.proofs.Format.{switchRows, presetRows}
 use Rattle.scene.proofs.Sections.{Stands, stands}
 use Rattle.scene.proofs.Walked.{found-reads}
 

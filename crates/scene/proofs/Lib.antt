@@ -1,11 +1,6 @@
-pub mod Format
-pub mod Laws
-pub mod Heeds
-pub mod Lawful
-pub mod Mirrored
 pub mod Sections
 pub mod Walked
-pub mod Writes
 pub mod Found
 pub mod Stored
 pub mod Answers
+pub mod Writes

@@ -21,7 +21,7 @@ use Rattle.wire.proofs.Runs.{andThen, run-bind}
 use Rattle.wire.proofs.Walk.{byte-next, as-done}
 use Rattle.wire.proofs.Fields.{part-below, wider}
 use Rattle.wire.proofs.Straight.{ends-at, ends-within, ones-lacks, size-there}
-use Rattle.scene.specs.Read.{Section, section}
+use Rattle.scene_kind.specs.Read.{Section, section}
 use Rattle.scene.specs.Walk.{rowsAt, countAt, reservedAt, reservedZeros}
 
 -- ---- its byte

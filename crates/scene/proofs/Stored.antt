@@ -23,11 +23,11 @@ use Rattle.scene_groups.specs.Layout.{group}
 use Rattle.switch_groups.specs.Layout.{switchGroup, switchGroups}
 use Rattle.presets.specs.Layout.{preset, presets}
 use Rattle.scene.specs.declared.parsing.Places.{Places}
-use Rattle.scene.specs.Rows.{tables}
-use Rattle.scene.specs.Kind.{parse}
+use Rattle.scene_kind.specs.Rows.{tables}
+use Rattle.scene_kind.specs.Kind.{parse}
 use Rattle.scene.specs.Walk.{rowsAt, countAt, groupsFlag, switchesFlag, presetsFlag, Found, tree, Rooms, Stored}
-use Rattle.scene.proofs.Format.{switchRows, presetRows}
-use Rattle.scene.proofs.Laws.{Few, few}
+use Rattle.scene_kind.proofs.Format.{switchRows, presetRows}
+use Rattle.scene_kind.proofs.Laws.{Few, few}
 use Rattle.scene.proofs.Walked.{found-reads}
 use Rattle.scene.proofs.Found.{Flags, groups-stand, switches-stand, presets-stand, groups-counted, switches-counted, presets-counted, at-presets, at-switches}
 

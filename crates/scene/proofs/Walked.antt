@@ -22,11 +22,11 @@ use Rattle.switch_groups.specs.Layout.{switchGroups}
 use Rattle.presets.specs.Layout.{presets}
 use Rattle.scene.specs.declared.parsing.Places.{Places}
 use Rattle.scene.specs.declared.parsing.Walk.the-variants as W
-use Rattle.scene.specs.Rows.{Scene}
-use Rattle.scene.specs.Read.{all, Section, section, sceneOver}
-use Rattle.scene.specs.Kind.{parse}
+use Rattle.scene_kind.specs.Rows.{Scene}
+use Rattle.scene_kind.specs.Read.{all, Section, section, sceneOver}
+use Rattle.scene_kind.specs.Kind.{parse}
 use Rattle.scene.specs.Walk.{groupsFlag, switchesFlag, presetsFlag, Found, treeOf, tree, Walks}
-use Rattle.scene.proofs.Mirrored.{parse-over}
+use Rattle.scene_kind.proofs.Mirrored.{parse-over}
 
 -- ---- the program from section to section
 

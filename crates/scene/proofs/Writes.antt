@@ -19,11 +19,11 @@ use Rattle.wire.proofs.Acts.{and-both}
 use Rattle.wire.proofs.Passes.{then, more, here, nothing, stopped, byte-fits, Filling, fill-start, fill-none}
 use Rattle.wire.specs.Layout.{of, cells, shown, writes, every, has}
 use Rattle.frame.specs.Kind.{Lent}
-use Rattle.scene.specs.declared.rows.Section.{Section}
-use Rattle.scene.specs.declared.rows.MpegH3dAudioScene.{MpegH3dAudioScene}
-use Rattle.scene.specs.Layout as T
-use Rattle.scene.specs.Rows.{fields}
-use Rattle.scene.specs.Kind.{actsOf, acts}
+use Rattle.scene_kind.specs.declared.rows.Section.{Section}
+use Rattle.scene_kind.specs.declared.rows.MpegH3dAudioScene.{MpegH3dAudioScene}
+use Rattle.scene_kind.specs.Layout as T
+use Rattle.scene_kind.specs.Rows.{fields}
+use Rattle.scene_kind.specs.Kind.{actsOf, acts}
 use Rattle.scene.specs.Write.{countByte, sectionActs, within, allWithin, sceneActs}
 
 pub scene-acts : (m : MpegH3dAudioScene) (lent : Lent) (store : List ℕ) → acts m lent store ≡ sceneActs m lent

@@ -4,7 +4,7 @@ use mathlib.Core.List.{List, [], _∷_}
 use Rattle.frame.specs.Numbers.{Answer, accepted, refused, refusal}
 use Rattle.frame.specs.Entry as E
 use Rattle.frame.specs.Entry.{Need}
-use Rattle.scene.specs.declared.rows.MpegH3dAudioScene.{MpegH3dAudioScene}
+use Rattle.scene_kind.specs.declared.rows.MpegH3dAudioScene.{MpegH3dAudioScene}
 use Rattle.scene.specs.declared.Sizes.{Sizes}
 use Rattle.scene.specs.declared.Reading.{Reading}
 use Rattle.scene.specs.declared.Reading.the-variants as R

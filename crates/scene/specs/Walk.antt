@@ -17,12 +17,12 @@ use Rattle.presets.specs.Layout.{presets}
 use Rattle.scene.specs.declared.parsing.Places.{Places}
 use Rattle.scene.specs.declared.parsing.Walk.{Walk}
 use Rattle.scene.specs.declared.parsing.Walk.the-variants as W
-use Rattle.scene.specs.declared.rows.MpegH3dAudioScene.{MpegH3dAudioScene}
+use Rattle.scene_kind.specs.declared.rows.MpegH3dAudioScene.{MpegH3dAudioScene}
 use Rattle.scene.specs.declared.Sizes.{Sizes}
-use Rattle.scene.specs.Rows.{Scene, sceneOf, tables}
-use Rattle.scene.specs.Read.{all, Section, section}
-use Rattle.scene.specs.Kind as K
-use Rattle.scene.specs.Kind.{parse, kind}
+use Rattle.scene_kind.specs.Rows.{Scene, sceneOf, tables}
+use Rattle.scene_kind.specs.Read.{all, Section, section}
+use Rattle.scene_kind.specs.Kind as K
+use Rattle.scene_kind.specs.Kind.{parse, kind}
 use Rattle.scene.specs.Contract.{sized}
 
 -- of a section whose byte stands at a position, if its flag is 1: where its rows begin, and how many there are

@@ -8,9 +8,9 @@ use Rattle.wire.specs.Bits.{Field, field, bit}
 use Rattle.wire.specs.Act.{Act, demand, byte, when, pick, rows}
 use Rattle.wire.specs.declared.pen.Fault.the-variants as F
 use Rattle.frame.specs.Kind.{Lent}
-use Rattle.scene.specs.declared.rows.Section.{Section}
-use Rattle.scene.specs.declared.rows.MpegH3dAudioScene.{MpegH3dAudioScene}
-use Rattle.scene.specs.Kind.{table, groupActs, switchActs, presetActs}
+use Rattle.scene_kind.specs.declared.rows.Section.{Section}
+use Rattle.scene_kind.specs.declared.rows.MpegH3dAudioScene.{MpegH3dAudioScene}
+use Rattle.scene_kind.specs.Kind.{table, groupActs, switchActs, presetActs}
 
 -- ---- the bytes of the top record
 

@@ -12,7 +12,7 @@ ghost use Rattle.frame.specs.declared.Room.the-variants.{Enough};
 ghost use Rattle.frame.specs.Numbers.{tallied, written};
 ghost use Rattle.frame.specs.Entry.{Reads, Measures, Tallies, Writes};
 ghost use Rattle.frame.specs.Sight.{andTables};
-ghost use Rattle.scene.specs.Kind.{kind};
+ghost use Rattle.scene_kind.specs.Kind.{kind};
 ghost use Rattle.scene.specs.Contract.{sized, read, measured};
 ghost use Rattle.scene.specs.Walk.{Found};
 use conditions::rows::CONDITION_COLUMNS;

@@ -1,20 +1,20 @@
-// The top record of the scene body.
-use wire::rows::Payload;
-
-// A list that is there or not, and how many rows it has.
-pub struct Section {
-    pub present: bool,
-    pub count: u16,
-}
-
-pub struct MpegH3dAudioScene {
-    pub reserved_flags: u8,
-    pub scene_info_id: u8,
-    pub groups: Section,
-    pub reserved_switch_groups: u8,
-    pub switch_groups: Section,
-    pub reserved_presets: u8,
-    pub presets: Section,
-    pub reserved_groups: u8,
-    pub trailing: Payload,
-}
+// The top record of the scene body and the rows of tables 1 to 5, with their constructors, so that a caller needs one crate.
+pub use conditions::rows::CONDITION_COLUMNS;
+pub use conditions::rows::PresetCondition;
+pub use conditions::rows::PresetConditionDetail;
+pub use conditions::rows::PresetGain;
+pub use conditions::rows::PresetPosition;
+pub use presets::rows::GroupPreset;
+pub use presets::rows::PRESET_COLUMNS;
+pub use scene_groups::rows::ContentLanguage;
+pub use scene_groups::rows::GROUP_COLUMNS;
+pub use scene_groups::rows::GainInteractivity;
+pub use scene_groups::rows::PositionInteractivity;
+pub use scene_groups::rows::SceneGroup;
+pub use scene_kind::rows::MpegH3dAudioScene;
+pub use scene_kind::rows::Section;
+pub use scene_kind::rows::TOP_COLUMNS;
+pub use switch_groups::rows::MEMBER_COLUMNS;
+pub use switch_groups::rows::SWITCH_GROUP_COLUMNS;
+pub use switch_groups::rows::SwitchGroup;
+pub use switch_groups::rows::SwitchGroupMember;

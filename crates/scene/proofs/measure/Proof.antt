@@ -1,7 +1,7 @@
 -- `scene::measure` meets its contract: the sections, or why there are none.
 use native.Mathlib.Omega.{arith}
 use Rattle.frame.proofs.Entries.{measures-long, measures-short}
-use Rattle.scene.specs.Kind.{kind}
+use Rattle.scene_kind.specs.Kind.{kind}
 use Rattle.scene.proofs.Answers.{measures-so}
 use borrow.Author.Needs.{needs}
 use Rattle.scene.proofs.measure.Statement.{statement}

@@ -1,7 +1,7 @@
 -- `scene::read` meets its contract: the sections, or why there are none.
 use native.Mathlib.Omega.{arith}
 use Rattle.frame.proofs.Entries.{measures-long, measures-short, reads-unmeasured}
-use Rattle.scene.specs.Kind.{kind}
+use Rattle.scene_kind.specs.Kind.{kind}
 use borrow.Author.Needs.{needs}
 use Rattle.scene.proofs.read.Statement.{statement}
 use Rattle.scene.proofs.read.Tie as tie

@@ -1,7 +1,7 @@
 -- `scene::tally` meets its contract: the zeros of the sections, or why there are none.
 use native.Mathlib.Omega.{arith}
 use Rattle.frame.proofs.Entries.{measures-long, measures-short, tallies-unmeasured}
-use Rattle.scene.specs.Kind.{kind}
+use Rattle.scene_kind.specs.Kind.{kind}
 use Rattle.scene.proofs.Answers.{tallies-so}
 use borrow.Author.Needs.{needs}
 use Rattle.scene.proofs.tally.Statement.{statement}

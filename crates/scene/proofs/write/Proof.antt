@@ -1,6 +1,6 @@
 -- `scene::write` meets its contract: the check pass, the answer, and the fill pass.
 use Rattle.frame.proofs.Entries.{writes-refused, fillable, writes-done}
-use Rattle.scene.specs.Kind.{kind}
+use Rattle.scene_kind.specs.Kind.{kind}
 use borrow.Author.Needs.{needs}
 use Rattle.scene.proofs.write.Statement.{statement}
 use Rattle.scene.proofs.write.Tie as tie

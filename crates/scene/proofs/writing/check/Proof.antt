@@ -4,7 +4,7 @@ use native.Mathlib.Omega.{arith}
 use borrow.Author.Tests.{leb-true}
 use Rattle.wire.proofs.Passes.{then, more, passed, refused, run-looked}
 use Rattle.frame.specs.Entry.{whole}
-use Rattle.scene.specs.Kind.{kind}
+use Rattle.scene_kind.specs.Kind.{kind}
 use Rattle.scene.proofs.Writes.{written-as}
 use borrow.Author.Needs.{needs}
 use Rattle.scene.proofs.writing.check.Statement.{statement}

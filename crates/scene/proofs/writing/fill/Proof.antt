@@ -6,7 +6,7 @@ use Rattle.wire.specs.Act.{copy}
 use Rattle.wire.proofs.Passes.{Filling, fill-start, fill-demand, fill-row, fill-turn, fill-last, demanded, run-room}
 use Rattle.frame.specs.Kind.{Lent}
 use Rattle.frame.specs.Entry.{whole, trail}
-use Rattle.scene.specs.Kind.{acts, kind}
+use Rattle.scene_kind.specs.Kind.{acts, kind}
 use Rattle.scene.proofs.Writes.{ready-as, filled-as}
 use borrow.Author.Needs.{needs}
 use Rattle.scene.proofs.writing.fill.Statement.{statement}

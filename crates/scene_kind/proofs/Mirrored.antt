@@ -15,11 +15,11 @@ use Rattle.scene_groups.specs.Layout as G
 use Rattle.switch_groups.specs.Layout as S
 use Rattle.conditions.specs.Layout as C
 use Rattle.presets.specs.Layout as P
-use Rattle.scene.specs.Layout as T
-use Rattle.scene.specs.Rows.{Scene}
-use Rattle.scene.specs.Read as R
-use Rattle.scene.specs.Read.{given, all, Section, section, sceneOver}
-use Rattle.scene.specs.Kind.{parse}
+use Rattle.scene_kind.specs.Layout as T
+use Rattle.scene_kind.specs.Rows.{Scene}
+use Rattle.scene_kind.specs.Read as R
+use Rattle.scene_kind.specs.Read.{given, all, Section, section, sceneOver}
+use Rattle.scene_kind.specs.Kind.{parse}
 
 -- ---- a group, from its last part back: the columns F so far are 0 in the parts that are left
 

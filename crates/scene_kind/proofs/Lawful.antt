@@ -11,11 +11,11 @@ use Rattle.wire.specs.Layout.{of}
 use Rattle.wire.proofs.Rowed.{parents-long, parents-wide}
 use Rattle.frame.specs.Entry.{needs, total, filled}
 use Rattle.frame.proofs.Lawful.{Taken, Lawful}
-use Rattle.scene.specs.Rows.{Scene, tables}
-use Rattle.scene.specs.Kind.{valueOf, value, kind}
-use Rattle.scene.proofs.Format.{switchRows, presetRows, format, format-reads, format-means, format-spans, Parted, parted}
-use Rattle.scene.proofs.Laws.{spells, fields-again, laid, ready, few, held, columns-so}
-use Rattle.scene.proofs.Heeds.{heeds}
+use Rattle.scene_kind.specs.Rows.{Scene, tables}
+use Rattle.scene_kind.specs.Kind.{valueOf, value, kind}
+use Rattle.scene_kind.proofs.Format.{switchRows, presetRows, format, format-reads, format-means, format-spans, Parted, parted}
+use Rattle.scene_kind.proofs.Laws.{spells, fields-again, laid, ready, few, held, columns-so}
+use Rattle.scene_kind.proofs.Heeds.{heeds}
 
 known : (t : Scene) (bs rest : List ℕ) → Taken kind format t bs rest → Parted t
 known t bs rest d = parted t (subst (format .Fits) (format-means (bs ++ rest) t) (d .fits)) (ap (λ (t : Scene). clean (format .acts t)) (sym (format-means (bs ++ rest) t)) ∙ d .sound)

@@ -9,7 +9,7 @@ use Rattle.wire.specs.Bits.{part}
 use Rattle.wire.specs.Prog.{Prog, ret, u8, bytes, many, _>>=_}
 use Rattle.wire.specs.Act.{pick}
 use Rattle.wire.specs.Layout.{Family, blank}
-use Rattle.scene.specs.Rows.{Scene}
+use Rattle.scene_kind.specs.Rows.{Scene}
 
 -- the n columns of an optional part: what the program reads if the flag is 1, else 0
 abbrev pub given : ℕ → ℕ → Prog (List ℕ) → Prog (List ℕ)

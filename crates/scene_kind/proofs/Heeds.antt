@@ -19,13 +19,13 @@ use Rattle.frame.specs.Kind.{Lent}
 use Rattle.frame.specs.Entry.{first, others}
 use Rattle.frame.specs.Claims.{Agree}
 use Rattle.frame.proofs.Lawful.{agrees}
-use Rattle.scene.specs.declared.rows.MpegH3dAudioScene.{MpegH3dAudioScene}
-use Rattle.scene.specs.Layout as T
-use Rattle.scene.specs.Layout.{layouts, absent}
-use Rattle.scene.specs.Rows.{fields, sceneOf}
-use Rattle.scene.specs.Kind.{table, counts, groupActs, switchActs, presetActs, inside, actsOf, acts, heeded, kind}
-use Rattle.scene.proofs.Format.{groupRows, memberRows, conditionRows, switchRows, presetRows, form, top-proper, top-below, top-absent}
-use Rattle.scene.proofs.Laws.{sections, acts-woven}
+use Rattle.scene_kind.specs.declared.rows.MpegH3dAudioScene.{MpegH3dAudioScene}
+use Rattle.scene_kind.specs.Layout as T
+use Rattle.scene_kind.specs.Layout.{layouts, absent}
+use Rattle.scene_kind.specs.Rows.{fields, sceneOf}
+use Rattle.scene_kind.specs.Kind.{table, counts, groupActs, switchActs, presetActs, inside, actsOf, acts, heeded, kind}
+use Rattle.scene_kind.proofs.Format.{groupRows, memberRows, conditionRows, switchRows, presetRows, form, top-proper, top-below, top-absent}
+use Rattle.scene_kind.proofs.Laws.{sections, acts-woven}
 
 -- ---- the record
 

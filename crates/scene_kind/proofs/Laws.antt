@@ -32,12 +32,12 @@ use Rattle.switch_groups.specs.Layout.{member, switchGroup}
 use Rattle.presets.specs.Layout as P
 use Rattle.conditions.specs.Layout.{condition}
 use Rattle.presets.specs.Layout.{preset}
-use Rattle.scene.specs.declared.rows.MpegH3dAudioScene.{MpegH3dAudioScene}
-use Rattle.scene.specs.Layout as T
-use Rattle.scene.specs.Layout.{layouts, absent}
-use Rattle.scene.specs.Rows.{fields, sceneOf, bounds, Scene, tables}
-use Rattle.scene.specs.Kind.{parse, table, counts, groupActs, switchActs, presetActs, inside, actsOf, acts, valueOf, value, kind}
-use Rattle.scene.proofs.Format.{groupRows, memberRows, conditionRows, switchRows, presetRows, switch-passes, preset-passes, form, top-proper, top-below, top-absent, scene, parts, format, format-reads, format-means, format-spans, Parted, parted}
+use Rattle.scene_kind.specs.declared.rows.MpegH3dAudioScene.{MpegH3dAudioScene}
+use Rattle.scene_kind.specs.Layout as T
+use Rattle.scene_kind.specs.Layout.{layouts, absent}
+use Rattle.scene_kind.specs.Rows.{fields, sceneOf, bounds, Scene, tables}
+use Rattle.scene_kind.specs.Kind.{parse, table, counts, groupActs, switchActs, presetActs, inside, actsOf, acts, valueOf, value, kind}
+use Rattle.scene_kind.proofs.Format.{groupRows, memberRows, conditionRows, switchRows, presetRows, switch-passes, preset-passes, form, top-proper, top-below, top-absent, scene, parts, format, format-reads, format-means, format-spans, Parted, parted}
 
 -- ---- the actions, section by section
 

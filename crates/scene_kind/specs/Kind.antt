@@ -17,10 +17,10 @@ use Rattle.switch_groups.specs.Layout.{member, switchGroup}
 use Rattle.presets.specs.Layout as P
 use Rattle.conditions.specs.Layout.{condition}
 use Rattle.presets.specs.Layout.{preset}
-use Rattle.scene.specs.declared.rows.MpegH3dAudioScene.{MpegH3dAudioScene}
-use Rattle.scene.specs.Layout as T
-use Rattle.scene.specs.Layout.{layouts, absent}
-use Rattle.scene.specs.Rows.{fields, sceneOf, retrail, bounds, Scene, tables}
+use Rattle.scene_kind.specs.declared.rows.MpegH3dAudioScene.{MpegH3dAudioScene}
+use Rattle.scene_kind.specs.Layout as T
+use Rattle.scene_kind.specs.Layout.{layouts, absent}
+use Rattle.scene_kind.specs.Rows.{fields, sceneOf, retrail, bounds, Scene, tables}
 
 -- ---- reading, section after section as `MpegH3dAudioScene::parse`; Read has it line by line
 

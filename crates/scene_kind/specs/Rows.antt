@@ -9,8 +9,8 @@ use Rattle.wire.specs.Layout.{Columns, of, Family, parents, kids}
 use Rattle.frame.specs.Kind.{Rows, Bound, bounded}
 use Rattle.switch_groups.specs.Layout.{switchGroup}
 use Rattle.presets.specs.Layout.{preset}
-use Rattle.scene.specs.declared.rows.Section.{Section}
-use Rattle.scene.specs.declared.rows.MpegH3dAudioScene.{MpegH3dAudioScene}
+use Rattle.scene_kind.specs.declared.rows.Section.{Section}
+use Rattle.scene_kind.specs.declared.rows.MpegH3dAudioScene.{MpegH3dAudioScene}
 
 -- ---- the record
 

@@ -20,9 +20,9 @@ use Rattle.scene_groups.specs.Layout.{group}
 use Rattle.switch_groups.specs.Layout.{member, switchGroup}
 use Rattle.conditions.specs.Layout.{condition}
 use Rattle.presets.specs.Layout.{preset}
-use Rattle.scene.specs.Layout.{groups, switchGroups, presets, absent}
-use Rattle.scene.specs.Rows.{Scene}
-use Rattle.scene.specs.Kind.{parse}
+use Rattle.scene_kind.specs.Layout.{groups, switchGroups, presets, absent}
+use Rattle.scene_kind.specs.Rows.{Scene}
+use Rattle.scene_kind.specs.Kind.{parse}
 
 -- ---- the rows: each passes its one test
 

@@ -1,0 +1,5 @@
+pub mod Format
+pub mod Laws
+pub mod Heeds
+pub mod Lawful
+pub mod Mirrored
