@@ -4,3 +4,4 @@ pub mod Found
 pub mod Stored
 pub mod Answers
 pub mod Writes
+pub mod Claims

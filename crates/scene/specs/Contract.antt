@@ -1,24 +1,13 @@
 -- The code's answers as the specification's: document 01's numbers and values.
-use Prim.Native.Nat.{ℕ}
-use mathlib.Core.List.{List, [], _∷_}
 use Rattle.frame.specs.Numbers.{Answer, accepted, refused, refusal}
 use Rattle.frame.specs.Entry as E
-use Rattle.frame.specs.Entry.{Need}
 use Rattle.scene_kind.specs.declared.rows.MpegH3dAudioScene.{MpegH3dAudioScene}
+use Rattle.scene_kind.specs.Rows.{needed}
 use Rattle.scene.specs.declared.Sizes.{Sizes}
 use Rattle.scene.specs.declared.Reading.{Reading}
 use Rattle.scene.specs.declared.Reading.the-variants as R
 use Rattle.scene.specs.declared.Measured.{Measured}
 use Rattle.scene.specs.declared.Measured.the-variants as M
-
-abbrev pub needed : (groups switches members presets conditions : ℕ) → List Need
-needed g s m p c =
-    record { number = 1; columns = 27; rows = g }
-    ∷ record { number = 2; columns = 9; rows = s }
-    ∷ record { number = 3; columns = 2; rows = m }
-    ∷ record { number = 4; columns = 7; rows = p }
-    ∷ record { number = 5; columns = 13; rows = c }
-    ∷ []
 
 abbrev pub sized : Sizes → E.Sizes
 sized s = record { tables = needed (s .groups) (s .«switch_groups») (s .members) (s .presets) (s .conditions); before = s .k }

@@ -3,3 +3,4 @@ pub mod Laws
 pub mod Heeds
 pub mod Lawful
 pub mod Mirrored
+pub mod Claims

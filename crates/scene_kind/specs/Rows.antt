@@ -7,6 +7,7 @@ use Rattle.wire.specs.Bits.{bit}
 use Rattle.wire.specs.declared.rows.Payload.{Payload}
 use Rattle.wire.specs.Layout.{Columns, of, Family, parents, kids}
 use Rattle.frame.specs.Kind.{Rows, Bound, bounded}
+use Rattle.frame.specs.Entry.{Need}
 use Rattle.switch_groups.specs.Layout.{switchGroup}
 use Rattle.presets.specs.Layout.{preset}
 use Rattle.scene_kind.specs.declared.rows.Section.{Section}
@@ -79,4 +80,14 @@ tables t =
     ∷ record { number = 3; columns = 2; rows = kids (t .«switch_groups») }
     ∷ record { number = 4; columns = 7; rows = parents preset (t .presets) }
     ∷ record { number = 5; columns = 13; rows = kids (t .presets) }
+    ∷ []
+
+-- the five tables by their numbers and columns (document 01, "Row tables"), and the rows that each needs
+abbrev pub needed : (groups switches members presets conditions : ℕ) → List Need
+needed g s m p c =
+    record { number = 1; columns = 27; rows = g }
+    ∷ record { number = 2; columns = 9; rows = s }
+    ∷ record { number = 3; columns = 2; rows = m }
+    ∷ record { number = 4; columns = 7; rows = p }
+    ∷ record { number = 5; columns = 13; rows = c }
     ∷ []
