@@ -1,11 +1,12 @@
 -- What is claimed of the scene body: every claim of every kind (frame, specs/Claims), and the few that matter most spelled out for its record and tables 1 to 5.
-use Prim.Native.Nat.{ℕ, _≤_}
+use Prim.Native.Nat.{ℕ, _+_, _≤_}
 use mathlib.Core.Path.{_≡_, refl, sym, ap, subst, _∙_}
 use mathlib.Core.List.{List, [], _∷_, _++_, map, flatten, flatMap}
 use mathlib.Core.Bool.{Bool, true, false}
 use mathlib.Core.Logic.{_↔_}
 use native.Mathlib.Omega.{arith}
-use lib.ListN.{length, getD, drop}
+use native.Mathlib.Nat.{add-zero, zero-add}
+use lib.ListN.{length, getD, drop, length-append}
 use lib.Count.{ones}
 use lib.Dec.{eqb, lit<}
 use Rattle.wire.specs.Lists.{Every, all-nil, all-cons, each, sum, firsts, Byte}
@@ -13,8 +14,9 @@ use Rattle.wire.specs.Bits.{split, total, part}
 use Rattle.wire.specs.Prog.{Prog, ret, u8, run, span, bytes, pass, many, _>>=_}
 use Rattle.wire.specs.declared.rows.Payload.{Payload}
 use Rattle.wire.specs.Act.{pick}
-use Rattle.wire.specs.Layout.{reads, put, puts, shown, cells, tally, has, parents, kids}
-use Rattle.wire.proofs.Takes.{Takes, run-takes, takes-split, takes-ret, map-takes}
+use Rattle.wire.specs.Layout.{at, row, reads, put, puts, shown, cells, tally, has, Broken, brokenRow, Family, parents, kids}
+use Rattle.wire.proofs.Takes.{Takes, run-takes, takes-split, takes-ret, map-takes, many-takes, listed-length, listed-every}
+use Rattle.wire.proofs.Rowed.{found, parents-long, parents-wide}
 use Rattle.frame.specs.Kind.{Lent}
 use Rattle.frame.specs.Numbers.{accepted, refuses}
 use Rattle.frame.specs.Entry.{leaves, onto, into, Sizes, needs, lacking, room, first, others, filled, judging, sizes, placing, reading, measuring, tallying, gives, trail, writing}
@@ -29,7 +31,8 @@ use Rattle.scene_kind.specs.Layout as T
 use Rattle.scene_kind.specs.Rows.{section, sceneOf, Scene, tables, needed}
 use Rattle.scene_kind.specs.Read as R
 use Rattle.scene_kind.specs.Read.{Section}
-use Rattle.scene_kind.specs.Kind.{parse, zeros, value, heeded, kind}
+use Rattle.scene_kind.specs.Kind.{parse, zeros, table, value, heeded, kind}
+use Rattle.scene_kind.proofs.Format.{switchRows, presetRows}
 use Rattle.scene_kind.proofs.Lawful.{lawful}
 use Rattle.scene_kind.proofs.Mirrored.{mirrored}
 
@@ -219,3 +222,141 @@ absent-read body lent after m e =
     let w = was kind body lent m after e in
     let d = run-takes parse body 0 (ran-well kind body (w .sound) (w .judges) .reads) (omega arith) in
     subst Absent (w .top-is) (absent-so (w .sound .tree) _ _ d)
+
+-- ---- of tables that were read: the lists of their rows stand one after the other
+
+-- the first list begins at row n, each begins where the one before ended, and the last ends at row m
+pub data RunsOn (b : Broken) : ℕ → List (List ℕ) → ℕ → Type 0 where
+  ended : {n : ℕ} → RunsOn b n [] n
+  one-more : {n m : ℕ} {r : List ℕ} {rs : List (List ℕ)} → getD r (b .first) 0 ≡ n → RunsOn b (n + getD r (b .count) 0) rs m → RunsOn b n (r ∷ rs) m
+
+-- the count of a row is that of its own rows
+abbrev Told : Broken → Family → Type 0
+Told b x = getD (x .0) (b .count) 0 ≡ length (x .1)
+
+module _ (b : Broken) (first-so : (n : ℕ) (x : Family) → getD (brokenRow b (n, x)) (b .first) 0 ≡ n) (count-so : (n : ℕ) (x : Family) → getD (brokenRow b (n, x)) (b .count) 0 ≡ getD (x .0) (b .count) 0) where
+  run-on : (n : ℕ) (xs : List Family) → Every (Told b) xs → RunsOn b n (map (brokenRow b) (firsts (λ x. length (x .1)) n xs)) (n + length (kids xs))
+  unfolding firsts flatMap
+  run-on n [] all-nil = rw add-zero ended
+  run-on n (x ∷ xs) (all-cons h r) =
+      let c : getD (brokenRow b (n, x)) (b .count) 0 ≡ length (x .1) = count-so n x ∙ h in
+      let k : n + length (x .1) + length (kids xs) ≡ n + length (x .1 ++ kids xs) = omega (arith, length-append (x .1) (kids xs)) in
+      one-more (first-so n x) (subst (λ (i : ℕ). RunsOn b (n + i) (map (brokenRow b) (firsts (λ x. length (x .1)) (n + length (x .1)) xs)) (n + length (x .1 ++ kids xs))) (sym c)
+      (subst (RunsOn b (n + length (x .1)) (map (brokenRow b) (firsts (λ x. length (x .1)) (n + length (x .1)) xs))) k (run-on (n + length (x .1)) xs r)))
+
+switch-first : (n : ℕ) (x : Family) → getD (brokenRow switchGroup (n, x)) 5 0 ≡ n
+unfolding each
+switch-first n x = refl
+
+switch-count : (n : ℕ) (x : Family) → getD (brokenRow switchGroup (n, x)) 6 0 ≡ getD (x .0) 6 0
+unfolding each
+switch-count n x = refl
+
+preset-first : (n : ℕ) (x : Family) → getD (brokenRow preset (n, x)) 5 0 ≡ n
+unfolding each
+preset-first n x = refl
+
+preset-count : (n : ℕ) (x : Family) → getD (brokenRow preset (n, x)) 6 0 ≡ getD (x .0) 6 0
+unfolding each
+preset-count n x = refl
+
+switch-told : (at : ℕ) (x : Family) (bs : List ℕ) → Takes R.switchGroup at x bs → Told switchGroup x
+unfolding R.switchGroup
+switch-told at x bs d =
+    let u₀ = takes-split {B = Family} u8 _ d in
+    let u₁ = takes-split {B = Family} u8 _ (u₀ .second) in
+    let u₂ = takes-split {B = Family} (many (part 0 5 (u₁ .value) + 1) R.member) _ (u₁ .second) in
+    let (v, e, z) = map-takes {B = Family} u8 _ (u₂ .second) in
+    subst (Told switchGroup) e (sym (listed-length R.member (many-takes R.member _ (u₂ .first))))
+
+preset-told : (at : ℕ) (x : Family) (bs : List ℕ) → Takes R.preset at x bs → Told preset x
+unfolding R.preset
+preset-told at x bs d =
+    let u₀ = takes-split {B = Family} u8 _ d in
+    let u₁ = takes-split {B = Family} u8 _ (u₀ .second) in
+    let u₂ = takes-split {B = Family} u8 _ (u₁ .second) in
+    let (v, e, z) = map-takes {B = Family} (many (part 0 4 (u₂ .value) + 1) R.condition) _ (u₂ .second) in
+    subst (Told preset) e (sym (listed-length R.condition (many-takes R.condition _ z)))
+
+section-listed : {A : Type 0} (P : A → Type 0) (flag r w ones : ℕ) (p : Prog A) → ((at : ℕ) (x : A) (bs : List ℕ) → Takes p at x bs → P x) → {at : ℕ} {v : Section A} {bs : List ℕ} → Takes (R.section flag r w ones p) at v bs
+    → (v .count ≡ length (v .rows)) × Every P (v .rows)
+unfolding R.section
+section-listed {A} P flag r w ones p h {at} {v} {bs} d = go (eqb flag 1) d
+  where
+    there : Prog (Section A)
+    there = do
+      b ← u8
+      l ← many (part 0 w b) p
+      ret (record { reserved = part w r b; count = part 0 w b; rows = l })
+
+    go : (b : Bool) → Takes (pick b there (ret (record { reserved = ones; count = 0; rows = [] }))) at v bs → (v .count ≡ length (v .rows)) × Every P (v .rows)
+    go true d =
+        let u = takes-split {B = Section A} u8 _ d in
+        let (l, e, z) = map-takes {B = Section A} (many (part 0 w (u .value)) p) _ (u .second) in
+        let k = many-takes p _ z in
+        subst (λ (v : Section A). (v .count ≡ length (v .rows)) × Every P (v .rows)) e (sym (listed-length p k), listed-every p P h k)
+    go false d = let (e, _) = takes-ret d in subst (λ (v : Section A). (v .count ≡ length (v .rows)) × Every P (v .rows)) e (refl, all-nil)
+
+record Listed-so (t : Scene) : Type 0 where
+  groups : getD (t .top) 3 0 ≡ length (t .groups)
+  switches : getD (t .top) 6 0 ≡ length (t .«switch_groups»)
+  presets : getD (t .top) 9 0 ≡ length (t .presets)
+  members : Every (Told switchGroup) (t .«switch_groups»)
+  conditions : Every (Told preset) (t .presets)
+
+listed-so : (t : Scene) (bs : List ℕ) → Takes parse 0 t bs → Listed-so t
+unfolding R.sceneOver
+listed-so t bs d =
+    let u₀ = takes-split {B = Scene} u8 _ (subst (λ (p : Prog Scene). Takes p 0 t bs) mirrored d) in
+    let u₁ = takes-split {B = Scene} u8 _ (u₀ .second) in
+    let u₂ = takes-split {B = Scene} (R.section (part 7 1 (u₀ .value)) 1 7 1 R.group) _ (u₁ .second) in
+    let u₃ = takes-split {B = Scene} (R.section (part 6 1 (u₀ .value)) 3 5 7 R.switchGroup) _ (u₂ .second) in
+    let (p, e, z) = map-takes {B = Scene} (R.section (part 5 1 (u₀ .value)) 3 5 7 R.preset) _ (u₃ .second) in
+    let (a, _) = section-listed (λ x. Unit {0}) _ 1 7 1 R.group (λ at x bs t. tt) (u₂ .first) in
+    let (b, x) = section-listed (Told switchGroup) _ 3 5 7 R.switchGroup switch-told (u₃ .first) in
+    let (c, y) = section-listed (Told preset) _ 3 5 7 R.preset preset-told z in
+    subst Listed-so e (record { groups = a; switches = b; presets = c; members = x; conditions = y })
+
+-- rows of tables 2 and 4 have their own rows in tables 3 and 5 from the front on, and none between; as many as measuring counts
+pub record Lists (m : MpegH3dAudioScene) (after : Lent) (members conditions : ℕ) : Type 0 where
+  pub members-run : RunsOn switchGroup 0 (each (λ i. row 9 (at 9 (table 1 after) i)) 0 (m .«switch_groups» .count)) members
+  pub conditions-run : RunsOn preset 0 (each (λ i. row 7 (at 7 (table 3 after) i)) 0 (m .presets .count)) conditions
+
+lists-so : (t : Scene) (lent : Lent) (run : Payload) → Listed-so t → Lists (sceneOf (t .top) run) (filled (tables t) lent) (length (kids (t .«switch_groups»))) (length (kids (t .presets)))
+unfolding filled tables first others
+lists-so t lent run h =
+    let ss = parents switchGroup (t .«switch_groups») in
+    let ps = parents preset (t .presets) in
+    let a = found 9 ss (parents-wide switchRows (t .«switch_groups»)) (drop (length (flatten ss)) (table 1 lent)) in
+    let b = found 7 ps (parents-wide presetRows (t .presets)) (drop (length (flatten ps)) (table 3 lent)) in
+    let m = parents-long switchRows (t .«switch_groups») ∙ sym (h .switches) in
+    let n = parents-long presetRows (t .presets) ∙ sym (h .presets) in
+    let L = filled (tables t) lent in
+    let x = run-on switchGroup switch-first switch-count 0 (t .«switch_groups») (h .members) in
+    let y = run-on preset preset-first preset-count 0 (t .presets) (h .conditions) in
+    record {
+      members-run = subst (λ (k : ℕ). RunsOn switchGroup 0 (each (λ i. row 9 (at 9 (table 1 L) i)) 0 k) (length (kids (t .«switch_groups»)))) m
+          (subst (λ (l : List (List ℕ)). RunsOn switchGroup 0 l (length (kids (t .«switch_groups»)))) (sym a) (subst (RunsOn switchGroup 0 ss) (zero-add (length (kids (t .«switch_groups»)))) x));
+      conditions-run = subst (λ (k : ℕ). RunsOn preset 0 (each (λ i. row 7 (at 7 (table 3 L) i)) 0 k) (length (kids (t .presets)))) n
+          (subst (λ (l : List (List ℕ)). RunsOn preset 0 l (length (kids (t .presets)))) (sym b) (subst (RunsOn preset 0 ps) (zero-add (length (kids (t .presets)))) y));
+    }
+
+pub read-lists : (body : List ℕ) (lent after : Lent) (m : MpegH3dAudioScene) → reading kind body lent ≡ leaves (accepted m) after
+    → (members : ℕ) × (conditions : ℕ) × (k : ℕ) × (measuring kind body ≡ accepted (sized (m .groups .count) (m .«switch_groups» .count) members (m .presets .count) conditions k)) × Lists m after members conditions
+unfolding kind measuring onto sizes tables needs
+read-lists body lent after m e =
+    let w = was kind body lent m after e in
+    let t = w .sound .tree in
+    let d = run-takes parse body 0 (ran-well kind body (w .sound) (w .judges) .reads) (omega arith) in
+    let h = listed-so t _ d in
+    let x = length (kids (t .«switch_groups»)) in
+    let y = length (kids (t .presets)) in
+    let k = w .sound .before in
+    let z : measuring kind body ≡ accepted (sized (getD (t .top) 3 0) (getD (t .top) 6 0) x (getD (t .top) 9 0) y k) = ap (onto (sizes kind)) (w .judges)
+    ∙ λ i. accepted (sized (sym (h .groups) i) ((parents-long switchRows (t .«switch_groups») ∙ sym (h .switches)) i) x ((parents-long presetRows (t .presets) ∙ sym (h .presets)) i) y k) in (
+      x,
+      y,
+      k,
+      subst (λ (m : MpegH3dAudioScene). measuring kind body ≡ accepted (sized (m .groups .count) (m .«switch_groups» .count) x (m .presets .count) y k)) (w .top-is) z,
+      subst (λ (l : Lent). Lists m l x y) (w .after-is) (subst (λ (m : MpegH3dAudioScene). Lists m (filled (tables t) lent) x y) (w .top-is) (lists-so t lent _ h)),
+    )
