@@ -1,5 +1,5 @@
 -- A preset of the scene body (row of table 4), whose conditions are rows of table 5, as a syntax table (H.222.0 Table 2-123).
-use mathlib.Core.List.{List, [], _∷_}
+use mathlib.Core.List.{[], _∷_}
 use Rattle.wire.specs.Prog.{Prog}
 use Rattle.wire.specs.Layout.{end, one, _▹_, num, reserved, less-one, Broken, broken, flat, Family}
 use Rattle.conditions.specs.Layout.{condition}

@@ -1,16 +1,14 @@
 -- What the entry points answer of a body whose sections were found: its sizes, its tally, the lowest table that is short, or its record and its rows.
-use Prim.Native.Nat.{ℕ, _+_, _≤_, _<_}
+use Prim.Native.Nat.{ℕ, _+_, _<_}
 use mathlib.Core.Path.{_≡_, refl, sym, ap, subst, _∙_}
 use mathlib.Core.List.{List, [], _∷_, _++_, flatten}
 use mathlib.Core.Bool.{Bool, true, false}
-use mathlib.Core.Option.{none}
 use native.Mathlib.Omega.{arith}
-use native.Mathlib.Nat.{add-zero, zero-add}
 use lib.ListN.{length, getD}
 use lib.Dec.{eqb}
 use Rattle.wire.specs.Lists.{sum}
 use Rattle.wire.specs.Bits.{part, zeros}
-use Rattle.wire.specs.Prog.{Prog, Out, done, run, many}
+use Rattle.wire.specs.Prog.{done, run, many}
 use Rattle.wire.specs.Reads.{rowsOf}
 use Rattle.wire.specs.Act.{pick}
 use Rattle.wire.specs.Layout.{Cell, num, reserved, flag, column, idle, Columns, of, flat, shown, cells, tally, Family, familyTally}
@@ -20,7 +18,7 @@ use Rattle.frame.specs.declared.Room.the-variants as M
 use Rattle.frame.specs.Kind.{Lent}
 use Rattle.frame.specs.Numbers.{accepted, refused, refusal}
 use Rattle.frame.specs.Entry as E
-use Rattle.frame.specs.Entry.{Sound, needs, lacking, onto, sizes, tallying, tail, filled, Reads, Measures, Tallies}
+use Rattle.frame.specs.Entry.{needs, lacking, onto, sizes, Reads, Measures, Tallies}
 use Rattle.frame.specs.Sight.{andTables}
 use Rattle.frame.proofs.Entries.{judges, tallies, reads-lacking}
 use Rattle.frame.proofs.Tables.{enough, lowest}
@@ -33,12 +31,11 @@ use Rattle.scene.specs.declared.Sizes.{Sizes}
 use Rattle.scene_kind.specs.declared.rows.MpegH3dAudioScene.{MpegH3dAudioScene}
 use Rattle.scene_kind.specs.Layout as T
 use Rattle.scene_kind.specs.Layout.{layouts}
-use Rattle.scene_kind.specs.Rows.{sceneOf, tables}
-use Rattle.scene_kind.specs.Read.{Section}
+use Rattle.scene_kind.specs.Rows.{tables}
 use Rattle.scene_kind.specs.Kind as K
 use Rattle.scene_kind.specs.Kind.{kind}
 use Rattle.scene.specs.Contract.{sized}
-use Rattle.scene.specs.Walk.{rowsAt, countAt, reservedAt, reservedZeros, groupsFlag, switchesFlag, presetsFlag, Found, topOf, tree, Recorded, Counted, Zeros, Rooms, Stored}
+use Rattle.scene.specs.Walk.{rowsAt, countAt, reservedAt, reservedZeros, groupsFlag, switchesFlag, presetsFlag, Found, tree, Recorded, Counted, Zeros, Rooms, Stored}
 use Rattle.scene.proofs.Walked.{found-reads}
 use Rattle.scene.proofs.Found.{Flags, groups-stand, switches-stand, presets-stand, measures-found, reads-found}
 

@@ -1,32 +1,26 @@
 -- Of a body whose sections were found: where its rows stand, its sizes, its record and its tables; and what the entry points answer then.
-use Prim.Native.Nat.{ℕ, _+_, _*_, _≤_, _<_}
-use mathlib.Core.Path.{_≡_, refl, sym, ap, subst, _∙_}
-use mathlib.Core.List.{List, [], _∷_, _++_, map, flatten, flatMap}
+use Prim.Native.Nat.{ℕ, _≤_}
+use mathlib.Core.Path.{_≡_, refl, sym, ap, _∙_}
+use mathlib.Core.List.{List}
 use mathlib.Core.Option.{none}
-use native.Mathlib.Omega.{arith}
-use lib.ListN.{length, getD, drop}
-use lib.Dec.{eqb}
-use lib.Seq.{sets}
+use lib.ListN.{length, getD}
 use Rattle.wire.specs.Bits.{part}
-use Rattle.wire.specs.Lists.{firsts}
-use Rattle.wire.specs.Prog.{Prog, done, short, run, many}
-use Rattle.wire.specs.Reads.{rowsOf, isDone}
-use Rattle.wire.specs.Nest.{Fillable, Nests}
-use Rattle.wire.specs.Layout.{flat, Family, parents, kids, brokenRow}
+use Rattle.wire.specs.Prog.{done, many}
+use Rattle.wire.specs.Layout.{flat}
 use Rattle.wire.proofs.Walk.{ends}
 use Rattle.wire.proofs.Loops.{many-long}
 use Rattle.wire.proofs.Rowed.{parents-long}
 use Rattle.frame.specs.Kind.{Lent}
 use Rattle.frame.specs.Numbers.{accepted}
-use Rattle.frame.specs.Entry.{Sizes, needs, sizes, tail, Measures, Reads, filled, lacking, first, others}
+use Rattle.frame.specs.Entry.{needs, sizes, tail, Measures, Reads, filled, lacking}
 use Rattle.frame.proofs.Entries.{measures-done, reads-done, judges}
 use Rattle.scene_groups.specs.Layout.{group}
-use Rattle.switch_groups.specs.Layout.{switchGroup, switchGroups}
-use Rattle.presets.specs.Layout.{preset, presets}
+use Rattle.switch_groups.specs.Layout.{switchGroups}
+use Rattle.presets.specs.Layout.{presets}
 use Rattle.scene.specs.declared.parsing.Places.{Places}
 use Rattle.scene.specs.declared.Sizes.{Sizes as CodeSizes}
 use Rattle.scene_kind.specs.declared.rows.MpegH3dAudioScene.{MpegH3dAudioScene}
-use Rattle.scene_kind.specs.Rows.{section, sceneOf, tables, needed}
+use Rattle.scene_kind.specs.Rows.{section, tables, needed}
 use Rattle.scene_kind.specs.Read.{all}
 use Rattle.scene_kind.specs.Kind.{kind}
 use Rattle.scene.specs.Walk.{rowsAt, countAt, reservedAt, groupsFlag, switchesFlag, presetsFlag, Found, tree, Recorded, Counted}

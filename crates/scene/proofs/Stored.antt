@@ -1,9 +1,8 @@
 -- Filling the tables of a body whose sections were found: what the functions that fill ask for, and that they leave the rows of the tree.
 use Prim.Native.Nat.{ℕ, _+_, _*_, _≤_, _<_, _^_}
 use mathlib.Core.Path.{_≡_, refl, sym, ap, subst, _∙_}
-use mathlib.Core.List.{List, [], _∷_, _++_, map, map-id, flatten, flatMap, append-assoc}
+use mathlib.Core.List.{List, [], _∷_, _++_, map-id, flatten, flatMap, append-assoc}
 use mathlib.Core.Bool.{true}
-use mathlib.Core.Option.{none}
 use native.Mathlib.Omega.{arith}
 use lib.ListN.{length, drop}
 use lib.Seq.{sets, slice}
@@ -16,8 +15,7 @@ use Rattle.wire.proofs.Steps.{front-stored}
 use Rattle.wire.proofs.Takes.{run-takes}
 use Rattle.wire.proofs.Tables.{flat-map}
 use Rattle.wire.proofs.Rowed.{Wide, rows-long, Nest, parents-long, parents-wide}
-use Rattle.frame.specs.Kind.{Lent}
-use Rattle.frame.specs.Entry.{needs, lacking, room, first, others, filled}
+use Rattle.frame.specs.Entry.{needs, room, first, others, filled}
 use Rattle.frame.proofs.MoreRoom.{none-fit, fit-head}
 use Rattle.scene_groups.specs.Layout.{group}
 use Rattle.switch_groups.specs.Layout.{switchGroup, switchGroups}

@@ -1,14 +1,14 @@
 -- The walk along a scene body, section after section, is its program; and what it finds decides the record, the rows and the sizes.
-use Prim.Native.Nat.{ℕ, _+_, _≤_, _<_}
+use Prim.Native.Nat.{ℕ, _≤_}
 use mathlib.Core.Path.{_≡_, refl, sym, ap, subst, _∙_}
-use mathlib.Core.List.{List, [], _∷_}
+use mathlib.Core.List.{List}
 use mathlib.Core.Bool.{Bool, true, false}
 use native.Mathlib.Omega.{arith}
-use lib.ListN.{length, getD}
+use lib.ListN.{length}
 use lib.Dec.{leb}
-use Rattle.wire.specs.Bits.{part, total}
+use Rattle.wire.specs.Bits.{total}
 use Rattle.wire.specs.Prog.{Prog, ret, Out, done, short, needing, run, u8, _>>=_}
-use Rattle.wire.specs.Reads.{mapOut, endOf, shortOf, Summed}
+use Rattle.wire.specs.Reads.{endOf, shortOf, Summed}
 use Rattle.wire.specs.Straight.{ends, ones}
 use Rattle.wire.specs.Layout.{flat, Family, kids}
 use Rattle.wire.specs.declared.reads.Short.{Short}
@@ -21,11 +21,10 @@ use Rattle.scene_groups.specs.Layout.{group}
 use Rattle.switch_groups.specs.Layout.{switchGroups}
 use Rattle.presets.specs.Layout.{presets}
 use Rattle.scene.specs.declared.parsing.Places.{Places}
-use Rattle.scene.specs.declared.parsing.Walk.the-variants as W
 use Rattle.scene_kind.specs.Rows.{Scene}
-use Rattle.scene_kind.specs.Read.{all, Section, section, sceneOver}
+use Rattle.scene_kind.specs.Read.{Section, section, sceneOver}
 use Rattle.scene_kind.specs.Kind.{parse}
-use Rattle.scene.specs.Walk.{groupsFlag, switchesFlag, presetsFlag, Found, treeOf, tree, Walks}
+use Rattle.scene.specs.Walk.{groupsFlag, switchesFlag, presetsFlag, Found, treeOf, tree}
 use Rattle.scene_kind.proofs.Mirrored.{parse-over}
 
 -- ---- the program from section to section

@@ -6,7 +6,7 @@ use mathlib.Core.Path.{_≡_}
 use lib.ListN.{length, getD}
 use lib.Dec.{eqb}
 use Rattle.wire.specs.Bits.{part, zeros}
-use Rattle.wire.specs.Prog.{Prog, done, short, run}
+use Rattle.wire.specs.Prog.{done, short, run}
 use Rattle.wire.specs.Act.{pick}
 use Rattle.wire.specs.Layout.{flat, Family, kids}
 use Rattle.frame.specs.Kind.{Lent}

@@ -1,7 +1,7 @@
 -- Writing the scene body section after section, as `MpegH3dAudioScene::write` has it: what the functions of both passes promise. It is what the layouts write (proofs/Writes).
 use Prim.Native.Nat.{ℕ, _/_}
 use mathlib.Core.List.{List, [], _∷_, _++_, map}
-use mathlib.Core.Bool.{Bool, true, false, _&&_}
+use mathlib.Core.Bool.{Bool, true, _&&_}
 use lib.ListN.{length}
 use lib.Dec.{leb}
 use Rattle.wire.specs.Bits.{Field, field, bit}

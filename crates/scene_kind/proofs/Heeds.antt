@@ -6,17 +6,15 @@ use mathlib.Core.Path.{_≡_, refl, sym, ap, _∙_}
 use lib.ListN.{length}
 use lib.Dec.{leb}
 use Rattle.wire.specs.Bits.{bit}
-use Rattle.wire.specs.declared.rows.Payload.{Payload}
 use Rattle.wire.specs.Act.{Act, demand, rows}
 use Rattle.wire.specs.declared.pen.Fault.the-variants as F
 use Rattle.wire.specs.Lists.{each}
 use Rattle.wire.specs.Layout.{Columns, of, at, row, shown, cells, every, flagged, counted, columns, has, kept, blank, demands, writes, flatActs, brokenActs, familyActs}
 use Rattle.wire.proofs.Cells.{On, every-same}
-use Rattle.wire.proofs.Forms.{form-shown, Breaks, woven, alike, means-same}
+use Rattle.wire.proofs.Forms.{form-shown, woven, alike, means-same}
 use Rattle.wire.proofs.Rowed.{Nest}
 use Rattle.wire.proofs.Heeds.{kept-on, flat-heeds, broken-heeds}
 use Rattle.frame.specs.Kind.{Lent}
-use Rattle.frame.specs.Entry.{first, others}
 use Rattle.frame.specs.Claims.{Agree}
 use Rattle.frame.proofs.Lawful.{agrees}
 use Rattle.scene_kind.specs.declared.rows.MpegH3dAudioScene.{MpegH3dAudioScene}

@@ -1,12 +1,12 @@
 -- The scene kind is lawful: its record, its five tables and its actions are those of its format.
-use Prim.Native.Nat.{ℕ, zero, suc, _+_, _/_, _^_, _≤_, _<_}
+use Prim.Native.Nat.{ℕ, zero, suc, _+_, _/_, _≤_, _<_}
 use mathlib.Core.List.{List, [], _∷_, _++_, append-nil, map, flatten, flatMap}
-use mathlib.Core.Bool.{Bool, true, false, _&&_}
+use mathlib.Core.Bool.{Bool, true, false}
 use mathlib.Core.Path.{_≡_, refl, sym, ap, subst, _∙_}
 use native.Mathlib.Omega.{arith}
 use lib.ListN.{length, getD, drop, length-append}
-use lib.Dec.{eqb, leb}
-use borrow.Author.Tests.{le-leb, eqb-true, leb-true, ltb-true}
+use lib.Dec.{eqb}
+use borrow.Author.Tests.{le-leb, leb-true}
 use Rattle.wire.specs.Lists.{Every, all-nil, all-cons, each, sum, Column}
 use Rattle.wire.specs.Bits.{bit, isFlag, fit}
 use Rattle.wire.specs.Prog.{span, many}
@@ -14,18 +14,17 @@ use Rattle.wire.specs.declared.rows.Payload.{Payload}
 use Rattle.wire.specs.Act.{Act, demand, pick, rows}
 use Rattle.wire.specs.declared.pen.Fault.the-variants as F
 use Rattle.wire.specs.Pen.{clean, bytes}
-use Rattle.wire.specs.Layout.{Cell, end, num, reserved, flag, fieldOf, has, Columns, of, at, row, reads, writes, shown, cells, every, flagged, counted, columns, demands, kept, blank, flat, flatMeans, flatActs, Family, parents, kids, familyMeans, familyActs}
+use Rattle.wire.specs.Layout.{Cell, end, num, reserved, flag, fieldOf, has, Columns, of, at, row, reads, writes, shown, cells, every, flagged, counted, columns, demands, flat, flatMeans, Family, parents, kids, familyMeans}
 use Rattle.wire.proofs.Lists.{every-as, every-flat}
 use Rattle.wire.proofs.Acts.{and-both, both-and, clean-both}
 use Rattle.wire.proofs.Takes.{Takes, takes-split, map-takes, many-takes, listed-every, listed-bound}
 use Rattle.wire.proofs.Nest.{flat-length, sum-suc}
 use Rattle.wire.proofs.Codec.{list, Spells, spells-rows, seen-as, As-fits}
-use Rattle.wire.proofs.Cells.{On, mix-all, every-same, all-fit, fit-both, narrow, uncounted, cells-byte}
-use Rattle.wire.proofs.Forms.{form-shown, form-acts, Row-fits, Breaks, woven, Holes, Cleans, Faultless, rows-of, row-spells, row-ready, row-columns, row-of, alike, means-same}
-use Rattle.wire.proofs.Rowed.{families, Wide, Good, found, room-for, flats, flat-wide, flat-spells, flat-columns, broken-spells, rows-again, rows-ready, weight, flat-weighs, listed-sum, flat-grows, Grown, family-grows, families-again, families-ready, parents-long, parents-wide, parents-room, parents-columns, kids-wide, kids-columns}
-use Rattle.frame.specs.Kind.{Lent, Held, Rows, bounded}
-use Rattle.frame.specs.Entry.{needs, total, first, others, filled}
-use Rattle.frame.proofs.Lawful.{Taken, Lawful}
+use Rattle.wire.proofs.Cells.{mix-all, all-fit, fit-both, narrow, uncounted, cells-byte}
+use Rattle.wire.proofs.Forms.{form-shown, form-acts, Row-fits, Breaks, woven, Holes, Cleans, Faultless, rows-of, row-spells, row-ready, row-of}
+use Rattle.wire.proofs.Rowed.{families, Wide, Good, found, room-for, flats, flat-wide, flat-spells, flat-columns, broken-spells, rows-again, rows-ready, weight, flat-weighs, listed-sum, flat-grows, Grown, family-grows, families-again, families-ready, parents-room, parents-columns, kids-columns}
+use Rattle.frame.specs.Kind.{Lent, Held, Rows}
+use Rattle.frame.specs.Entry.{first, others, filled}
 use Rattle.scene_groups.specs.Layout.{group}
 use Rattle.switch_groups.specs.Layout as S
 use Rattle.switch_groups.specs.Layout.{member, switchGroup}
@@ -37,7 +36,7 @@ use Rattle.scene_kind.specs.Layout as T
 use Rattle.scene_kind.specs.Layout.{layouts, absent}
 use Rattle.scene_kind.specs.Rows.{fields, sceneOf, bounds, Scene, tables}
 use Rattle.scene_kind.specs.Kind.{parse, table, counts, groupActs, switchActs, presetActs, inside, actsOf, acts, valueOf, value, kind}
-use Rattle.scene_kind.proofs.Format.{groupRows, memberRows, conditionRows, switchRows, presetRows, switch-passes, preset-passes, form, top-proper, top-below, top-absent, scene, parts, format, format-reads, format-means, format-spans, Parted, parted}
+use Rattle.scene_kind.proofs.Format.{groupRows, memberRows, conditionRows, switchRows, presetRows, switch-passes, preset-passes, form, top-proper, top-below, top-absent, scene, parts, format, Parted}
 
 -- ---- the actions, section by section
 

@@ -1,6 +1,6 @@
 -- The scene body (kind 2), all of it from the layouts: reading, the tally, writing, what a value means and what writing reads of it.
 use Prim.Native.Nat.{ℕ, zero, suc, _+_, _/_}
-use mathlib.Core.List.{List, [], _∷_, _++_, map}
+use mathlib.Core.List.{List, [], _∷_, _++_}
 use mathlib.Core.Bool.{Bool, _&&_}
 use lib.ListN.{length}
 use lib.Dec.{leb}

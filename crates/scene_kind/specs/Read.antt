@@ -1,8 +1,7 @@
 -- Reading the scene body line by line as the Rust: `MpegH3dAudioScene::parse`, `parse_group`, `parse_switch_group`, `parse_preset`. The layouts read the same (proofs/Mirrored).
 use Prim.Native.Nat.{ℕ, _+_}
 use mathlib.Core.List.{List, [], _∷_, _++_}
-use mathlib.Core.Bool.{Bool}
-use lib.ListN.{length, getD}
+use lib.ListN.{getD}
 use lib.Dec.{eqb}
 use Rattle.wire.specs.Lists.{each}
 use Rattle.wire.specs.Bits.{part}

@@ -5,7 +5,7 @@ use lib.ListN.{getD}
 use lib.Dec.{eqb}
 use Rattle.wire.specs.Bits.{bit}
 use Rattle.wire.specs.declared.rows.Payload.{Payload}
-use Rattle.wire.specs.Layout.{Columns, of, Family, parents, kids}
+use Rattle.wire.specs.Layout.{of, Family, parents, kids}
 use Rattle.frame.specs.Kind.{Rows, Bound, bounded}
 use Rattle.frame.specs.Entry.{Need}
 use Rattle.switch_groups.specs.Layout.{switchGroup}

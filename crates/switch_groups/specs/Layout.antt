@@ -1,5 +1,5 @@
 -- A switch group of the scene body (row of table 2) and its members (rows of table 3) as syntax tables (H.222.0 Table 2-123).
-use mathlib.Core.List.{List, [], _∷_}
+use mathlib.Core.List.{[], _∷_}
 use Rattle.wire.specs.Prog.{Prog}
 use Rattle.wire.specs.Layout.{Layout, end, one, _▹_, num, reserved, flag, less-one, Broken, broken, flat, Family}
 

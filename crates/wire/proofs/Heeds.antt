@@ -7,8 +7,8 @@ use lib.Dec.{eqb, leb}
 use borrow.Author.Tests.{eqb-true, eq-eqb}
 use Rattle.wire.specs.Act.{Act, demand, pick, rows}
 use Rattle.wire.specs.declared.pen.Fault.the-variants as F
-use Rattle.wire.specs.Layout.{Cell, Layout, Columns, of, row, set, shown, cells, every, flagged, counted, has, mix, columns, kept, blank, flatActs, flatMeans, Broken, layouts, brokenActs, brokenHeeds}
-use Rattle.wire.proofs.Cells.{On, clash, on-none, cells-on, every-same, mix-in}
+use Rattle.wire.specs.Layout.{Cell, Columns, of, row, set, shown, cells, every, flagged, counted, has, mix, columns, kept, blank, flatActs, flatMeans, Broken, layouts, brokenActs, brokenHeeds}
+use Rattle.wire.proofs.Cells.{On, clash, cells-on, every-same, mix-in}
 use Rattle.wire.proofs.Forms.{Form, last, form-shown, form-all, form-shown-in, sure-shown, below, woven, alike}
 use Rattle.wire.proofs.Rowed.{Flat, flat-proper, flat-below, flats, row-on, Nest, Nest-tests, nest-tests, broken-form}
 

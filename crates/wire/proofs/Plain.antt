@@ -11,7 +11,7 @@ use lib.Seq.{length-sets}
 use Rattle.wire.specs.Lists.{each}
 use Rattle.wire.specs.Bits.{Field, fit}
 use Rattle.wire.specs.Act.{Act, demand, byte, when, pick, rows}
-use Rattle.wire.specs.Pen.{look, glance, looks, reach, Checked, Quick, Ready, Filled, clean, bytes}
+use Rattle.wire.specs.Pen.{look, glance, looks, Checked, Quick, Filled, clean, bytes}
 use Rattle.wire.specs.declared.pen.Fault.{Fault}
 use Rattle.wire.specs.declared.pen.Pen.{Pen}
 use Rattle.wire.specs.declared.pen.Pen.the-variants.{At, Stop}

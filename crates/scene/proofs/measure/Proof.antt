@@ -6,7 +6,6 @@ use Rattle.scene.proofs.Answers.{measures-so}
 use borrow.Author.Needs.{needs}
 use Rattle.scene.proofs.measure.Statement.{statement}
 use Rattle.scene.proofs.measure.Tie as tie
-use Rattle.scene.proofs.measure.Reads as reads
 
 returns : tie.Need-returns
 returns c =

@@ -5,7 +5,6 @@ use Rattle.scene_kind.specs.Kind.{kind}
 use borrow.Author.Needs.{needs}
 use Rattle.scene.proofs.read.Statement.{statement}
 use Rattle.scene.proofs.read.Tie as tie
-use Rattle.scene.proofs.read.Reads as reads
 
 returns : tie.Need-returns
 returns c =

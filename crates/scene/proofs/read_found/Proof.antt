@@ -3,7 +3,6 @@ use Rattle.scene.proofs.Answers.{lacks-so, rooms-so, reads-so}
 use borrow.Author.Needs.{needs}
 use Rattle.scene.proofs.read_found.Statement.{statement}
 use Rattle.scene.proofs.read_found.Tie as tie
-use Rattle.scene.proofs.read_found.Reads as reads
 
 sizes-at-requires : tie.Need-sizes-at-requires
 sizes-at-requires c κs = search needs

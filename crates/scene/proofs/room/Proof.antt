@@ -5,7 +5,6 @@ use Rattle.frame.specs.Sight.{andTables}
 use borrow.Author.Needs.{needs}
 use Rattle.scene.proofs.room.Statement.{statement}
 use Rattle.scene.proofs.room.Tie as tie
-use Rattle.scene.proofs.room.Reads as reads
 
 cast-and-table : tie.Need-cast-and-table
 cast-and-table c = search needs

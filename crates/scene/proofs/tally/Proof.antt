@@ -6,7 +6,6 @@ use Rattle.scene.proofs.Answers.{tallies-so}
 use borrow.Author.Needs.{needs}
 use Rattle.scene.proofs.tally.Statement.{statement}
 use Rattle.scene.proofs.tally.Tie as tie
-use Rattle.scene.proofs.tally.Reads as reads
 
 returns : tie.Need-returns
 returns c =

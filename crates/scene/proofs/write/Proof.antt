@@ -4,7 +4,6 @@ use Rattle.scene_kind.specs.Kind.{kind}
 use borrow.Author.Needs.{needs}
 use Rattle.scene.proofs.write.Statement.{statement}
 use Rattle.scene.proofs.write.Tie as tie
-use Rattle.scene.proofs.write.Reads as reads
 
 check-requires : tie.Need-check-requires
 check-requires c κs = search needs

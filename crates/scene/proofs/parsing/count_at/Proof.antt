@@ -3,7 +3,6 @@ use Rattle.scene.proofs.Sections.{byte-there, count-there, count-absent
 use borrow.Author.Needs.{needs}
 use Rattle.scene.proofs.parsing.count_at.Statement.{statement}
 use Rattle.scene.proofs.parsing.count_at.Tie as tie
-use Rattle.scene.proofs.parsing.count_at.Reads as reads
 
 shared-slice-read-wide : tie.Need-shared-slice-read-wide
 shared-slice-read-wide c =

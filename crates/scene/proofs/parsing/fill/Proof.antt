@@ -6,7 +6,6 @@ use Rattle.scene.proofs.Stored.{groups-ask, switches-ask, presets-ask, 
 use borrow.Author.Needs.{needs}
 use Rattle.scene.proofs.parsing.fill.Statement.{statement}
 use Rattle.scene.proofs.parsing.fill.Tie as tie
-use Rattle.scene.proofs.parsing.fill.Reads as reads
 
 shared-slice-read-wide : tie.Need-shared-slice-read-wide
 shared-slice-read-wide c = search needs

@@ -2,7 +2,6 @@
 use borrow.Author.Needs.{needs}
 use Rattle.scene.proofs.parsing.fill_switch_groups_section.Statement.{statement}
 use Rattle.scene.proofs.parsing.fill_switch_groups_section.Tie as tie
-use Rattle.scene.proofs.parsing.fill_switch_groups_section.Reads as reads
 
 count-at-requires : tie.Need-count-at-requires
 count-at-requires c κs = search needs

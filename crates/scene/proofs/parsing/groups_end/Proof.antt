@@ -1,9 +1,7 @@
 -- `scene::parsing::groups_end` meets its contract: the byte of the section, if it is there, and the groups behind it.
-use Prim.Native.Nat.{ℕ}
-use mathlib.Core.Path.{sym, ap, _∙_}
+use mathlib.Core.Path.{ap}
 use native.Mathlib.Omega.{arith}
-use Rattle.wire.specs.Reads.{endsOut, endOf}
-use Rattle.wire.specs.Straight.{ends, ones}
+use Rattle.wire.specs.Reads.{endsOut}
 use Rattle.wire.specs.Layout.{flat}
 use Rattle.scene_groups.specs.Layout.{group}
 use Rattle.scene.proofs.Sections.{Begun, begins, size-small, section-cut-off, section-ends}

@@ -1,5 +1,4 @@
 -- `scene::parsing::presets_rows` meets its contract: the byte of the section, if it is there, and the presets behind it.
-use Prim.Native.Nat.{_+_, _*_}
 use mathlib.Core.Path.{ap}
 use native.Mathlib.Omega.{arith}
 use lib.ListN.{length}

@@ -6,7 +6,6 @@ use Rattle.scene.proofs.Found.{at-end, groups-there, switches-there, pr
 use borrow.Author.Needs.{needs}
 use Rattle.scene.proofs.parsing.record_at.Statement.{statement}
 use Rattle.scene.proofs.parsing.record_at.Tie as tie
-use Rattle.scene.proofs.parsing.record_at.Reads as reads
 
 shared-slice-read-wide : tie.Need-shared-slice-read-wide
 shared-slice-read-wide c = search needs

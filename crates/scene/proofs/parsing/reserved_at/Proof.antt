@@ -3,7 +3,6 @@ use Rattle.scene.proofs.Sections.{byte-there, reserved-there, reserved-
 use borrow.Author.Needs.{needs}
 use Rattle.scene.proofs.parsing.reserved_at.Statement.{statement}
 use Rattle.scene.proofs.parsing.reserved_at.Tie as tie
-use Rattle.scene.proofs.parsing.reserved_at.Reads as reads
 
 shared-slice-read-wide : tie.Need-shared-slice-read-wide
 shared-slice-read-wide c =

@@ -4,7 +4,6 @@ use Rattle.scene.proofs.Sections.{size-small, rows-at-so}
 use borrow.Author.Needs.{needs}
 use Rattle.scene.proofs.parsing.rows_at.Statement.{statement}
 use Rattle.scene.proofs.parsing.rows_at.Tie as tie
-use Rattle.scene.proofs.parsing.rows_at.Reads as reads
 
 size-requires : tie.Need-size-requires
 size-requires c κs = search needs

@@ -3,7 +3,6 @@ use lib.Dec.{eqb}
 use borrow.Author.Needs.{needs}
 use Rattle.scene.proofs.parsing.section_at.Statement.{statement}
 use Rattle.scene.proofs.parsing.section_at.Tie as tie
-use Rattle.scene.proofs.parsing.section_at.Reads as reads
 
 count-at-requires : tie.Need-count-at-requires
 count-at-requires c κs = search needs

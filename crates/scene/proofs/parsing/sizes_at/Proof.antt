@@ -6,7 +6,6 @@ use Rattle.scene.proofs.Found.{groups-there, switches-there, presets-th
 use borrow.Author.Needs.{needs}
 use Rattle.scene.proofs.parsing.sizes_at.Statement.{statement}
 use Rattle.scene.proofs.parsing.sizes_at.Tie as tie
-use Rattle.scene.proofs.parsing.sizes_at.Reads as reads
 
 shared-slice-read-wide : tie.Need-shared-slice-read-wide
 shared-slice-read-wide c = search needs

@@ -1,5 +1,4 @@
 -- `scene::parsing::switch_groups_rows` meets its contract: the byte of the section, if it is there, and the switch groups behind it.
-use Prim.Native.Nat.{_+_, _*_}
 use mathlib.Core.Path.{ap}
 use native.Mathlib.Omega.{arith}
 use lib.ListN.{length}

@@ -4,7 +4,6 @@ use native.Mathlib.Omega.{arith}
 use borrow.Author.Needs.{needs}
 use Rattle.scene.proofs.tallying.presets_zeros.Statement.{statement}
 use Rattle.scene.proofs.tallying.presets_zeros.Tie as tie
-use Rattle.scene.proofs.tallying.presets_zeros.Reads as reads
 
 reserved-zeros-requires : tie.Need-reserved-zeros-requires
 reserved-zeros-requires c κs = search needs

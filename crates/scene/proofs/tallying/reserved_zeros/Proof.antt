@@ -3,7 +3,6 @@ use Rattle.scene.proofs.Sections.{byte-there, zeros-there, zeros-absent
 use borrow.Author.Needs.{needs}
 use Rattle.scene.proofs.tallying.reserved_zeros.Statement.{statement}
 use Rattle.scene.proofs.tallying.reserved_zeros.Tie as tie
-use Rattle.scene.proofs.tallying.reserved_zeros.Reads as reads
 
 shared-slice-read-wide : tie.Need-shared-slice-read-wide
 shared-slice-read-wide c =

@@ -8,7 +8,6 @@ use Rattle.scene.proofs.Answers.{zeros-so}
 use borrow.Author.Needs.{needs}
 use Rattle.scene.proofs.tallying.zero_bits.Statement.{statement}
 use Rattle.scene.proofs.tallying.zero_bits.Tie as tie
-use Rattle.scene.proofs.tallying.zero_bits.Reads as reads
 
 shared-slice-read-wide : tie.Need-shared-slice-read-wide
 shared-slice-read-wide c = search needs

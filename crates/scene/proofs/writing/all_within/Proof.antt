@@ -3,7 +3,6 @@ use mathlib.Core.Bool.{_&&_}
 use borrow.Author.Needs.{needs}
 use Rattle.scene.proofs.writing.all_within.Statement.{statement}
 use Rattle.scene.proofs.writing.all_within.Tie as tie
-use Rattle.scene.proofs.writing.all_within.Reads as reads
 
 rows-within-requires : tie.Need-rows-within-requires
 rows-within-requires c κs = search needs

@@ -9,7 +9,6 @@ use Rattle.scene.proofs.Writes.{written-as}
 use borrow.Author.Needs.{needs}
 use Rattle.scene.proofs.writing.check.Statement.{statement}
 use Rattle.scene.proofs.writing.check.Tie as tie
-use Rattle.scene.proofs.writing.check.Reads as reads
 
 in-store-requires : tie.Need-in-store-requires
 in-store-requires c κs = search needs

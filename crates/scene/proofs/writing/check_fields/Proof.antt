@@ -9,7 +9,6 @@ use Rattle.scene.proofs.Writes.{insides}
 use borrow.Author.Needs.{needs}
 use Rattle.scene.proofs.writing.check_fields.Statement.{statement}
 use Rattle.scene.proofs.writing.check_fields.Tie as tie
-use Rattle.scene.proofs.writing.check_fields.Reads as reads
 
 all-within-requires : tie.Need-all-within-requires
 all-within-requires c κs = search needs

@@ -5,7 +5,6 @@ use Rattle.scene.proofs.Writes.{section-stops, section-goes, section-ab
 use borrow.Author.Needs.{needs}
 use Rattle.scene.proofs.writing.check_switch_groups_section.Statement.{statement}
 use Rattle.scene.proofs.writing.check_switch_groups_section.Tie as tie
-use Rattle.scene.proofs.writing.check_switch_groups_section.Reads as reads
 
 count-byte-requires : tie.Need-count-byte-requires
 count-byte-requires c κs = search needs

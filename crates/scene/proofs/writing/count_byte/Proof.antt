@@ -3,7 +3,6 @@ use Rattle.wire.specs.Spell.{none, more}
 use borrow.Author.Needs.{needs}
 use Rattle.scene.proofs.writing.count_byte.Statement.{statement}
 use Rattle.scene.proofs.writing.count_byte.Tie as tie
-use Rattle.scene.proofs.writing.count_byte.Reads as reads
 
 wide-requires : tie.Need-wide-requires
 wide-requires c κs = search needs

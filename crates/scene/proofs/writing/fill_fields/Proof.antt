@@ -4,7 +4,6 @@ use mathlib.Core.Bool.{true}
 use mathlib.Core.Path.{refl}
 use Rattle.wire.specs.Act.{Act, byte, when}
 use Rattle.wire.specs.Layout.{familyActs}
-use Rattle.wire.specs.Pen.{Ready}
 use Rattle.wire.proofs.Passes.{Filling, fill-start, fill-demand, fill-row, fill-turn, fill-last, demanded}
 use Rattle.wire.proofs.Plain.{ready-part, fill-part}
 use Rattle.frame.specs.Entry.{first, others}

@@ -4,7 +4,6 @@ use Rattle.wire.specs.Bits.{total, widths}
 use borrow.Author.Needs.{needs}
 use Rattle.scene.proofs.writing.flags_byte.Statement.{statement}
 use Rattle.scene.proofs.writing.flags_byte.Tie as tie
-use Rattle.scene.proofs.writing.flags_byte.Reads as reads
 
 none-requires : tie.Need-none-requires
 none-requires c κs = search needs

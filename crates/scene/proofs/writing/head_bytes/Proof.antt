@@ -3,7 +3,6 @@ use Rattle.wire.specs.Spell.{none, more}
 use borrow.Author.Needs.{needs}
 use Rattle.scene.proofs.writing.head_bytes.Statement.{statement}
 use Rattle.scene.proofs.writing.head_bytes.Tie as tie
-use Rattle.scene.proofs.writing.head_bytes.Reads as reads
 
 flags-byte-requires : tie.Need-flags-byte-requires
 flags-byte-requires c κs = search needs

@@ -3,7 +3,6 @@ use Rattle.scene.proofs.Writes.{within-there, within-absent}
 use borrow.Author.Needs.{needs}
 use Rattle.scene.proofs.writing.rows_within.Statement.{statement}
 use Rattle.scene.proofs.writing.rows_within.Tie as tie
-use Rattle.scene.proofs.writing.rows_within.Reads as reads
 
 cast-has-rows : tie.Need-cast-has-rows
 cast-has-rows c = search needs

@@ -3,7 +3,6 @@ use mathlib.Core.List.{[], _∷_}
 use borrow.Author.Needs.{needs}
 use Rattle.scene_kind.proofs.rows.MpegH3dAudioScene.columns.Statement.{statement}
 use Rattle.scene_kind.proofs.rows.MpegH3dAudioScene.columns.Tie as tie
-use Rattle.scene_kind.proofs.rows.MpegH3dAudioScene.columns.Reads as reads
 
 wide-requires : tie.Need-wide-requires
 wide-requires c κs = search needs
