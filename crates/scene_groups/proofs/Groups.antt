@@ -1,7 +1,7 @@
 -- The bytes of a group: those that are always there, the flags in them, and the parts that these steer.
 use Prim.Native.Nat.{ℕ, zero, suc, _+_, _*_, _≤_, _<_}
 use mathlib.Core.Path.{_≡_, refl, sym, ap, _∙_}
-use mathlib.Core.List.{List, [], _∷_, _++_, append-assoc, append-nil, map, flatten}
+use mathlib.Core.List.{List, [], _∷_, _++_, append-assoc, append-nil, flatten}
 use mathlib.Core.Bool.{Bool, true, false}
 use native.Mathlib.Omega.{arith}
 use lib.ListN.{length, getD}
@@ -12,26 +12,27 @@ use Rattle.wire.specs.Bits.{part, total, split}
 use Rattle.wire.specs.Prog.{Out, done, short, run}
 use Rattle.wire.specs.Reads.{endOf}
 use Rattle.wire.specs.Act.{pick}
-use Rattle.wire.specs.Layout.{Layout, line, end, optional, Columns, flat, width, put, blank, has, row}
+use Rattle.wire.specs.Layout.{Layout, end, optional, Columns, flat, put, blank, has, row}
 use Rattle.wire.specs.Straight.{ends, ones, putsAt, took, taken, spans, sizes, PartTaken}
 use Rattle.wire.proofs.Cells.{all, free}
-use Rattle.wire.proofs.Straight.{flat-ends, sizes-so, steered, ends-within, ends-at, ends-on, ends-cut, heads, each-off, flag-is, part-there}
+use Rattle.wire.proofs.Fields.{part-below}
+use Rattle.wire.proofs.Straight.{Whole, flat-ends, sizes-so, steered, ends-within, ends-at, ends-on, ends-cut, heads, each-off, flag-is, part-there, part-absent}
 use Rattle.wire.specs.declared.reads.Short.{Short}
 use Rattle.scene_groups.specs.Layout.{group, position, gain, language}
 use Rattle.scene_groups.specs.declared.rows.PositionInteractivity.{PositionInteractivity}
 use Rattle.scene_groups.specs.declared.rows.GainInteractivity.{GainInteractivity}
 use Rattle.scene_groups.specs.declared.rows.ContentLanguage.{ContentLanguage}
-use Rattle.scene_groups.specs.Rows.{idCells, flagCells, contentCells, parts, positionRow, gainRow, languageRow, positionFrom, gainFrom, languageFrom}
+use Rattle.scene_groups.specs.Rows.{idCells, flagCells, contentCells, parts, positionRow, gainRow, languageRow, positionFrom, gainFrom, languageFrom, blanks}
 
 -- the columns after the three bytes
-abbrev pub headed : List ℕ → ℕ → Columns
+abbrev headed : List ℕ → ℕ → Columns
 headed s at = putsAt (contentCells ∷ []) s at 2 (putsAt (flagCells ∷ []) s at 1 (putsAt (idCells ∷ []) s at 0 blank))
 
 -- the parts that the flags b steer, as sizes of reads
-abbrev pub partSizes : ℕ → List ℕ
+abbrev partSizes : ℕ → List ℕ
 partSizes b = pick (eqb (part 2 1 b) 1) (ones 5) [] ++ (pick (eqb (part 1 1 b) 1) (ones 2) [] ++ (pick (eqb (part 0 1 b) 1) (3 ∷ []) [] ++ []))
 
-pub group-sizes : (s : List ℕ) (at : ℕ) → spans group blank s at ≡ 1 ∷ 1 ∷ 1 ∷ partSizes (getD s (at + 1) 0)
+group-sizes : (s : List ℕ) (at : ℕ) → spans group blank s at ≡ 1 ∷ 1 ∷ 1 ∷ partSizes (getD s (at + 1) 0)
 unfolding group took putsAt put split total sizes ones steered all has free flatten
 group-sizes s at = ap (λ (l : List ℕ). 1 ∷ 1 ∷ 1 ∷ l) (sizes-so (7 ∷ 18 ∷ 23 ∷ []) parts refl refl (headed s at) s at 3)
 
@@ -46,7 +47,9 @@ pub group-ends : (s : List ℕ) (at : ℕ) → endOf (run (flat 27 group) s at) 
 unfolding ones
 group-ends s at =
     let b : ℕ = getD s (at + 1) 0 in
-    let q : partSizes b ≡ singleSizes b ++ languageSizes b = rw (append-nil (languageSizes b)) (sym (append-assoc (pick (eqb (part 2 1 b) 1) (ones 5) []) (pick (eqb (part 1 1 b) 1) (ones 2) []) (languageSizes b))) in
+    let p = pick (eqb (part 2 1 b) 1) (ones 5) [] in
+    let g = pick (eqb (part 1 1 b) 1) (ones 2) [] in
+    let q : partSizes b ≡ singleSizes b ++ languageSizes b = rw (append-nil (languageSizes b)) (sym (append-assoc p g (languageSizes b))) in
     flat-ends 27 group s at ∙ ap (λ (l : List ℕ). ends l s at) (group-sizes s at ∙ ap (λ (l : List ℕ). 1 ∷ 1 ∷ 1 ∷ l) q)
 
 pub singles-so : (p g r : ℕ) → p < 2 → g < 2 → r ≡ p * 5 + g * 2 → (ones r ≡ pick (eqb p 1) (ones 5) [] ++ pick (eqb g 1) (ones 2) []) × (r ≤ 7)
@@ -101,27 +104,30 @@ module _ {s : List ℕ} {at m flags v : ℕ} (w : Singly s at m) (b : flags ≡ 
 
 -- ---- taken
 
-abbrev pub none-3 : List ℕ
-none-3 = 0 ∷ 0 ∷ 0 ∷ []
+-- a part that is there: its flag is 1, and its row is what its layout takes
+there : (k n : ℕ) (p : Layout) (s : List ℕ) (at : ℕ) {v : ℕ} {q r : List ℕ} → v ≡ 1 → r ≡ q → ((f : Columns) → f k ≡ 1 → q ≡ each (taken p f s at) k (suc n)) → PartTaken k (suc n) p v (blanks n) s at r
+there k n p s at t e h = record { of = λ f z. e ∙ h f (flag-is k n f z ∙ t) ∙ part-there k n p f s at t z }
 
-abbrev pub none-4 : List ℕ
-none-4 = 0 ∷ none-3
-
-abbrev pub none-10 : List ℕ
-none-10 = 0 ∷ 0 ∷ 0 ∷ 0 ∷ 0 ∷ 0 ∷ none-4
-
--- a part that is there
-pub position-there : (s : List ℕ) (at : ℕ) {v : ℕ} → v ≡ 1 → {r : PositionInteractivity} → r ≡ positionFrom s at → PartTaken 7 11 position v none-10 s at (positionRow r)
+pub position-there : (s : List ℕ) (at : ℕ) {v : ℕ} → v ≡ 1 → {r : PositionInteractivity} → r ≡ positionFrom s at → PartTaken 7 11 position v (blanks 10) s at (positionRow r)
 unfolding took putsAt put split total each
-position-there s at {v} t q = record { of = λ f e. let z : f 7 ≡ 1 = flag-is 7 10 f e ∙ t in let h : positionRow (positionFrom s at) ≡ each (taken position f s at) 7 11 = rw z in ap positionRow q ∙ h ∙ part-there 7 10 position f s at t e }
+position-there s at t q = there 7 10 position s at t (ap positionRow q) (λ f z. rw z)
 
-pub gain-there : (s : List ℕ) (at : ℕ) {v : ℕ} → v ≡ 1 → {r : GainInteractivity} → r ≡ gainFrom s at → PartTaken 18 5 gain v none-4 s at (gainRow r)
+pub gain-there : (s : List ℕ) (at : ℕ) {v : ℕ} → v ≡ 1 → {r : GainInteractivity} → r ≡ gainFrom s at → PartTaken 18 5 gain v (blanks 4) s at (gainRow r)
 unfolding took putsAt put split total each
-gain-there s at {v} t q = record { of = λ f e. let z : f 18 ≡ 1 = flag-is 18 4 f e ∙ t in let h : gainRow (gainFrom s at) ≡ each (taken gain f s at) 18 5 = rw z in ap gainRow q ∙ h ∙ part-there 18 4 gain f s at t e }
+gain-there s at t q = there 18 4 gain s at t (ap gainRow q) (λ f z. rw z)
 
-pub language-there : (s : List ℕ) (at : ℕ) {v : ℕ} → v ≡ 1 → {r : ContentLanguage} → r ≡ languageFrom s at → PartTaken 23 4 language v none-3 s at (languageRow r)
+pub language-there : (s : List ℕ) (at : ℕ) {v : ℕ} → v ≡ 1 → {r : ContentLanguage} → r ≡ languageFrom s at → PartTaken 23 4 language v (blanks 3) s at (languageRow r)
 unfolding took putsAt put split total each
-language-there s at {v} t q = record { of = λ f e. let z : f 23 ≡ 1 = flag-is 23 3 f e ∙ t in let h : languageRow (languageFrom s at) ≡ each (taken language f s at) 23 4 = rw z in ap languageRow q ∙ h ∙ part-there 23 3 language f s at t e }
+language-there s at t q = there 23 3 language s at t (ap languageRow q) (λ f z. rw z)
+
+-- a part that is not there: its flag is 0, and its columns stay 0
+pub part-none : (k n : ℕ) (p : Layout) (s : List ℕ) (at : ℕ) {v : ℕ} → v ≤ 1 → (v ≡ 1 → ⊥) → PartTaken k (suc n) p v (blanks n) s at (0 ∷ blanks n)
+part-none k n p s at {v} h t = let z : 0 ≡ v = go v h t in record { of = λ f e. ap (λ (v : ℕ). v ∷ blanks n) z ∙ part-absent k n p f s at t e }
+  where
+    go : (v : ℕ) → v ≤ 1 → (v ≡ 1 → ⊥) → 0 ≡ v
+    go zero h t = refl
+    go (suc zero) h t = absurd (t refl)
+    go (suc (suc v)) h t = absurd (omega arith)
 
 -- the bytes of the parts
 abbrev pub fives : ℕ → ℕ
@@ -133,7 +139,10 @@ twos v = pick (eqb v 1) 2 0
 abbrev pub threes : ℕ → ℕ
 threes v = pick (eqb v 1) 3 0
 
-pub group-long : (s : List ℕ) (at : ℕ) {b : ℕ} → b ≡ getD s (at + 1) 0 → total (spans group blank s at) ≡ 3 + (fives (part 2 1 b) + (twos (part 1 1 b) + threes (part 0 1 b)))
+pub flag-below : (low b : ℕ) {v : ℕ} → v ≡ part low 1 b → v ≤ 1
+flag-below low b e = omega (arith, part-below low 1 b, e)
+
+group-long : (s : List ℕ) (at : ℕ) {b : ℕ} → b ≡ getD s (at + 1) 0 → total (spans group blank s at) ≡ 3 + (fives (part 2 1 b) + (twos (part 1 1 b) + threes (part 0 1 b)))
 unfolding total ones
 group-long s at {b} e = ap total (group-sizes s at) ∙ rw (← e) (go (eqb (part 2 1 b) 1) (eqb (part 1 1 b) 1) (eqb (part 0 1 b) 1))
   where
@@ -147,15 +156,14 @@ group-long s at {b} e = ap total (group-sizes s at) ∙ rw (← e) (go (eqb (par
     go false false true = refl
     go false false false = refl
 
-sized-5 : (x : Bool) (f : Columns) (s : List ℕ) (at : ℕ) → total (pick x (took position f s at 0) (f, []) .1) ≡ pick x 5 0
-unfolding took total
-sized-5 true f s at = refl
-sized-5 false f s at = refl
+-- the bytes of the part p, whose flag is column k
+abbrev bytesOf : ℕ → Layout → Columns → List ℕ → ℕ → ℕ
+bytesOf k p f s at = total (pick (eqb (f k) 1) (took p f s at 0) (f, []) .1)
 
-sized-2 : (x : Bool) (f : Columns) (s : List ℕ) (at : ℕ) → total (pick x (took gain f s at 0) (f, []) .1) ≡ pick x 2 0
-unfolding took total
-sized-2 true f s at = refl
-sized-2 false f s at = refl
+sized : (x : Bool) (n : ℕ) (a : Columns × List ℕ) (f : Columns) → total (a .1) ≡ n → total (pick x a (f, []) .1) ≡ pick x n 0
+unfolding total
+sized true n a f e = e
+sized false n a f e = refl
 
 -- the columns behind each part
 abbrev with-position : List ℕ → ℕ → Columns
@@ -174,23 +182,48 @@ module _ (s : List ℕ) (at : ℕ) {b m n : ℕ} (e : b ≡ getD s (at + 1) 0) (
   parts-taken : taken group blank s at ≡ with-all s at m n
   unfolding group took putsAt put split total all has free flatten each
   parts-taken =
-      let q : m ≡ at + 3 + total (pick (eqb (headed s at 7) 1) (took position (headed s at) s (at + 3) 0) (headed s at, []) .1) = a ∙ ap (λ (b : ℕ). at + 3 + fives (part 2 1 b)) e ∙ ap (λ (k : ℕ). at + 3 + k) (sym (sized-5 (eqb (headed s at 7) 1) (headed s at) s (at + 3))) in
-      let g : with-position s at 18 ≡ part 1 1 b = heads (each-off (optional 7 position end) (headed s at) s (at + 3) 0 18 5 refl) ∙ ap (part 1 1) (sym e) in
-      let r : n ≡ m + total (pick (eqb (with-position s at 18) 1) (took gain (with-position s at) s m 0) (with-position s at, []) .1) = z ∙ ap (λ (v : ℕ). m + twos v) (sym g) ∙ ap (λ (k : ℕ). m + k) (sym (sized-2 (eqb (with-position s at 18) 1) (with-position s at) s m)) in
-      ap (λ (k : ℕ). with-all s at k (k + total (pick (eqb (with-position s at 18) 1) (took gain (with-position s at) s k 0) (with-position s at, []) .1))) (sym q)
-      ∙ ap (λ (k : ℕ). with-all s at m k) (sym r)
+      let f₀ = headed s at in
+      let f₁ = with-position s at in
+      let x : bytesOf 7 position f₀ s (at + 3) ≡ fives (part 2 1 b) = sized (eqb (f₀ 7) 1) 5 (took position f₀ s (at + 3) 0) f₀ refl ∙ ap (λ (b : ℕ). fives (part 2 1 b)) (sym e) in
+      let q : m ≡ at + 3 + bytesOf 7 position f₀ s (at + 3) = a ∙ ap (λ (k : ℕ). at + 3 + k) (sym x) in
+      let g : f₁ 18 ≡ part 1 1 b = heads (each-off (optional 7 position end) f₀ s (at + 3) 0 18 5 refl) ∙ ap (part 1 1) (sym e) in
+      let y : bytesOf 18 gain f₁ s m ≡ twos (part 1 1 b) = sized (eqb (f₁ 18) 1) 2 (took gain f₁ s m 0) f₁ refl ∙ ap twos g in
+      let r : n ≡ m + bytesOf 18 gain f₁ s m = z ∙ ap (λ (k : ℕ). m + k) (sym y) in
+      ap (λ (k : ℕ). with-all s at k (k + bytesOf 18 gain f₁ s k)) (sym q) ∙ ap (λ (k : ℕ). with-all s at m k) (sym r)
 
-  pub group-taken : {p g l : List ℕ} → PartTaken 7 11 position (part 2 1 b) none-10 s (at + 3) p → PartTaken 18 5 gain (part 1 1 b) none-4 s m g → PartTaken 23 4 language (part 0 1 b) none-3 s n l
+  group-taken : {p g l : List ℕ} → PartTaken 7 11 position (part 2 1 b) (blanks 10) s (at + 3) p
+      → PartTaken 18 5 gain (part 1 1 b) (blanks 4) s m g → PartTaken 23 4 language (part 0 1 b) (blanks 3) s n l
       → headOf (getD s at 0) b (getD s (at + 2) 0) ++ (p ++ (g ++ l)) ≡ row 27 (taken group blank s at)
-  unfolding took putsAt put split total all has free flatten each
+  unfolding took putsAt put split total all has free flatten each blanks
   group-taken {p} {g} {l} x y w =
       let f₀ = headed s at in
       let f₁ = with-position s at in
       let f₂ = with-gain s at m in
       let f₃ = with-all s at m n in
-      let h : each f₃ 0 7 ≡ each f₀ 0 7 = each-off (optional 23 language end) f₂ s n 0 0 7 refl ∙ each-off (optional 18 gain end) f₁ s m 0 0 7 refl ∙ each-off (optional 7 position end) f₀ s (at + 3) 0 0 7 refl in
+      let no-position = each-off (optional 7 position end) f₀ s (at + 3) 0 in
+      let no-gain = each-off (optional 18 gain end) f₁ s m 0 in
+      let no-language = each-off (optional 23 language end) f₂ s n 0 in
+      let h : each f₃ 0 7 ≡ each f₀ 0 7 = no-language 0 7 refl ∙ no-gain 0 7 refl ∙ no-position 0 7 refl in
       let h′ : headOf (getD s at 0) b (getD s (at + 2) 0) ≡ each f₃ 0 7 = rw e (sym h) in
-      let i : p ≡ each f₃ 7 11 = x .of f₀ (rw (← e)) ∙ sym (each-off (optional 23 language end) f₂ s n 0 7 11 refl ∙ each-off (optional 18 gain end) f₁ s m 0 7 11 refl) in
-      let j : g ≡ each f₃ 18 5 = y .of f₁ (each-off (optional 7 position end) f₀ s (at + 3) 0 18 5 refl ∙ rw (← e)) ∙ sym (each-off (optional 23 language end) f₂ s n 0 18 5 refl) in
-      let k : l ≡ each f₃ 23 4 = w .of f₂ (each-off (optional 18 gain end) f₁ s m 0 23 4 refl ∙ each-off (optional 7 position end) f₀ s (at + 3) 0 23 4 refl ∙ rw (← e)) in
+      let i : p ≡ each f₃ 7 11 = x .of f₀ (rw (← e)) ∙ sym (no-language 7 11 refl ∙ no-gain 7 11 refl) in
+      let j : g ≡ each f₃ 18 5 = y .of f₁ (no-position 18 5 refl ∙ rw (← e)) ∙ sym (no-language 18 5 refl) in
+      let k : l ≡ each f₃ 23 4 = w .of f₂ (no-gain 23 4 refl ∙ no-position 23 4 refl ∙ rw (← e)) in
       (λ t. h′ t ++ (i t ++ (j t ++ k t))) ∙ ap (row 27) (sym parts-taken)
+
+-- a group that was measured, from what stands in its bytes
+module _ {s : List ℕ} {at : ℕ} (w : Whole 27 group s at) {b : ℕ} (e : b ≡ getD s (at + 1) 0) {p g l : ℕ} (ep : p ≡ part 2 1 b) (eg : g ≡ part 1 1 b) (el : l ≡ part 0 1 b) where
+  long : total (spans group blank s at) ≡ 3 + (fives p + (twos g + threes l))
+  long = group-long s at e ∙ sym (λ i. 3 + (fives (ep i) + (twos (eg i) + threes (el i))))
+
+  pub group-room : at + (3 + (fives p + (twos g + threes l))) ≤ length s
+  group-room = rw long at (w .there)
+
+  pub group-done : {x y z : ℕ} → x ≡ fives p → y ≡ twos g → z ≡ threes l → {h u v t : List ℕ} → h ≡ headOf (getD s at 0) b (getD s (at + 2) 0)
+      → PartTaken 7 11 position p (blanks 10) s (at + 3) u → PartTaken 18 5 gain g (blanks 4) s (at + 3 + x) v → PartTaken 23 4 language l (blanks 3) s (at + 3 + x + y) t
+      → done (h ++ (u ++ (v ++ t))) (at + 3 + x + y + z) ≡ run (flat 27 group) s at
+  group-done {x} {y} {z} ex ey ez {h} {u} {v} {t} q i j k =
+      let m : at + 3 + x ≡ at + 3 + fives (part 2 1 b) = ap (λ (k : ℕ). at + 3 + k) (ex ∙ ap fives ep) in
+      let n : at + 3 + x + y ≡ at + 3 + x + twos (part 1 1 b) = ap (λ (k : ℕ). at + 3 + x + k) (ey ∙ ap twos eg) in
+      let r = (λ o. q o ++ (u ++ (v ++ t))) ∙ group-taken s at e m n (rw ep at i) (rw eg at j) (rw el at k) in
+      let f : at + 3 + x + y + z ≡ at + total (spans group blank s at) = omega (arith, long, ex, ey, ez) in
+      (λ o. done (r o) (f o)) ∙ sym (w .is)

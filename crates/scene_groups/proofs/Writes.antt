@@ -1,5 +1,5 @@
 -- The actions of a group part by part, and what its two passes do with them.
-use Prim.Native.Nat.{ℕ, _+_, _*_, _<_, _≤_}
+use Prim.Native.Nat.{ℕ, _+_, _*_, _≤_}
 use mathlib.Core.Path.{_≡_, refl, sym, ap, _∙_}
 use mathlib.Core.List.{List, [], _∷_, _++_, map, flatten}
 use mathlib.Core.Bool.{Bool, true, false, _&&_, and-true}
@@ -7,6 +7,7 @@ use native.Mathlib.Omega.{arith}
 use native.Mathlib.Nat.{add-zero}
 use lib.ListN.{length}
 use lib.Dec.{eqb}
+use borrow.Author.Tests.{eq-eqb, ne-eqb}
 use Rattle.wire.specs.Bits.{Field, isFlag, fit}
 use Rattle.wire.specs.Act.{Act, demand, byte, when, pick}
 use Rattle.wire.specs.Pen.{Quick, clean, bytes}
@@ -18,46 +19,70 @@ use Rattle.wire.proofs.Cells.{fit-flags}
 use Rattle.wire.proofs.Passes.{quick-clean, quick-odd}
 use Rattle.wire.proofs.Plain.{clean-when, clean-all, absorb, no-quick}
 use Rattle.scene_groups.specs.Layout.{group}
-use Rattle.scene_groups.specs.Write.{plainFits, groupActs, rowActs}
-use Rattle.scene_groups.specs.Rows.{groupCols, groupOf, idCells, flagCells, contentCells, positionCells, gainCells, languageCells}
+use Rattle.scene_groups.specs.Write.{partFits, plainFits, groupActs, rowActs}
+use Rattle.scene_groups.specs.Rows.{groupCols, groupOf, idCells, flagCells, contentCells, positionCells, gainCells, languageCells, partCells}
 
 -- ---- a group
 
 abbrev pub flagsOf : Columns → Bool
 flagsOf g = isFlag (g 3) && (isFlag (g 4) && (isFlag (g 7) && (isFlag (g 18) && isFlag (g 23))))
 
+-- the parts, each with those after it
+abbrev pub languageActs : Columns → List Act
+languageActs g = when (eqb (g 23) 1) (map byte (fieldsOf g languageCells)) ++ []
+
+abbrev pub gainActs : Columns → List Act
+gainActs g = when (eqb (g 18) 1) (map byte (fieldsOf g gainCells)) ++ languageActs g
+
 abbrev pub partActs : Columns → List Act
-partActs g =
-    when (eqb (g 7) 1) (map byte (fieldsOf g positionCells)) ++ (when (eqb (g 18) 1) (map byte (fieldsOf g gainCells)) ++ (when (eqb (g 23) 1) (map byte (fieldsOf g languageCells)) ++ []))
+partActs g = when (eqb (g 7) 1) (map byte (fieldsOf g positionCells)) ++ gainActs g
+
+-- the three bytes that are always there
+abbrev headBytes : Columns → List (List Field)
+headBytes g = fieldsOf g (idCells ∷ flagCells ∷ contentCells ∷ [])
 
 abbrev pub plainActs : Columns → List Act
-plainActs g = demand F.Field (flagsOf g) ∷ demand F.Empty true ∷ (map byte (fieldsOf g (idCells ∷ flagCells ∷ contentCells ∷ [])) ++ partActs g)
+plainActs g = demand F.Field (flagsOf g) ∷ demand F.Empty true ∷ (map byte (headBytes g) ++ partActs g)
+
+-- none of them is a flag or a count
+no-flags : (g : Columns) (x y z : Bool) → every flagged g (partCells x y z) ≡ true
+unfolding every flatten
+no-flags g true true true = refl
+no-flags g true true false = refl
+no-flags g true false true = refl
+no-flags g true false false = refl
+no-flags g false true true = refl
+no-flags g false true false = refl
+no-flags g false false true = refl
+no-flags g false false false = refl
+
+no-counts : (g : Columns) (x y z : Bool) → every counted g (partCells x y z) ≡ true
+unfolding every flatten
+no-counts g true true true = refl
+no-counts g true true false = refl
+no-counts g true false true = refl
+no-counts g true false false = refl
+no-counts g false true true = refl
+no-counts g false true false = refl
+no-counts g false false true = refl
+no-counts g false false false = refl
 
 pub group-acts : (g : Columns) → flatActs group g ≡ plainActs g
 unfolding group writes shown cells every flatten
-group-acts g = λ i. demand F.Field (flags (eqb (g 7) 1) (eqb (g 18) 1) (eqb (g 23) 1) i) ∷ demand F.Empty (counts (eqb (g 7) 1) (eqb (g 18) 1) (eqb (g 23) 1) i) ∷ (map byte (fieldsOf g (idCells ∷ flagCells ∷ contentCells ∷ [])) ++ partActs g)
-  where
-    flags : (x y z : Bool) → isFlag (g 3) && (isFlag (g 4) && (isFlag (g 7) && (isFlag (g 18) && (isFlag (g 23) && every flagged g (pick x (flatten positionCells) [] ++ (pick y (flatten gainCells) [] ++ (pick z (flatten languageCells) [] ++ []))))))) ≡ flagsOf g
-    flags true true true = rw (and-true (isFlag (g 23)))
-    flags true true false = rw (and-true (isFlag (g 23)))
-    flags true false true = rw (and-true (isFlag (g 23)))
-    flags true false false = rw (and-true (isFlag (g 23)))
-    flags false true true = rw (and-true (isFlag (g 23)))
-    flags false true false = rw (and-true (isFlag (g 23)))
-    flags false false true = rw (and-true (isFlag (g 23)))
-    flags false false false = rw (and-true (isFlag (g 23)))
-
-    counts : (x y z : Bool) → every counted g (pick x (flatten positionCells) [] ++ (pick y (flatten gainCells) [] ++ (pick z (flatten languageCells) [] ++ []))) ≡ true
-    counts true true true = refl
-    counts true true false = refl
-    counts true false true = refl
-    counts true false false = refl
-    counts false true true = refl
-    counts false true false = refl
-    counts false false true = refl
-    counts false false false = refl
+group-acts g =
+    let f = ap (λ (b : Bool). isFlag (g 23) && b) (no-flags g (eqb (g 7) 1) (eqb (g 18) 1) (eqb (g 23) 1)) ∙ and-true (isFlag (g 23)) in
+    let c = no-counts g (eqb (g 7) 1) (eqb (g 18) 1) (eqb (g 23) 1) in
+    λ i. demand F.Field (isFlag (g 3) && (isFlag (g 4) && (isFlag (g 7) && (isFlag (g 18) && f i)))) ∷ demand F.Empty (c i)
+    ∷ (map byte (headBytes g) ++ partActs g)
 
 -- ---- the quick test
+
+-- the fields of a part that is there, and of one that is not
+pub fits-there : {v : ℕ} (fields : List (List Field)) → v ≡ 1 → {r : Bool} → r ≡ fitAll fields → r ≡ partFits v fields
+fits-there {v} fields t e = e ∙ ap (λ (x : Bool). pick x (fitAll fields) true) (sym (eq-eqb v 1 t))
+
+pub fits-absent : {v : ℕ} (fields : List (List Field)) → (v ≡ 1 → ⊥) → true ≡ partFits v fields
+fits-absent {v} fields t = ap (λ (x : Bool). pick x (fitAll fields) true) (sym (ne-eqb v 1 t))
 
 -- the bytes of a part
 pub part-most : (v n : ℕ) {r : ℕ} → r ≡ pick (eqb v 1) n 0 → r ≤ n
@@ -67,32 +92,41 @@ part-most v n e = rw e (go (eqb v 1))
     go true = omega arith
     go false = omega arith
 
-parts-clean : (x y z : Bool) (a b c : List (List Field)) → clean (when x (map byte a) ++ (when y (map byte b) ++ (when z (map byte c) ++ []))) ≡ pick x (fitAll a) true && (pick y (fitAll b) true && pick z (fitAll c) true)
+parts-clean : (x y z : Bool) (a b c : List (List Field)) → clean (when x (map byte a) ++ (when y (map byte b) ++ (when z (map byte c) ++ [])))
+    ≡ pick x (fitAll a) true && (pick y (fitAll b) true && pick z (fitAll c) true)
 unfolding clean
 parts-clean x y z a b c =
-    clean-append (when x (map byte a)) _ ∙ (λ i. clean-when x a i && (clean-append (when y (map byte b)) (when z (map byte c) ++ []) ∙ (λ i. clean-when y b i && (clean-append (when z (map byte c)) [] ∙ and-true (clean (when z (map byte c))) ∙ clean-when z c) i)) i)
+    let l = clean-append (when z (map byte c)) [] ∙ and-true (clean (when z (map byte c))) ∙ clean-when z c in
+    let g = clean-append (when y (map byte b)) (when z (map byte c) ++ []) ∙ λ i. clean-when y b i && l i in
+    clean-append (when x (map byte a)) _ ∙ λ i. clean-when x a i && g i
 
 -- a flag is a field of one bit, so the bytes tell
 flags-too : (g : Columns) → plainFits g ≡ true → flagsOf g ≡ true
 unfolding every fitAll
 flags-too g e =
-    let (h, _) = and-both (fitAll (fieldsOf g (idCells ∷ flagCells ∷ contentCells ∷ []))) _ e in
+    let (h, _) = and-both (fitAll (headBytes g)) _ e in
     let (_, r) = and-both (fit _) _ h in
     let (f, _) = and-both (fit _) _ r in
     rw (and-true (isFlag (g 23))) at (fit-flags flagCells g f)
 
-pub group-clean : (g : Columns) → clean (flatActs group g) ≡ plainFits g
+group-clean : (g : Columns) → clean (flatActs group g) ≡ plainFits g
 unfolding clean fitAll
 group-clean g =
+    let p = parts-clean (eqb (g 7) 1) (eqb (g 18) 1) (eqb (g 23) 1) (fieldsOf g positionCells) (fieldsOf g gainCells) (fieldsOf g languageCells) in
     ap clean (group-acts g)
-    ∙ ap (λ (b : Bool). flagsOf g && b) (clean-append (map byte (fieldsOf g (idCells ∷ flagCells ∷ contentCells ∷ []))) (partActs g) ∙ λ i. clean-all (fieldsOf g (idCells ∷ flagCells ∷ contentCells ∷ [])) i && parts-clean (eqb (g 7) 1) (eqb (g 18) 1) (eqb (g 23) 1) (fieldsOf g positionCells) (fieldsOf g gainCells) (fieldsOf g languageCells) i)
+    ∙ ap (λ (b : Bool). flagsOf g && b) (clean-append (map byte (headBytes g)) (partActs g) ∙ λ i. clean-all (headBytes g) i && p i)
     ∙ absorb (flagsOf g) (plainFits g) (flags-too g)
 
-pub group-bytes : (g : Columns) → length (bytes (flatActs group g)) ≡ 3 + (pick (eqb (g 7) 1) 5 0 + (pick (eqb (g 18) 1) 2 0 + pick (eqb (g 23) 1) 3 0))
+-- the bytes of a row
+abbrev rowLong : Columns → ℕ
+rowLong g = 3 + (pick (eqb (g 7) 1) 5 0 + (pick (eqb (g 18) 1) 2 0 + pick (eqb (g 23) 1) 3 0))
+
+group-bytes : (g : Columns) → length (bytes (flatActs group g)) ≡ rowLong g
 unfolding bytes
 group-bytes g = ap (λ (l : List Act). length (bytes l)) (group-acts g) ∙ go (eqb (g 7) 1) (eqb (g 18) 1) (eqb (g 23) 1)
   where
-    go : (x y z : Bool) → length (bytes (map byte (fieldsOf g (idCells ∷ flagCells ∷ contentCells ∷ [])) ++ (when x (map byte (fieldsOf g positionCells)) ++ (when y (map byte (fieldsOf g gainCells)) ++ (when z (map byte (fieldsOf g languageCells)) ++ []))))) ≡ 3 + (pick x 5 0 + (pick y 2 0 + pick z 3 0))
+    go : (x y z : Bool) → length (bytes (map byte (headBytes g) ++ (when x (map byte (fieldsOf g positionCells)) ++ (when y (map byte (fieldsOf g gainCells)) ++ (when z (map byte (fieldsOf g languageCells)) ++ [])))))
+        ≡ 3 + (pick x 5 0 + (pick y 2 0 + pick z 3 0))
     go true true true = refl
     go true true false = refl
     go true false true = refl
@@ -102,18 +136,10 @@ group-bytes g = ap (λ (l : List Act). length (bytes l)) (group-acts g) ∙ go (
     go false false true = refl
     go false false false = refl
 
-pub plain-so : (g : Columns) {n : ℕ} → plainFits g ≡ true → n ≡ 3 + (pick (eqb (g 7) 1) 5 0 + (pick (eqb (g 18) 1) 2 0 + pick (eqb (g 23) 1) 3 0)) → Quick (flatActs group g) 13 n
-plain-so g {n} e q = quick-clean (flatActs group g) 13 (group-clean g ∙ e) (group-bytes g ∙ sym q) (omega arith) (rw q (most (eqb (g 7) 1) (eqb (g 18) 1) (eqb (g 23) 1)))
-  where
-    most : (x y z : Bool) → 3 + (pick x 5 0 + (pick y 2 0 + pick z 3 0)) ≤ 13
-    most true true true = omega arith
-    most true true false = omega arith
-    most true false true = omega arith
-    most true false false = omega arith
-    most false true true = omega arith
-    most false true false = omega arith
-    most false false true = omega arith
-    most false false false = omega arith
+pub plain-so : (g : Columns) {n : ℕ} → plainFits g ≡ true → n ≡ rowLong g → Quick (flatActs group g) 13 n
+plain-so g {n} e q =
+    let m : n ≤ 13 = omega (arith, q, part-most (g 7) 5 refl, part-most (g 18) 2 refl, part-most (g 23) 3 refl) in
+    quick-clean (flatActs group g) 13 (group-clean g ∙ e) (group-bytes g ∙ sym q) (omega arith) m
 
 pub odd-so : (g : Columns) → plainFits g ≡ false → Quick (flatActs group g) 13 0
 odd-so g e = quick-odd (flatActs group g) 13 (λ z. no-quick e (sym (group-clean g) ∙ z))

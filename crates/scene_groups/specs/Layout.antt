@@ -1,5 +1,5 @@
 -- A group of the scene body, a row of table 1, as a syntax table (H.222.0 Table 2-123): each byte with its fields from the highest down, each field with its width and its column.
-use mathlib.Core.List.{List, [], _∷_}
+use mathlib.Core.List.{[], _∷_}
 use Rattle.wire.specs.Layout.{Layout, end, line, one, optional, _▹_, num, reserved, flag}
 
 -- table 1: the optional parts are steered by columns 7, 18 and 23

@@ -1,14 +1,11 @@
 -- The declared rows of table 1 as columns, the layout of a group in its parts, and what the functions of a part promise.
-use Prim.Native.Nat.{ℕ, _+_, _-_, _≤_}
-use mathlib.Core.Path.{_≡_}
-use mathlib.Core.List.{List, [], _∷_, _++_}
+use Prim.Native.Nat.{ℕ, zero, suc, _+_, _-_}
+use mathlib.Core.List.{List, [], _∷_, _++_, flatten}
 use mathlib.Core.Bool.{Bool}
-use lib.ListN.{length, getD}
-use Rattle.wire.specs.Lists.{each}
+use lib.ListN.{getD}
 use Rattle.wire.specs.Bits.{part}
-use Rattle.wire.specs.Layout.{Cell, Layout, end, line, optional, _▹_, num, reserved, flag, Columns, of, row}
-use Rattle.wire.specs.Straight.{taken}
-use Rattle.wire.specs.Spell.{Spelt, fieldsOf}
+use Rattle.wire.specs.Act.{pick}
+use Rattle.wire.specs.Layout.{Cell, Layout, end, optional, _▹_, num, reserved, flag, Columns, of}
 use Rattle.scene_groups.specs.Layout.{position, gain, language}
 use Rattle.scene_groups.specs.declared.rows.PositionInteractivity.{PositionInteractivity}
 use Rattle.scene_groups.specs.declared.rows.GainInteractivity.{GainInteractivity}
@@ -36,10 +33,57 @@ abbrev pub groupCols : SceneGroup → Columns
 groupCols g = of (groupRow g)
 
 -- the columns of a part, the first of which is k
-abbrev pub from : ℕ → List ℕ → Columns
-from k r j = getD r (j - k) 0
+abbrev pub partFrom : ℕ → List ℕ → Columns
+partFrom k r j = getD r (j - k) 0
 
--- the row that begins at column b of a table
+-- n columns that stay 0
+unfoldable pub blanks : ℕ → List ℕ
+blanks zero = []
+blanks (suc n) = 0 ∷ blanks n
+
+-- parts that are not there
+abbrev pub noPosition : PositionInteractivity
+noPosition = record { present = 0; «reserved_min_az» = 0; «min_az_offset» = 0; «reserved_max_az» = 0; «max_az_offset» = 0; «reserved_min_el» = 0; «min_el_offset» = 0; «reserved_max_el» = 0; «max_el_offset» = 0; «min_dist_offset» = 0; «max_dist_offset» = 0 }
+
+abbrev pub noGain : GainInteractivity
+noGain = record { present = 0; «reserved_min» = 0; «min_gain» = 0; «reserved_max» = 0; «max_gain» = 0 }
+
+abbrev pub noLanguage : ContentLanguage
+noLanguage = record { present = 0; first = 0; second = 0; third = 0 }
+
+-- the row that begins at column b of a table, and its parts
+abbrev pub positionOf : List ℕ → ℕ → PositionInteractivity
+positionOf t b = record {
+  present = getD t (b + 7) 0;
+  «reserved_min_az» = getD t (b + 8) 0;
+  «min_az_offset» = getD t (b + 9) 0;
+  «reserved_max_az» = getD t (b + 10) 0;
+  «max_az_offset» = getD t (b + 11) 0;
+  «reserved_min_el» = getD t (b + 12) 0;
+  «min_el_offset» = getD t (b + 13) 0;
+  «reserved_max_el» = getD t (b + 14) 0;
+  «max_el_offset» = getD t (b + 15) 0;
+  «min_dist_offset» = getD t (b + 16) 0;
+  «max_dist_offset» = getD t (b + 17) 0;
+}
+
+abbrev pub gainOf : List ℕ → ℕ → GainInteractivity
+gainOf t b = record {
+  present = getD t (b + 18) 0;
+  «reserved_min» = getD t (b + 19) 0;
+  «min_gain» = getD t (b + 20) 0;
+  «reserved_max» = getD t (b + 21) 0;
+  «max_gain» = getD t (b + 22) 0;
+}
+
+abbrev pub languageOf : List ℕ → ℕ → ContentLanguage
+languageOf t b = record {
+  present = getD t (b + 23) 0;
+  first = getD t (b + 24) 0;
+  second = getD t (b + 25) 0;
+  third = getD t (b + 26) 0;
+}
+
 abbrev pub groupOf : List ℕ → ℕ → SceneGroup
 groupOf t b = record {
   «reserved_id» = getD t b 0;
@@ -49,32 +93,9 @@ groupOf t b = record {
   «default_on_off» = getD t (b + 4) 0;
   «reserved_kind» = getD t (b + 5) 0;
   «content_kind» = getD t (b + 6) 0;
-  position = record {
-    present = getD t (b + 7) 0;
-    «reserved_min_az» = getD t (b + 8) 0;
-    «min_az_offset» = getD t (b + 9) 0;
-    «reserved_max_az» = getD t (b + 10) 0;
-    «max_az_offset» = getD t (b + 11) 0;
-    «reserved_min_el» = getD t (b + 12) 0;
-    «min_el_offset» = getD t (b + 13) 0;
-    «reserved_max_el» = getD t (b + 14) 0;
-    «max_el_offset» = getD t (b + 15) 0;
-    «min_dist_offset» = getD t (b + 16) 0;
-    «max_dist_offset» = getD t (b + 17) 0;
-  };
-  gain = record {
-    present = getD t (b + 18) 0;
-    «reserved_min» = getD t (b + 19) 0;
-    «min_gain» = getD t (b + 20) 0;
-    «reserved_max» = getD t (b + 21) 0;
-    «max_gain» = getD t (b + 22) 0;
-  };
-  «content_language» = record {
-    present = getD t (b + 23) 0;
-    first = getD t (b + 24) 0;
-    second = getD t (b + 25) 0;
-    third = getD t (b + 26) 0;
-  };
+  position = positionOf t b;
+  gain = gainOf t b;
+  «content_language» = languageOf t b;
 }
 
 -- parts that are there, from their bytes
@@ -118,6 +139,10 @@ gainCells = (reserved 2 19 ∷ num 6 20 ∷ []) ∷ (reserved 3 21 ∷ num 5 22 
 
 abbrev pub languageCells : List (List Cell)
 languageCells = (num 8 24 ∷ []) ∷ (num 8 25 ∷ []) ∷ (num 8 26 ∷ []) ∷ []
+
+-- the cells of the parts that are there
+abbrev pub partCells : Bool → Bool → Bool → List Cell
+partCells x y z = pick x (flatten positionCells) [] ++ (pick y (flatten gainCells) [] ++ (pick z (flatten languageCells) [] ++ []))
 
 abbrev pub parts : Layout
 parts = optional 7 position ▹ optional 18 gain ▹ optional 23 language ▹ end

@@ -1,5 +1,5 @@
 -- What the functions that write a group promise: the bytes of its parts, its flags, its actions.
-use Prim.Native.Nat.{ℕ, _*_}
+use Prim.Native.Nat.{ℕ}
 use mathlib.Core.List.{List, [], _∷_}
 use mathlib.Core.Bool.{Bool, true, _&&_}
 use lib.Dec.{eqb}
@@ -8,7 +8,7 @@ use Rattle.wire.specs.Act.{Act, pick}
 use Rattle.wire.specs.Layout.{Columns, at, flatActs}
 use Rattle.wire.specs.Spell.{fieldsOf, fitAll}
 use Rattle.scene_groups.specs.Layout.{group}
-use Rattle.scene_groups.specs.Rows.{groupCols, from, positionRow, gainRow, languageRow, idCells, flagCells, contentCells, positionCells, gainCells, languageCells}
+use Rattle.scene_groups.specs.Rows.{groupCols, partFrom, positionRow, gainRow, languageRow, idCells, flagCells, contentCells, positionCells, gainCells, languageCells}
 use Rattle.scene_groups.specs.declared.rows.PositionInteractivity.{PositionInteractivity}
 use Rattle.scene_groups.specs.declared.rows.GainInteractivity.{GainInteractivity}
 use Rattle.scene_groups.specs.declared.rows.ContentLanguage.{ContentLanguage}
@@ -18,22 +18,26 @@ abbrev pub headFields : SceneGroup → List (List Field)
 headFields g = fieldsOf (groupCols g) (idCells ∷ flagCells ∷ contentCells ∷ [])
 
 abbrev pub positionFields : PositionInteractivity → List (List Field)
-positionFields p = fieldsOf (from 7 (positionRow p)) positionCells
+positionFields p = fieldsOf (partFrom 7 (positionRow p)) positionCells
 
 abbrev pub gainFields : GainInteractivity → List (List Field)
-gainFields g = fieldsOf (from 18 (gainRow g)) gainCells
+gainFields g = fieldsOf (partFrom 18 (gainRow g)) gainCells
 
 abbrev pub languageFields : ContentLanguage → List (List Field)
-languageFields l = fieldsOf (from 23 (languageRow l)) languageCells
+languageFields l = fieldsOf (partFrom 23 (languageRow l)) languageCells
 
 abbrev pub groupFlags : SceneGroup → Bool
 groupFlags g = isFlag (g .«allow_on_off») && (isFlag (g .«default_on_off») && (isFlag (g .position .present) && (isFlag (g .gain .present) && isFlag (g .«content_language» .present))))
+
+-- the fields of a part fit, if its flag v is 1
+abbrev pub partFits : ℕ → List (List Field) → Bool
+partFits v fields = pick (eqb v 1) (fitAll fields) true
 
 -- a row without a fault
 abbrev pub plainFits : Columns → Bool
 plainFits g =
     fitAll (fieldsOf g (idCells ∷ flagCells ∷ contentCells ∷ []))
-    && (pick (eqb (g 7) 1) (fitAll (fieldsOf g positionCells)) true && (pick (eqb (g 18) 1) (fitAll (fieldsOf g gainCells)) true && pick (eqb (g 23) 1) (fitAll (fieldsOf g languageCells)) true))
+    && (partFits (g 7) (fieldsOf g positionCells) && (partFits (g 18) (fieldsOf g gainCells) && partFits (g 23) (fieldsOf g languageCells)))
 
 abbrev pub groupActs : SceneGroup → List Act
 groupActs g = flatActs group (groupCols g)

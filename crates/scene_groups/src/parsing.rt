@@ -1,8 +1,8 @@
 // Reading groups: one pass measures, one takes what was measured and tests nothing.
 ghost use mathlib.Core.Path.{_≡_};
 ghost use mathlib.Core.Bool.{true};
-ghost use mathlib.Core.List.{[], _∷_, _++_, flatMap};
-ghost use Prim.Native.Nat.{_+_, _*_, _<_, _≤_};
+ghost use mathlib.Core.List.{[], _++_, flatMap};
+ghost use Prim.Native.Nat.{_+_, _*_, _≤_};
 ghost use lib.ListN.{length};
 ghost use lib.Seq.{sets};
 ghost use lib.Dec.{eqb};
@@ -13,7 +13,7 @@ ghost use Rattle.wire.specs.Reads.{endOf, isDone, rowsOf, endsOut};
 ghost use Rattle.wire.specs.Layout.{flat};
 ghost use Rattle.wire.specs.Straight.{ones, PartTaken};
 ghost use Rattle.scene_groups.specs.Layout.{group, position, gain, language};
-ghost use Rattle.scene_groups.specs.Rows.{groupRow, positionRow, gainRow, languageRow, positionFrom, gainFrom, languageFrom};
+ghost use Rattle.scene_groups.specs.Rows.{groupRow, positionRow, gainRow, languageRow, positionFrom, gainFrom, languageFrom, blanks};
 use super::rows::ContentLanguage;
 use super::rows::GROUP_COLUMNS;
 use super::rows::GainInteractivity;
@@ -88,7 +88,7 @@ pub fn size(flag: u16, n: usize) -> usize
     if flag == 1 { n } else { 0 }
 }
 
-// The position that begins at a position and is there.
+// The position that begins here and is there.
 fn position_from(body: &[u8], at: usize) -> PositionInteractivity
     requires { ⌜ at + 5 ≤ length (now body) ⌝ }
     ensures { λ r. ⌜ r ≡ positionFrom (now (body .entry)) at ⌝ }
@@ -113,18 +113,19 @@ fn position_from(body: &[u8], at: usize) -> PositionInteractivity
     }
 }
 
+// The position that begins here, if its flag is 1.
 fn position_at(body: &[u8], at: usize, present: u16) -> PositionInteractivity
-    requires { ⌜ at + pick (eqb present 1) 5 0 ≤ length (now body) ⌝ }
-    ensures { λ r. ⌜ PartTaken 7 11 position present (0 ∷ 0 ∷ 0 ∷ 0 ∷ 0 ∷ 0 ∷ 0 ∷ 0 ∷ 0 ∷ 0 ∷ []) (now (body .entry)) at (positionRow r) ⌝ }
+    requires { ⌜ (at + pick (eqb present 1) 5 0 ≤ length (now body)) × (present ≤ 1) ⌝ }
+    ensures { λ r. ⌜ PartTaken 7 11 position present (blanks 10) (now (body .entry)) at (positionRow r) ⌝ }
 {
     if present == 1 {
         position_from(body, at)
     } else {
-        PositionInteractivity::none(present)
+        PositionInteractivity::absent()
     }
 }
 
-// The gain that begins at a position and is there.
+// The gain that begins here and is there.
 fn gain_from(body: &[u8], at: usize) -> GainInteractivity
     requires { ⌜ at + 2 ≤ length (now body) ⌝ }
     ensures { λ r. ⌜ r ≡ gainFrom (now (body .entry)) at ⌝ }
@@ -140,18 +141,19 @@ fn gain_from(body: &[u8], at: usize) -> GainInteractivity
     }
 }
 
+// The gain that begins here, if its flag is 1.
 fn gain_at(body: &[u8], at: usize, present: u16) -> GainInteractivity
-    requires { ⌜ at + pick (eqb present 1) 2 0 ≤ length (now body) ⌝ }
-    ensures { λ r. ⌜ PartTaken 18 5 gain present (0 ∷ 0 ∷ 0 ∷ 0 ∷ []) (now (body .entry)) at (gainRow r) ⌝ }
+    requires { ⌜ (at + pick (eqb present 1) 2 0 ≤ length (now body)) × (present ≤ 1) ⌝ }
+    ensures { λ r. ⌜ PartTaken 18 5 gain present (blanks 4) (now (body .entry)) at (gainRow r) ⌝ }
 {
     if present == 1 {
         gain_from(body, at)
     } else {
-        GainInteractivity::none(present)
+        GainInteractivity::absent()
     }
 }
 
-// The language that begins at a position and is there.
+// The language that begins here and is there.
 fn language_from(body: &[u8], at: usize) -> ContentLanguage
     requires { ⌜ at + 3 ≤ length (now body) ⌝ }
     ensures { λ r. ⌜ r ≡ languageFrom (now (body .entry)) at ⌝ }
@@ -164,14 +166,15 @@ fn language_from(body: &[u8], at: usize) -> ContentLanguage
     }
 }
 
+// The language that begins here, if its flag is 1.
 fn language_at(body: &[u8], at: usize, present: u16) -> ContentLanguage
-    requires { ⌜ at + pick (eqb present 1) 3 0 ≤ length (now body) ⌝ }
-    ensures { λ r. ⌜ PartTaken 23 4 language present (0 ∷ 0 ∷ 0 ∷ []) (now (body .entry)) at (languageRow r) ⌝ }
+    requires { ⌜ (at + pick (eqb present 1) 3 0 ≤ length (now body)) × (present ≤ 1) ⌝ }
+    ensures { λ r. ⌜ PartTaken 23 4 language present (blanks 3) (now (body .entry)) at (languageRow r) ⌝ }
 {
     if present == 1 {
         language_from(body, at)
     } else {
-        ContentLanguage::none(present)
+        ContentLanguage::absent()
     }
 }
 

@@ -1,16 +1,15 @@
 // Writing groups: their bytes as numbers, the check pass with a quick test of a plain row, and the fill pass.
 ghost use mathlib.Core.Path.{_≡_};
-ghost use mathlib.Core.Bool.{true};
 ghost use mathlib.Core.List.{map};
-ghost use Prim.Native.Nat.{_+_, _*_, _<_, _≤_, _^_};
+ghost use Prim.Native.Nat.{_*_, _<_, _≤_, _^_};
 ghost use lib.ListN.{length};
 ghost use Rattle.wire.specs.Act.{rows};
 ghost use Rattle.wire.specs.Layout.{fieldOf};
-ghost use Rattle.wire.specs.Pen.{Checked, Quick, Ready, Filled, clean};
+ghost use Rattle.wire.specs.Pen.{Checked, Quick, Ready, Filled};
 ghost use Rattle.wire.specs.Spell.{Spells, Spelt, PlainRows};
 ghost use Rattle.wire.specs.declared.pen.Pen.the-variants.{At};
 ghost use Rattle.scene_groups.specs.Rows.{groupCols, flagCells};
-ghost use Rattle.scene_groups.specs.Write.{headFields, positionFields, gainFields, languageFields, groupFlags, plainFits, groupActs, rowActs};
+ghost use Rattle.scene_groups.specs.Write.{headFields, positionFields, gainFields, languageFields, groupFlags, partFits, plainFits, groupActs, rowActs};
 use super::parsing::size;
 use super::rows::ContentLanguage;
 use super::rows::GROUP_COLUMNS;
@@ -25,7 +24,6 @@ use wire::spell::Joined;
 use wire::spell::check_all;
 use wire::spell::fill_all;
 use wire::spell::fits_all;
-use wire::spell::fits_part;
 use wire::spell::one;
 use wire::spell::two;
 
@@ -106,16 +104,44 @@ fn check_group(n: usize, g: SceneGroup) -> Pen
     )
 }
 
+// Whether the fields of a part fit, if it is there: its columns are loaded behind its flag.
+fn position_fits(p: PositionInteractivity) -> bool
+    ensures { λ r. ⌜ r ≡ partFits (p .present) (positionFields p) ⌝ }
+{
+    if p.present == 1 {
+        fits_all(&position_bytes(p))
+    } else {
+        true
+    }
+}
+
+fn gain_fits(g: GainInteractivity) -> bool
+    ensures { λ r. ⌜ r ≡ partFits (g .present) (gainFields g) ⌝ }
+{
+    if g.present == 1 {
+        fits_all(&gain_bytes(g))
+    } else {
+        true
+    }
+}
+
+fn language_fits(l: ContentLanguage) -> bool
+    ensures { λ r. ⌜ r ≡ partFits (l .present) (languageFields l) ⌝ }
+{
+    if l.present == 1 {
+        fits_all(&language_bytes(l))
+    } else {
+        true
+    }
+}
+
 // Whether nothing is wrong with it: a flag is a field of one bit, so the bytes tell.
 fn plain(g: SceneGroup) -> bool
     ensures { λ r. ⌜ r ≡ plainFits (groupCols g) ⌝ }
 {
-    let position = fits_part(g.position.present == 1, &position_bytes(g.position));
-    let gain = fits_part(g.gain.present == 1, &gain_bytes(g.gain));
-    let language = fits_part(
-        g.content_language.present == 1,
-        &language_bytes(g.content_language),
-    );
+    let position = position_fits(g.position);
+    let gain = gain_fits(g.gain);
+    let language = language_fits(g.content_language);
     fits_all(&head_bytes(g)) & (position & (gain & language))
 }
 

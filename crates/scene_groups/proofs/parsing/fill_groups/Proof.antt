@@ -1,4 +1,4 @@
--- `parsing::fill_groups` meets its contract: what is still to store from here is what was to store from the start.
+-- `fill_groups` stores each row: what is still to store from here is what was to store from the start.
 use mathlib.Core.Path.{refl}
 use Rattle.wire.proofs.Loops.{Filling, fill-next, fill-end, first-done}
 use Rattle.wire.specs.Layout.{flat}
@@ -41,7 +41,9 @@ loop-less c = search needs
 
 loop-again : tie.Need-loop-again Inv-loop μ-loop
 loop-again c =
-    fill-next (flat 27 group) (λ r. r) 27 _ _ _ _ 0 _ _ _ _ (c .before .before .before .before .before .before .before .before .loop .inv) (c .before .before .before .before .before .before .before .loop-test .taken) (c .before .before .before .before .before .before .group-at .ensures) refl refl (c .before .before .before .before .before .columns .ensures) (c .before .before .put-row .ensures)
+    let l = c .before .before .before .before .before .before in
+    fill-next (flat 27 group) (λ r. r) 27 _ _ _ _ 0 _ _ _ _ (l .before .before .loop .inv) (l .before .loop-test .taken) (l .group-at .ensures)
+    refl refl (c .before .before .before .before .before .columns .ensures) (c .before .before .put-row .ensures)
 
 same-length : tie.Need-same-length Inv-loop μ-loop
 same-length c = search needs

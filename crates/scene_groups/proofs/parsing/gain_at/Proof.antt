@@ -1,22 +1,24 @@
--- `gain_at` meets its contract: the part is there, or is not.
-use Rattle.wire.proofs.Straight.{part-absent, size-there}
+-- `gain_at` takes the gain that is there; of one that is not, the columns stay 0.
+use Rattle.wire.proofs.Straight.{size-there}
 use Rattle.scene_groups.specs.Layout.{gain}
-use Rattle.scene_groups.proofs.Groups.{gain-there}
+use Rattle.scene_groups.proofs.Groups.{gain-there, part-none}
+use Rattle.scene_groups.specs.Rows.{blanks}
 use borrow.Author.Needs.{needs}
 use Rattle.scene_groups.proofs.parsing.gain_at.Statement.{statement}
 use Rattle.scene_groups.proofs.parsing.gain_at.Tie as tie
 
 gain-from-requires : tie.Need-gain-from-requires
-gain-from-requires c κs = size-there 2 _ _ _ (c .if1 .taken) (c .before .before .pre)
+gain-from-requires c κs = size-there 2 _ _ _ (c .if1 .taken) (c .before .before .pre .0)
 
-none-requires : tie.Need-none-requires
-none-requires c κs = search needs
+absent-requires : tie.Need-absent-requires
+absent-requires c κs = search needs
 
 returns : tie.Need-returns
 returns c = gain-there _ _ (c .before .if1 .taken) (c .gain-from .ensures)
 
 returns-2 : tie.Need-returns-2
-returns-2 c = record { of = λ f e. rw (c .none .ensures) (part-absent 18 4 gain f _ _ (c .before .if1 .left) e) }
+unfolding blanks
+returns-2 c = rw (c .absent .ensures) (part-none 18 4 gain _ _ (c .before .before .before .pre .1) (c .before .if1 .left))
 
 pub gain-at-spec : {M : Type 1} → statement M
-gain-at-spec = tie.close (tie.spec gain-from-requires none-requires returns returns-2)
+gain-at-spec = tie.close (tie.spec gain-from-requires absent-requires returns returns-2)

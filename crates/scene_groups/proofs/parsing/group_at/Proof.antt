@@ -1,44 +1,60 @@
--- `group_at` meets its contract: the flags say which parts are there, and each part is taken at its place.
+-- `group_at` takes the fields of the three bytes, and each part that their flags say at its place.
 use Prim.Native.Nat.{ℕ, _+_, _≤_}
-use mathlib.Core.List.{[], _∷_, _++_}
-use mathlib.Core.Path.{_≡_, refl, sym, ap, _∙_}
+use mathlib.Core.List.{List, [], _∷_}
+use mathlib.Core.Path.{_≡_, refl, ap, _∙_}
 use native.Mathlib.Omega.{arith}
 use lib.ListN.{length, getD}
-use Rattle.wire.specs.Bits.{part, total}
-use Rattle.wire.specs.Prog.{done}
-use Rattle.wire.specs.Layout.{blank}
-use Rattle.wire.specs.Straight.{spans}
+use Rattle.wire.specs.Bits.{part}
 use Rattle.wire.proofs.Straight.{Whole, flat-done}
 use Rattle.scene_groups.specs.Layout.{group}
-use Rattle.scene_groups.specs.Rows.{positionRow, gainRow, languageRow}
-use Rattle.scene_groups.proofs.Groups.{fives, twos, threes, group-long, group-taken, headOf}
+use Rattle.scene_groups.proofs.Groups.{fives, twos, threes, headOf, group-room, group-done, flag-below}
 use borrow.Author.Needs.{needs}
 use Rattle.scene_groups.proofs.parsing.group_at.Statement.{statement}
 use Rattle.scene_groups.proofs.parsing.group_at.Tie as tie
 
-abbrev start : tie.After-wide3 → tie.Start
-start c = c .before .before .before .before .before .before .before
-
-abbrev flags : tie.After-wide3 → ℕ
-flags c = c .before .before .wide2 .result
-
 whole : (c : tie.Start) → Whole 27 group (c .args .body .now) (c .args .at)
 whole c = flat-done 27 group _ _ (c .pre .0) (c .pre .1)
 
-room : (c : tie.After-wide3) → start c .args .at + (3 + (fives (part 2 1 (flags c)) + (twos (part 1 1 (flags c)) + threes (part 0 1 (flags c))))) ≤ length (start c .args .body .now)
-room c = rw (group-long _ _ (c .before .before .wide2 .ensures)) at (whole (start c) .there)
+-- the three bytes are there
+head : (c : tie.Start) → c .args .at + 3 ≤ length (c .args .body .now)
+head c = omega (arith, group-room (whole c) refl refl refl refl)
 
-five : (c : tie.After-size) → c .size .result ≡ fives (part 2 1 (flags (c .before .before .before .before)))
-five c = c .size .ensures ∙ ap fives (c .before .before .before .part .ensures)
+-- the entry, from where the flags are known, and this place from the positions of the parts on
+abbrev start : tie.After-part3 → tie.Start
+start c = c .before .before .before .before .before .before .before .before .before .before
 
-two : (c : tie.After-size2) → c .size2 .result ≡ twos (part 1 1 (flags (c .before .before .before .before .before)))
-two c = c .size2 .ensures ∙ ap twos (c .before .before .before .part2 .ensures)
+abbrev flags : tie.After-size2 → tie.After-part3
+flags c = c .before .before
 
-three : (c : tie.After-size3) → c .size3 .result ≡ threes (part 0 1 (flags (c .before .before .before .before .before .before .before .before .before .before .before .before .before .before .before .before)))
-three c = c .size3 .ensures ∙ ap threes (c .before .before .before .before .before .before .before .before .before .before .before .before .before .part3 .ensures)
+abbrev placed : tie.After-part10 → tie.After-size2
+placed c = c .before .before .before .before .before .before .before
+
+room : (c : tie.After-part3) → start c .args .at + (3 + (fives (c .before .before .part .result) + (twos (c .before .part2 .result) + threes (c .part3 .result)))) ≤ length (start c .args .body .now)
+room c = group-room (whole (start c)) (c .before .before .before .before .before .wide2 .ensures) (c .before .before .part .ensures) (c .before .part2 .ensures) (c .part3 .ensures)
+
+-- the seven fields of the three bytes
+abbrev fields : tie.After-part10 → List ℕ
+fields c =
+    c .before .before .before .before .before .before .part4 .result ∷ c .before .before .before .before .before .part5 .result
+    ∷ c .before .before .before .before .part6 .result ∷ c .before .before .before .part7 .result ∷ c .before .before .part8 .result
+    ∷ c .before .part9 .result ∷ c .part10 .result ∷ []
+
+abbrev body : tie.After-part10 → List ℕ
+body c = start (flags (placed c)) .args .body .now
+
+abbrev begins : tie.After-part10 → ℕ
+begins c = start (flags (placed c)) .args .at
+
+fields-so : (c : tie.After-part10) → fields c ≡ headOf (getD (body c) (begins c) 0) (flags (placed c) .before .before .before .before .before .wide2 .result) (getD (body c) (begins c + 2) 0)
+fields-so c =
+    let x = flags (placed c) .before .before .before .before .before .before .before .wide .ensures in
+    let z = flags (placed c) .before .before .before .wide3 .ensures in
+    λ i. (c .before .before .before .before .before .before .part4 .ensures ∙ ap (part 7 1) x) i ∷ (c .before .before .before .before .before .part5 .ensures ∙ ap (part 0 7) x) i
+    ∷ c .before .before .before .before .part6 .ensures i ∷ c .before .before .before .part7 .ensures i ∷ c .before .before .part8 .ensures i
+    ∷ (c .before .part9 .ensures ∙ ap (part 4 4) z) i ∷ (c .part10 .ensures ∙ ap (part 0 4) z) i ∷ []
 
 shared-slice-read-wide : tie.Need-shared-slice-read-wide
-shared-slice-read-wide c = let w = rw (group-long _ _ refl) at (whole (c .before .before) .there) in omega (arith, w)
+shared-slice-read-wide c = omega (arith, head (c .before .before))
 
 wide-requires : tie.Need-wide-requires
 wide-requires c κs = search needs
@@ -47,7 +63,7 @@ add-wide : tie.Need-add-wide
 add-wide c = search needs
 
 shared-slice-read-wide-2 : tie.Need-shared-slice-read-wide-2
-shared-slice-read-wide-2 c = let w = rw (group-long _ _ refl) at (whole (c .before .before .before .before) .there) in omega (arith, w)
+shared-slice-read-wide-2 c = omega (arith, head (c .before .before .before .before))
 
 wide-requires-2 : tie.Need-wide-requires-2
 wide-requires-2 c κs = search needs
@@ -56,7 +72,7 @@ add-wide-2 : tie.Need-add-wide-2
 add-wide-2 c = search needs
 
 shared-slice-read-wide-3 : tie.Need-shared-slice-read-wide-3
-shared-slice-read-wide-3 c = let w = rw (group-long _ _ refl) at (whole (c .before .before .before .before .before .before) .there) in omega (arith, w)
+shared-slice-read-wide-3 c = omega (arith, head (c .before .before .before .before .before .before))
 
 wide-requires-3 : tie.Need-wide-requires-3
 wide-requires-3 c κs = search needs
@@ -77,13 +93,13 @@ size-requires : tie.Need-size-requires
 size-requires c κs = search needs
 
 add-at-gain-2 : tie.Need-add-at-gain-2
-add-at-gain-2 c = omega (arith, five c, room (c .before .before .before .before))
+add-at-gain-2 c = omega (arith, c .size .ensures, room (c .before))
 
 size-requires-2 : tie.Need-size-requires-2
 size-requires-2 c κs = search needs
 
 add-at-language : tie.Need-add-at-language
-add-at-language c = omega (arith, two c, five (c .before), room (c .before .before .before .before .before))
+add-at-language c = omega (arith, c .size2 .ensures, c .before .size .ensures, room (flags c))
 
 part-requires-4 : tie.Need-part-requires-4
 part-requires-4 c κs = search needs
@@ -110,22 +126,33 @@ add-position-at : tie.Need-add-position-at
 add-position-at c = search needs
 
 position-at-requires : tie.Need-position-at-requires
-position-at-requires c κs = omega (arith, ap fives (c .before .before .before .before .before .before .before .before .before .before .before .part .ensures), room (c .before .before .before .before .before .before .before .before .before .before .before .before))
+position-at-requires c κs = (omega (arith, room (flags (placed c))), flag-below 2 _ (flags (placed c) .before .before .part .ensures))
 
 gain-at-requires : tie.Need-gain-at-requires
-gain-at-requires c κs = omega (arith, ap twos (c .before .before .before .before .before .before .before .before .before .before .before .part2 .ensures), five (c .before .before .before .before .before .before .before .before .before), room (c .before .before .before .before .before .before .before .before .before .before .before .before .before))
+gain-at-requires c κs =
+    let p = placed (c .before) in
+    (omega (arith, p .before .size .ensures, room (flags p)), flag-below 1 _ (flags p .before .part2 .ensures))
 
 language-at-requires : tie.Need-language-at-requires
-language-at-requires c κs = omega (arith, ap threes (c .before .before .before .before .before .before .before .before .before .before .before .part3 .ensures), two (c .before .before .before .before .before .before .before .before .before), five (c .before .before .before .before .before .before .before .before .before .before), room (c .before .before .before .before .before .before .before .before .before .before .before .before .before .before))
+language-at-requires c κs =
+    let p = placed (c .before .before) in
+    (omega (arith, p .size2 .ensures, p .before .size .ensures, room (flags p)), flag-below 0 _ (flags p .part3 .ensures))
 
 size-requires-3 : tie.Need-size-requires-3
 size-requires-3 c κs = search needs
 
 add-t17 : tie.Need-add-t17
-add-t17 c = omega (arith, three c, two (c .before .before .before .before .before .before .before .before .before .before .before), five (c .before .before .before .before .before .before .before .before .before .before .before .before), room (c .before .before .before .before .before .before .before .before .before .before .before .before .before .before .before .before), start (c .before .before .before .before .before .before .before .before .before .before .before .before .before .before .before .before) .good)
+add-t17 c =
+    let p = placed (c .before .before .before .before) in
+    omega (arith, c .size3 .ensures, p .size2 .ensures, p .before .size .ensures, room (flags p), start (flags p) .good)
 
 returns : tie.Need-returns
-returns c = let h : (c .before .before .before .before .before .before .before .before .before .before .part4 .result ∷ c .before .before .before .before .before .before .before .before .before .part5 .result ∷ c .before .before .before .before .before .before .before .before .part6 .result ∷ c .before .before .before .before .before .before .before .part7 .result ∷ c .before .before .before .before .before .before .part8 .result ∷ c .before .before .before .before .before .part9 .result ∷ c .before .before .before .before .part10 .result ∷ []) ≡ headOf (getD (start (c .before .before .before .before .before .before .before .before .before .before .before .before .before .before .before .before) .args .body .now) (start (c .before .before .before .before .before .before .before .before .before .before .before .before .before .before .before .before) .args .at) 0) (flags (c .before .before .before .before .before .before .before .before .before .before .before .before .before .before .before .before)) (getD (start (c .before .before .before .before .before .before .before .before .before .before .before .before .before .before .before .before) .args .body .now) (start (c .before .before .before .before .before .before .before .before .before .before .before .before .before .before .before .before) .args .at + 2) 0) = λ i. (c .before .before .before .before .before .before .before .before .before .before .part4 .ensures ∙ ap (part 7 1) (c .before .before .before .before .before .before .before .before .before .before .before .before .before .before .before .before .before .before .before .before .wide .ensures)) i ∷ (c .before .before .before .before .before .before .before .before .before .part5 .ensures ∙ ap (part 0 7) (c .before .before .before .before .before .before .before .before .before .before .before .before .before .before .before .before .before .before .before .before .wide .ensures)) i ∷ c .before .before .before .before .before .before .before .before .part6 .ensures i ∷ c .before .before .before .before .before .before .before .part7 .ensures i ∷ c .before .before .before .before .before .before .part8 .ensures i ∷ (c .before .before .before .before .before .part9 .ensures ∙ ap (part 4 4) (c .before .before .before .before .before .before .before .before .before .before .before .before .before .before .before .before .wide3 .ensures)) i ∷ (c .before .before .before .before .part10 .ensures ∙ ap (part 0 4) (c .before .before .before .before .before .before .before .before .before .before .before .before .before .before .before .before .wide3 .ensures)) i ∷ [] in let a = ap (λ (k : ℕ). start (c .before .before .before .before .before .before .before .before .before .before .before .before .before .before .before .before) .args .at + 3 + k) (five (c .before .before .before .before .before .before .before .before .before .before .before .before)) in let z = ap (λ (k : ℕ). start (c .before .before .before .before .before .before .before .before .before .before .before .before .before .before .before .before) .args .at + 3 + c .before .before .before .before .before .before .before .before .before .before .before .before .size .result + k) (two (c .before .before .before .before .before .before .before .before .before .before .before)) in let g = (λ i. h i ++ (positionRow (c .before .before .before .position-at .result) ++ (gainRow (c .before .before .gain-at .result) ++ languageRow (c .before .language-at .result)))) ∙ group-taken (start (c .before .before .before .before .before .before .before .before .before .before .before .before .before .before .before .before) .args .body .now) (start (c .before .before .before .before .before .before .before .before .before .before .before .before .before .before .before .before) .args .at) (c .before .before .before .before .before .before .before .before .before .before .before .before .before .before .before .before .before .before .wide2 .ensures) a z (rw (c .before .before .before .before .before .before .before .before .before .before .before .before .before .before .before .part .ensures) at (c .before .before .before .position-at .ensures)) (rw (c .before .before .before .before .before .before .before .before .before .before .before .before .before .before .part2 .ensures) at (c .before .before .gain-at .ensures)) (rw (c .before .before .before .before .before .before .before .before .before .before .before .before .before .part3 .ensures) at (c .before .language-at .ensures)) in let n : start (c .before .before .before .before .before .before .before .before .before .before .before .before .before .before .before .before) .args .at + 3 + c .before .before .before .before .before .before .before .before .before .before .before .before .size .result + c .before .before .before .before .before .before .before .before .before .before .before .size2 .result + c .size3 .result ≡ start (c .before .before .before .before .before .before .before .before .before .before .before .before .before .before .before .before) .args .at + total (spans group blank (start (c .before .before .before .before .before .before .before .before .before .before .before .before .before .before .before .before) .args .body .now) (start (c .before .before .before .before .before .before .before .before .before .before .before .before .before .before .before .before) .args .at)) = omega (arith, three c, two (c .before .before .before .before .before .before .before .before .before .before .before), five (c .before .before .before .before .before .before .before .before .before .before .before .before), group-long (start (c .before .before .before .before .before .before .before .before .before .before .before .before .before .before .before .before) .args .body .now) (start (c .before .before .before .before .before .before .before .before .before .before .before .before .before .before .before .before) .args .at) (c .before .before .before .before .before .before .before .before .before .before .before .before .before .before .before .before .before .before .wide2 .ensures)) in (λ i. done (g i) (n i)) ∙ sym (whole (start (c .before .before .before .before .before .before .before .before .before .before .before .before .before .before .before .before)) .is)
+returns c =
+    let q = c .before .before .before .before in
+    let f = flags (placed q) in
+    group-done (whole (start f)) (f .before .before .before .before .before .wide2 .ensures) (f .before .before .part .ensures) (f .before .part2 .ensures) (f .part3 .ensures)
+    (placed q .before .size .ensures) (placed q .size2 .ensures) (c .size3 .ensures)
+    (fields-so q) (c .before .before .before .position-at .ensures) (c .before .before .gain-at .ensures) (c .before .language-at .ensures)
 
 pub group-at-spec : {M : Type 1} → statement M
 group-at-spec =

@@ -1,31 +1,31 @@
--- `parsing::group_end` meets its contract.
-use Rattle.scene_groups.proofs.Groups.{with-language, no-language}
-use mathlib.Core.List.{[], _++_}
+-- `group_end` is where the reads of a group end: three bytes, the single bytes of its parts, and the language as one read.
 use mathlib.Core.Path.{_≡_, refl, sym, ap, _∙_}
 use lib.ListN.{getD}
 use Prim.Native.Nat.{_+_}
 use native.Mathlib.Omega.{arith}
-use borrow.Author.Tests.{eq-eqb, ne-eqb}
 use Rattle.wire.specs.Reads.{endsOut}
-use Rattle.wire.specs.Straight.{ends, ones}
+use Rattle.wire.specs.Straight.{ones}
 use Rattle.wire.proofs.Straight.{ends-cut}
-use Rattle.scene_groups.proofs.Groups.{group-ends, Three, three, Singly, singly, singly-cut}
+use Rattle.scene_groups.proofs.Groups.{group-ends, Three, three, Singly, singly, singly-cut, with-language, no-language}
 use borrow.Author.Needs.{needs}
 use Rattle.scene_groups.proofs.parsing.group_end.Statement.{statement}
 use Rattle.scene_groups.proofs.parsing.group_end.Tie as tie
 
+abbrev start : tie.After-known-told → tie.Start
+start c = c .before .before .before .before .before
+
 -- behind the three bytes
-after-1 : (c : tie.After-known-told) → Three (c .before .before .before .before .before .args .body .now) (c .before .before .before .before .before .args .at) (c .before .a .given .0 .0)
-after-1 c = three _ _ (c .before .before .before .before .before .pre) (c .before .before .before .head .ensures) (ap endsOut (c .before .a .given .1))
+after-1 : (c : tie.After-known-told) → Three (start c .args .body .now) (start c .args .at) (c .before .a .given .0 .0)
+after-1 c = three _ _ (start c .pre) (c .before .before .before .head .ensures) (ap endsOut (c .before .a .given .1))
 
 abbrev first : tie.After-known-told2 → tie.After-known-told
 first c = c .before .before .before .before .before .before .before
 
-flags-of : (c : tie.After-known-told2) → c .before .before .before .before .before .wide .result ≡ getD (first c .before .before .before .before .before .args .body .now) (first c .before .before .before .before .before .args .at + 1) 0
+flags-of : (c : tie.After-known-told2) → c .before .before .before .before .before .wide .result ≡ getD (start (first c) .args .body .now) (start (first c) .args .at + 1) 0
 flags-of c = c .before .before .before .before .before .wide .ensures
 
 -- behind the single bytes
-after-2 : (c : tie.After-known-told2) → Singly (first c .before .before .before .before .before .args .body .now) (first c .before .before .before .before .before .args .at) (c .before .b .given .0 .0)
+after-2 : (c : tie.After-known-told2) → Singly (start (first c) .args .body .now) (start (first c) .args .at) (c .before .b .given .0 .0)
 after-2 c = singly _ (after-1 (first c)) (flags-of c) (c .before .before .before .before .singles .ensures .0) (c .before .before .before .head2 .ensures) (ap endsOut (c .before .b .given .1))
 
 head-requires : tie.Need-head-requires
@@ -62,7 +62,9 @@ enum-told-2 : tie.Need-enum-told-2
 enum-told-2 c = search needs
 
 returns-2 : tie.Need-returns-2
-returns-2 c = singly-cut _ (after-1 (c .before .before .before .before .before .before)) (c .before .before .before .before .wide .ensures) (c .before .before .before .singles .ensures .0) (c .before .before .head2 .ensures) (ap endsOut (c .enum-told2 .given .1))
+returns-2 c =
+    singly-cut _ (after-1 (c .before .before .before .before .before .before)) (c .before .before .before .before .wide .ensures) (c .before .before .before .singles .ensures .0)
+    (c .before .before .head2 .ensures) (ap endsOut (c .enum-told2 .given .1))
 
 part-requires : tie.Need-part-requires
 part-requires c κs = search needs

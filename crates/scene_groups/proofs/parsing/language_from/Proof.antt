@@ -1,4 +1,6 @@
--- `parsing::language_from` meets its contract.
+-- `language_from` takes the three bytes of a language.
+use mathlib.Core.Path.{ap, _∙_}
+use Rattle.wire.specs.Bits.{part}
 use borrow.Author.Needs.{needs}
 use Rattle.scene_groups.proofs.parsing.language_from.Statement.{statement}
 use Rattle.scene_groups.proofs.parsing.language_from.Tie as tie
@@ -37,7 +39,13 @@ part-requires-3 : tie.Need-part-requires-3
 part-requires-3 c κs = search needs
 
 returns : tie.Need-returns
-returns c = cc
+returns c =
+    λ i. record {
+      present = 1;
+      first = (c .before .before .before .before .before .before .part .ensures ∙ ap (part 0 8) (c .before .before .before .before .before .before .before .wide .ensures)) i;
+      second = (c .before .before .before .part2 .ensures ∙ ap (part 0 8) (c .before .before .before .before .wide2 .ensures)) i;
+      third = (c .part3 .ensures ∙ ap (part 0 8) (c .before .wide3 .ensures)) i;
+    }
 
 pub language-from-spec : {M : Type 1} → statement M
 language-from-spec =

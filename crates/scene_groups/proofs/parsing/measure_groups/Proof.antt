@@ -1,4 +1,4 @@
--- `parsing::measure_groups` meets its contract: the end from here is the end from the start.
+-- `measure_groups` is where the rows end: the end from here is the end from the start.
 use mathlib.Core.Path.{refl, ap, sym, _∙_}
 use Rattle.wire.specs.Reads.{endsOut}
 use Rattle.wire.proofs.Walk.{as-done, as-short}

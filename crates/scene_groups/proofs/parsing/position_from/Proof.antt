@@ -1,7 +1,16 @@
--- `parsing::position_from` meets its contract.
+-- `position_from` takes the fields of the five bytes of a position.
+use mathlib.Core.Path.{ap, _∙_}
+use Rattle.wire.specs.Bits.{part}
 use borrow.Author.Needs.{needs}
 use Rattle.scene_groups.proofs.parsing.position_from.Statement.{statement}
 use Rattle.scene_groups.proofs.parsing.position_from.Tie as tie
+
+-- behind the first five fields, and behind the five reads
+abbrev half : tie.After-part10 → tie.After-part5
+half c = c .before .before .before .before .before
+
+abbrev reads : tie.After-part10 → tie.After-wide5
+reads c = half c .before .before .before .before .before
 
 shared-slice-read-wide : tie.Need-shared-slice-read-wide
 shared-slice-read-wide c = search needs
@@ -76,7 +85,20 @@ part-requires-10 : tie.Need-part-requires-10
 part-requires-10 c κs = search needs
 
 returns : tie.Need-returns
-returns c = rw (c .part10 .ensures, c .before .part9 .ensures, c .before .before .part8 .ensures, c .before .before .before .part7 .ensures, c .before .before .before .before .part6 .ensures, c .before .before .before .before .before .part5 .ensures, c .before .before .before .before .before .before .part4 .ensures, c .before .before .before .before .before .before .before .part3 .ensures, c .before .before .before .before .before .before .before .before .part2 .ensures, c .before .before .before .before .before .before .before .before .before .part .ensures, c .before .before .before .before .before .before .before .before .before .before .wide5 .ensures, c .before .before .before .before .before .before .before .before .before .before .before .before .wide4 .ensures, c .before .before .before .before .before .before .before .before .before .before .before .before .before .before .wide3 .ensures, c .before .before .before .before .before .before .before .before .before .before .before .before .before .before .before .before .wide2 .ensures, c .before .before .before .before .before .before .before .before .before .before .before .before .before .before .before .before .before .before .wide .ensures)
+returns c =
+    λ i. record {
+      present = 1;
+      «reserved_min_az» = (half c .before .before .before .before .part .ensures ∙ ap (part 7 1) (reads c .before .before .before .before .before .before .before .before .wide .ensures)) i;
+      «min_az_offset» = (half c .before .before .before .part2 .ensures ∙ ap (part 0 7) (reads c .before .before .before .before .before .before .before .before .wide .ensures)) i;
+      «reserved_max_az» = (half c .before .before .part3 .ensures ∙ ap (part 7 1) (reads c .before .before .before .before .before .before .wide2 .ensures)) i;
+      «max_az_offset» = (half c .before .part4 .ensures ∙ ap (part 0 7) (reads c .before .before .before .before .before .before .wide2 .ensures)) i;
+      «reserved_min_el» = (half c .part5 .ensures ∙ ap (part 5 3) (reads c .before .before .before .before .wide3 .ensures)) i;
+      «min_el_offset» = (c .before .before .before .before .part6 .ensures ∙ ap (part 0 5) (reads c .before .before .before .before .wide3 .ensures)) i;
+      «reserved_max_el» = (c .before .before .before .part7 .ensures ∙ ap (part 5 3) (reads c .before .before .wide4 .ensures)) i;
+      «max_el_offset» = (c .before .before .part8 .ensures ∙ ap (part 0 5) (reads c .before .before .wide4 .ensures)) i;
+      «min_dist_offset» = (c .before .part9 .ensures ∙ ap (part 4 4) (reads c .wide5 .ensures)) i;
+      «max_dist_offset» = (c .part10 .ensures ∙ ap (part 0 4) (reads c .wide5 .ensures)) i;
+    }
 
 pub position-from-spec : {M : Type 1} → statement M
 position-from-spec =

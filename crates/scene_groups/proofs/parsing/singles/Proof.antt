@@ -1,5 +1,5 @@
--- `parsing::singles` meets its contract.
-use mathlib.Core.Path.{refl, _∙_}
+-- `singles` counts the reads of one byte that the flags steer.
+use mathlib.Core.Path.{refl}
 use Rattle.wire.proofs.Fields.{part-below}
 use Rattle.scene_groups.proofs.Groups.{singles-so}
 use borrow.Author.Needs.{needs}

@@ -1,4 +1,4 @@
--- `parsing::size` meets its contract.
+-- `size` is the bytes of a part that is there, and else 0.
 use borrow.Author.Tests.{eq-eqb, ne-eqb}
 use Rattle.scene_groups.proofs.parsing.size.Statement.{statement}
 use Rattle.scene_groups.proofs.parsing.size.Tie as tie

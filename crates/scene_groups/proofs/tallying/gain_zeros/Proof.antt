@@ -1,6 +1,5 @@
--- `tally::gain_zeros` meets its contract.
+-- `gain_zeros` is the tally of a gain that is there, and at most 5.
 use Prim.Native.Nat.{_+_}
-use mathlib.Core.Path.{refl}
 use native.Mathlib.Omega.{arith}
 use borrow.Author.Tests.{eq-eqb, ne-eqb}
 use borrow.Author.Needs.{needs}

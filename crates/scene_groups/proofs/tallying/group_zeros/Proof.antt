@@ -1,6 +1,6 @@
--- `tally::group_zeros` meets its contract.
+-- `group_zeros` is the tally of a group, and at most 21.
 use Prim.Native.Nat.{_+_}
-use mathlib.Core.Path.{refl, sym, _∙_}
+use mathlib.Core.Path.{sym, _∙_}
 use native.Mathlib.Omega.{arith}
 use Rattle.scene_groups.specs.Rows.{groupCols}
 use Rattle.scene_groups.proofs.Tallied.{group-tally}
@@ -36,7 +36,13 @@ add-result-2 : tie.Need-add-result-2
 add-result-2 c = search needs
 
 returns : tie.Need-returns
-returns c = ((λ i. c .before .before .before .idle-bits2 .ensures i + c .before .before .before .before .idle-bits .ensures i + c .before .before .idle-bits3 .ensures i + c .before .position-zeros .ensures .0 i + c .gain-zeros .ensures .0 i) ∙ sym (group-tally (groupCols (c .before .before .before .before .before .args .g))), omega arith)
+returns c =
+    let p = c .before .before .before in (
+      (λ i. p .idle-bits2 .ensures i + p .before .idle-bits .ensures i + c .before .before .idle-bits3 .ensures i
+          + c .before .position-zeros .ensures .0 i + c .gain-zeros .ensures .0 i)
+          ∙ sym (group-tally (groupCols (p .before .before .args .g))),
+      omega arith,
+    )
 
 pub group-zeros-spec : {M : Type 1} → statement M
 group-zeros-spec =

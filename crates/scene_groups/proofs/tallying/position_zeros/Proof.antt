@@ -1,6 +1,5 @@
--- `tally::position_zeros` meets its contract.
+-- `position_zeros` is the tally of a position that is there, and at most 8.
 use Prim.Native.Nat.{_+_}
-use mathlib.Core.Path.{refl}
 use native.Mathlib.Omega.{arith}
 use borrow.Author.Tests.{eq-eqb, ne-eqb}
 use borrow.Author.Needs.{needs}
@@ -29,7 +28,9 @@ add-result : tie.Need-add-result
 add-result c = search needs
 
 returns : tie.Need-returns
-returns c = (rw (eq-eqb _ 1 (c .before .before .before .before .if1 .taken)) (λ i. (c .before .before .before .idle-bits .ensures i + c .before .before .idle-bits2 .ensures i) + (c .before .idle-bits3 .ensures i + c .idle-bits4 .ensures i)), omega arith)
+returns c =
+    let p = c .before .before .before in
+    (rw (eq-eqb _ 1 (p .before .if1 .taken)) (λ i. (p .idle-bits .ensures i + c .before .before .idle-bits2 .ensures i) + (c .before .idle-bits3 .ensures i + c .idle-bits4 .ensures i)), omega arith)
 
 returns-2 : tie.Need-returns-2
 returns-2 c = (rw (ne-eqb _ 1 (c .if1 .left)), omega arith)

@@ -1,6 +1,5 @@
--- `tally_groups` meets its contract: what is summed up, and what is left, come to the whole.
+-- `tally_groups` sums the tallies of the rows: what is summed up, and what is left, come to the whole.
 use mathlib.Core.List.{[], _∷_}
-use mathlib.Core.Path.{refl}
 use native.Mathlib.Omega.{arith}
 use Rattle.wire.specs.Layout.{flat, of, tally}
 use Rattle.wire.proofs.Loops.{first-done}

@@ -1,9 +1,9 @@
--- `writing::check_group` meets its contract.
-use mathlib.Core.List.{[], _∷_, map, append-nil}
+-- `check_group` demands the flags at the start of the row, then each byte at its place.
+use mathlib.Core.List.{List, _∷_, map, append-nil}
 use mathlib.Core.Bool.{true}
 use native.Mathlib.Omega.{arith}
 use lib.Dec.{eqb}
-use Rattle.wire.specs.Act.{demand, byte, when}
+use Rattle.wire.specs.Act.{Act, demand, byte, when}
 use Rattle.wire.specs.Pen.{Checked}
 use Rattle.wire.specs.declared.pen.Fault.the-variants as F
 use Rattle.wire.specs.declared.pen.Pen.the-variants.{At}
@@ -12,20 +12,46 @@ use Rattle.scene_groups.specs.Rows.{groupCols}
 use Rattle.scene_groups.specs.Write.{headFields, positionFields, gainFields, languageFields, groupFlags}
 use Rattle.scene_groups.proofs.Writes.{group-acts}
 use Rattle.wire.proofs.Plain.{met, all-checked}
+use Rattle.scene_groups.specs.declared.rows.SceneGroup.{SceneGroup}
+use Rattle.scene_groups.specs.declared.rows.ContentLanguage.{ContentLanguage}
 use borrow.Author.Needs.{needs}
 use Rattle.scene_groups.proofs.writing.check_group.Statement.{statement}
 use Rattle.scene_groups.proofs.writing.check_group.Tie as tie
 
-step-1 : (c : tie.After-check-all) → Checked (demand F.Field (groupFlags (c .before .before .before .before .before .args .g)) ∷ demand F.Empty true ∷ map byte (headFields (c .before .before .before .before .before .args .g))) 3 (At (c .before .before .before .before .before .args .n)) (c .check-all .result)
-step-1 c = then (rw (c .before .before .before .before .flags-hold .ensures) at (c .before .before .before .demand .ensures)) (then (met F.Empty _) (all-checked (c .before .before .head-bytes .ensures) (c .check-all .ensures)))
+-- each check, and the place before it
+abbrev first : tie.After-check-all → tie.Start
+first c = c .before .before .before .before .before
 
-step-2 : (c : tie.After-check-all2) → Checked (when (eqb (c .before .before .before .before .before .before .before .before .before .args .g .position .present) 1) (map byte (positionFields (c .before .before .before .before .before .before .before .before .before .args .g .position)))) 5 (c .before .before .before .before .check-all .result) (c .check-all2 .result)
+abbrev second : tie.After-check-all2 → tie.After-check-all
+second c = c .before .before .before .before
+
+abbrev third : tie.After-check-all3 → tie.After-check-all2
+third c = c .before .before .before .before
+
+abbrev fourth : tie.After-check-all4 → tie.After-check-all3
+fourth c = c .before .before .before .before
+
+abbrev group : tie.After-check-all2 → SceneGroup
+group c = first (second c) .args .g
+
+abbrev headActs : SceneGroup → List Act
+headActs g = demand F.Field (groupFlags g) ∷ demand F.Empty true ∷ map byte (headFields g)
+
+step-1 : (c : tie.After-check-all) → Checked (headActs (first c .args .g)) 3 (At (first c .args .n)) (c .check-all .result)
+step-1 c =
+    let d = rw (c .before .before .before .before .flags-hold .ensures) at (c .before .before .before .demand .ensures) in
+    then d (then (met F.Empty _) (all-checked (c .before .before .head-bytes .ensures) (c .check-all .ensures)))
+
+step-2 : (c : tie.After-check-all2) → Checked (when (eqb (group c .position .present) 1) (map byte (positionFields (group c .position)))) 5 (second c .check-all .result) (c .check-all2 .result)
 step-2 c = all-checked (c .before .before .position-bytes .ensures) (c .check-all2 .ensures)
 
-step-3 : (c : tie.After-check-all3) → Checked (when (eqb (c .before .before .before .before .before .before .before .before .before .before .before .before .before .args .g .gain .present) 1) (map byte (gainFields (c .before .before .before .before .before .before .before .before .before .before .before .before .before .args .g .gain)))) 2 (c .before .before .before .before .check-all2 .result) (c .check-all3 .result)
+step-3 : (c : tie.After-check-all3) → Checked (when (eqb (group (third c) .gain .present) 1) (map byte (gainFields (group (third c) .gain)))) 2 (third c .check-all2 .result) (c .check-all3 .result)
 step-3 c = all-checked (c .before .before .gain-bytes .ensures) (c .check-all3 .ensures)
 
-step-4 : (c : tie.After-check-all4) → Checked (when (eqb (c .before .before .before .before .before .before .before .before .before .before .before .before .before .before .before .before .before .args .g .«content_language» .present) 1) (map byte (languageFields (c .before .before .before .before .before .before .before .before .before .before .before .before .before .before .before .before .before .args .g .«content_language»)))) 3 (c .before .before .before .before .check-all3 .result) (c .check-all4 .result)
+abbrev language : tie.After-check-all4 → ContentLanguage
+language c = group (third (fourth c)) .«content_language»
+
+step-4 : (c : tie.After-check-all4) → Checked (when (eqb (language c .present) 1) (map byte (languageFields (language c)))) 3 (fourth c .check-all3 .result) (c .check-all4 .result)
 step-4 c = all-checked (c .before .before .language-bytes .ensures) (c .check-all4 .ensures)
 
 flags-hold-requires : tie.Need-flags-hold-requires
@@ -50,7 +76,7 @@ slice-aggregate-check-all-2 : tie.Need-slice-aggregate-check-all-2
 slice-aggregate-check-all-2 c = search needs
 
 check-all-requires-2 : tie.Need-check-all-requires-2
-check-all-requires-2 c κs = (omega (arith, step-1 (c .before .before .before) .near, c .before .before .before .before .before .before .before .before .pre), search needs)
+check-all-requires-2 c κs = let p = c .before .before .before in (omega (arith, step-1 p .near, first p .pre), search needs)
 
 gain-bytes-requires : tie.Need-gain-bytes-requires
 gain-bytes-requires c κs = search needs
@@ -59,7 +85,7 @@ slice-aggregate-check-all-3 : tie.Need-slice-aggregate-check-all-3
 slice-aggregate-check-all-3 c = search needs
 
 check-all-requires-3 : tie.Need-check-all-requires-3
-check-all-requires-3 c κs = (omega (arith, step-2 (c .before .before .before) .near, step-1 (c .before .before .before .before .before .before .before) .near, c .before .before .before .before .before .before .before .before .before .before .before .before .pre), search needs)
+check-all-requires-3 c κs = let p = c .before .before .before in (omega (arith, step-2 p .near, step-1 (second p) .near, first (second p) .pre), search needs)
 
 language-bytes-requires : tie.Need-language-bytes-requires
 language-bytes-requires c κs = search needs
@@ -68,10 +94,12 @@ slice-aggregate-check-all-4 : tie.Need-slice-aggregate-check-all-4
 slice-aggregate-check-all-4 c = search needs
 
 check-all-requires-4 : tie.Need-check-all-requires-4
-check-all-requires-4 c κs = (omega (arith, step-3 (c .before .before .before) .near, step-2 (c .before .before .before .before .before .before .before) .near, step-1 (c .before .before .before .before .before .before .before .before .before .before .before) .near, c .before .before .before .before .before .before .before .before .before .before .before .before .before .before .before .before .pre), search needs)
+check-all-requires-4 c κs = let p = c .before .before .before in (omega (arith, step-3 p .near, step-2 (third p) .near, step-1 (second (third p)) .near, first (second (third p)) .pre), search needs)
 
 returns : tie.Need-returns
-returns c = rw (group-acts (groupCols (c .before .before .before .before .before .before .before .before .before .before .before .before .before .before .before .before .before .args .g)), append-nil) (then (step-1 (c .before .before .before .before .before .before .before .before .before .before .before .before)) (then (step-2 (c .before .before .before .before .before .before .before .before)) (then (step-3 (c .before .before .before .before)) (step-4 c))))
+returns c =
+    let p = third (fourth c) in
+    rw (group-acts (groupCols (group p)), append-nil) (then (step-1 (second p)) (then (step-2 p) (then (step-3 (fourth c)) (step-4 c))))
 
 pub check-group-spec : {M : Type 1} → statement M
 check-group-spec =

@@ -1,6 +1,5 @@
--- `writing::check_groups` meets its contract.
+-- `check_groups` counts the plain rows, and names the fault of the first that is not.
 use Rattle.wire.proofs.Plain.{plain-odd, plain-end}
-use Rattle.scene_groups.specs.Write.{rowActs}
 use Rattle.scene_groups.proofs.Writes.{row-acts}
 use borrow.Author.Needs.{needs}
 use Rattle.scene_groups.proofs.writing.check_groups.Statement.{statement}

@@ -1,34 +1,47 @@
--- `writing::fill_group` meets its contract.
-use mathlib.Core.List.{List, [], _∷_, _++_, map}
+-- `fill_group` stores the three bytes and those of each part that is there.
+use Prim.Native.Nat.{ℕ}
+use mathlib.Core.List.{List, [], _++_, map}
 use mathlib.Core.Path.{refl}
-use lib.Dec.{eqb}
-use Rattle.wire.specs.Act.{Act, byte, when}
+use Rattle.wire.specs.Act.{Act, byte}
 use Rattle.wire.proofs.Passes.{Filling, fill-start, fill-demand, fill-end}
-use Rattle.scene_groups.specs.Rows.{groupCols}
-use Rattle.scene_groups.specs.Write.{headFields, positionFields, gainFields, languageFields}
-use Rattle.scene_groups.proofs.Writes.{group-acts, plainActs, partActs}
 use Rattle.wire.proofs.Plain.{ready-part, fill-part}
+use Rattle.scene_groups.specs.Rows.{groupCols}
+use Rattle.scene_groups.specs.Write.{headFields}
+use Rattle.scene_groups.proofs.Writes.{group-acts, plainActs, partActs, gainActs, languageActs}
 use borrow.Author.Needs.{needs}
 use Rattle.scene_groups.proofs.writing.fill_group.Statement.{statement}
 use Rattle.scene_groups.proofs.writing.fill_group.Tie as tie
 
-abbrev acts : tie.Start → List Act
-acts c = plainActs (groupCols (c .args .g))
+-- each fill, and the place before it
+abbrev first : tie.After-fill-all → tie.Start
+first c = c .before .before .before .before .before
 
-begin : (c : tie.Start) → Filling (acts c) (map byte (headFields (c .args .g)) ++ partActs (groupCols (c .args .g))) (c .args .n) (c .args .out .now) (c .args .n) (c .args .out .now)
+abbrev second : tie.After-fill-all2 → tie.After-fill-all
+second c = c .before .before .before .before .before .before .before
+
+abbrev third : tie.After-fill-all3 → tie.After-fill-all2
+third c = c .before .before .before .before .before .before .before
+
+abbrev fourth : tie.After-fill-all4 → tie.After-fill-all3
+fourth c = c .before .before .before .before .before .before .before
+
+abbrev Left : tie.Start → List Act → ℕ → List ℕ → Type 0
+Left c left n out = Filling (plainActs (groupCols (c .args .g))) left (c .args .n) (c .args .out .now) n out
+
+begin : (c : tie.Start) → Left c (map byte (headFields (c .args .g)) ++ partActs (groupCols (c .args .g))) (c .args .n) (c .args .out .now)
 begin c = fill-demand (fill-demand (fill-start (rw (group-acts (groupCols (c .args .g))) at (c .pre))))
 
-step-1 : (c : tie.After-fill-all) → Filling (acts (c .before .before .before .before .before)) (partActs (groupCols (c .before .before .before .before .before .args .g))) (c .before .before .before .before .before .args .n) (c .before .before .before .before .before .args .out .now) (c .fill-all .result) (c .fill-all .last .0)
-step-1 c = fill-part _ (c .before .before .head-bytes .ensures) (begin (c .before .before .before .before .before)) (c .fill-all .ensures)
+step-1 : (c : tie.After-fill-all) → Left (first c) (partActs (groupCols (first c .args .g))) (c .fill-all .result) (c .fill-all .last .0)
+step-1 c = fill-part _ (c .before .before .head-bytes .ensures) (begin (first c)) (c .fill-all .ensures)
 
-step-2 : (c : tie.After-fill-all2) → Filling (acts (c .before .before .before .before .before .before .before .before .before .before .before .before)) (when (eqb (c .before .before .before .before .before .before .before .before .before .before .before .before .args .g .gain .present) 1) (map byte (gainFields (c .before .before .before .before .before .before .before .before .before .before .before .before .args .g .gain))) ++ (when (eqb (c .before .before .before .before .before .before .before .before .before .before .before .before .args .g .«content_language» .present) 1) (map byte (languageFields (c .before .before .before .before .before .before .before .before .before .before .before .before .args .g .«content_language»))) ++ [])) (c .before .before .before .before .before .before .before .before .before .before .before .before .args .n) (c .before .before .before .before .before .before .before .before .before .before .before .before .args .out .now) (c .fill-all2 .result) (c .fill-all2 .last .0)
-step-2 c = fill-part _ (c .before .before .position-bytes .ensures) (step-1 (c .before .before .before .before .before .before .before)) (c .fill-all2 .ensures)
+step-2 : (c : tie.After-fill-all2) → Left (first (second c)) (gainActs (groupCols (first (second c) .args .g))) (c .fill-all2 .result) (c .fill-all2 .last .0)
+step-2 c = fill-part _ (c .before .before .position-bytes .ensures) (step-1 (second c)) (c .fill-all2 .ensures)
 
-step-3 : (c : tie.After-fill-all3) → Filling (acts (c .before .before .before .before .before .before .before .before .before .before .before .before .before .before .before .before .before .before .before)) (when (eqb (c .before .before .before .before .before .before .before .before .before .before .before .before .before .before .before .before .before .before .before .args .g .«content_language» .present) 1) (map byte (languageFields (c .before .before .before .before .before .before .before .before .before .before .before .before .before .before .before .before .before .before .before .args .g .«content_language»))) ++ []) (c .before .before .before .before .before .before .before .before .before .before .before .before .before .before .before .before .before .before .before .args .n) (c .before .before .before .before .before .before .before .before .before .before .before .before .before .before .before .before .before .before .before .args .out .now) (c .fill-all3 .result) (c .fill-all3 .last .0)
-step-3 c = fill-part _ (c .before .before .gain-bytes .ensures) (step-2 (c .before .before .before .before .before .before .before)) (c .fill-all3 .ensures)
+step-3 : (c : tie.After-fill-all3) → Left (first (second (third c))) (languageActs (groupCols (first (second (third c)) .args .g))) (c .fill-all3 .result) (c .fill-all3 .last .0)
+step-3 c = fill-part _ (c .before .before .gain-bytes .ensures) (step-2 (third c)) (c .fill-all3 .ensures)
 
-step-4 : (c : tie.After-fill-all4) → Filling (acts (c .before .before .before .before .before .before .before .before .before .before .before .before .before .before .before .before .before .before .before .before .before .before .before .before .before .before)) ([]) (c .before .before .before .before .before .before .before .before .before .before .before .before .before .before .before .before .before .before .before .before .before .before .before .before .before .before .args .n) (c .before .before .before .before .before .before .before .before .before .before .before .before .before .before .before .before .before .before .before .before .before .before .before .before .before .before .args .out .now) (c .fill-all4 .result) (c .fill-all4 .last .0)
-step-4 c = fill-part _ (c .before .before .language-bytes .ensures) (step-3 (c .before .before .before .before .before .before .before)) (c .fill-all4 .ensures)
+step-4 : (c : tie.After-fill-all4) → Left (first (second (third (fourth c)))) [] (c .fill-all4 .result) (c .fill-all4 .last .0)
+step-4 c = fill-part _ (c .before .before .language-bytes .ensures) (step-3 (fourth c)) (c .fill-all4 .ensures)
 
 head-bytes-requires : tie.Need-head-bytes-requires
 head-bytes-requires c κs = search needs
@@ -70,7 +83,7 @@ same-length : tie.Need-same-length
 same-length c = step-4 (c .before .before) .size
 
 returns : tie.Need-returns
-returns c = rw (group-acts (groupCols (c .before .before .before .before .before .before .before .before .before .before .before .before .before .before .before .before .before .before .before .before .before .before .before .before .before .before .before .before .args .g))) (fill-end (step-4 (c .before .before)) refl)
+returns c = rw (group-acts (groupCols (first (second (third (fourth (c .before .before)))) .args .g))) (fill-end (step-4 (c .before .before)) refl)
 
 pub fill-group-spec : {M : Type 1} → statement M
 fill-group-spec =

@@ -1,4 +1,4 @@
--- `writing::fill_groups` meets its contract: what is left to store from a row on.
+-- `fill_groups` stores the bytes of the rows: what is left to store from a row on.
 use Prim.Native.Nat.{_-_, _≤_}
 use native.Mathlib.Omega.{arith}
 use native.Mathlib.Nat.{sub-zero}
@@ -39,8 +39,9 @@ loop-less c = search needs
 
 loop-again : tie.Need-loop-again Inv-loop μ-loop
 loop-again c =
-    let w = rw (c .before .before .before .before .of-columns .ensures, row-acts) at (c .before .before .fill-group .ensures) in
-    (omega arith, fill-turn (c .before .before .before .before .before .before .loop .inv .1) (rows-turn _ _ _ (c .before .before .before .before .before .loop-test .taken)) (c .before .before .fill-group .kept .1 .0) w)
+    let l = c .before .before .before .before in
+    let w = rw (l .of-columns .ensures, row-acts) at (c .before .before .fill-group .ensures) in
+    (omega arith, fill-turn (l .before .before .loop .inv .1) (rows-turn _ _ _ (l .before .loop-test .taken)) (c .before .before .fill-group .kept .1 .0) w)
 
 same-length : tie.Need-same-length Inv-loop μ-loop
 same-length c =

@@ -1,4 +1,4 @@
--- `writing::flags_byte` meets its contract.
+-- `flags_byte` spells the byte of flags.
 use native.Mathlib.Omega.{arith}
 use Rattle.wire.specs.Bits.{total, widths}
 use borrow.Author.Needs.{needs}
@@ -31,7 +31,11 @@ spelt-requires c κs = search needs
 
 returns : tie.Need-returns
 unfolding total widths
-returns c = c .spelt .ensures .of _ (omega arith) (c .before .field6 .ensures .of _ (omega arith) (c .before .before .field5 .ensures .of _ (omega arith) (c .before .before .before .field4 .ensures .of _ (omega arith) (c .before .before .before .before .field3 .ensures .of _ (omega arith) (c .before .before .before .before .before .field2 .ensures .of _ (omega arith) (c .before .before .before .before .before .before .field .ensures .of _ (omega arith) (c .before .before .before .before .before .before .before .none .ensures)))))))
+returns c =
+    let p = c .before .before .before .before in
+    c .spelt .ensures .of _ (omega arith) (c .before .field6 .ensures .of _ (omega arith) (c .before .before .field5 .ensures .of _ (omega arith)
+    (c .before .before .before .field4 .ensures .of _ (omega arith) (p .field3 .ensures .of _ (omega arith) (p .before .field2 .ensures .of _ (omega arith)
+    (p .before .before .field .ensures .of _ (omega arith) (p .before .before .before .none .ensures)))))))
 
 pub flags-byte-spec : {M : Type 1} → statement M
 flags-byte-spec =

@@ -1,4 +1,5 @@
--- `writing::flags_hold` meets its contract.
+-- `flags_hold` tests the five flags of a row.
+use mathlib.Core.Bool.{_&&_}
 use borrow.Author.Needs.{needs}
 use Rattle.scene_groups.proofs.writing.flags_hold.Statement.{statement}
 use Rattle.scene_groups.proofs.writing.flags_hold.Tie as tie
@@ -19,7 +20,9 @@ is-flag-requires-5 : tie.Need-is-flag-requires-5
 is-flag-requires-5 c κs = search needs
 
 returns : tie.Need-returns
-returns c = cc
+returns c =
+    let p = c .before .before in
+    λ i. p .before .before .is-flag .ensures i && (p .before .is-flag2 .ensures i && (p .is-flag3 .ensures i && (c .before .is-flag4 .ensures i && c .is-flag5 .ensures i)))
 
 pub flags-hold-spec : {M : Type 1} → statement M
 flags-hold-spec =

@@ -1,4 +1,4 @@
--- `writing::gain_bytes` meets its contract.
+-- `gain_bytes` spells the two bytes of a gain.
 use Rattle.wire.specs.Spell.{none, more}
 use borrow.Author.Needs.{needs}
 use Rattle.scene_groups.proofs.writing.gain_bytes.Statement.{statement}

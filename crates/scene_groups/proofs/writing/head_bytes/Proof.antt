@@ -1,4 +1,4 @@
--- `writing::head_bytes` meets its contract.
+-- `head_bytes` spells the three bytes that are always there.
 use Rattle.wire.specs.Spell.{none, more}
 use borrow.Author.Needs.{needs}
 use Rattle.scene_groups.proofs.writing.head_bytes.Statement.{statement}

@@ -1,4 +1,4 @@
--- `writing::language_bytes` meets its contract.
+-- `language_bytes` spells the three bytes of a language.
 use Rattle.wire.specs.Spell.{none, more}
 use borrow.Author.Needs.{needs}
 use Rattle.scene_groups.proofs.writing.language_bytes.Statement.{statement}

@@ -1,5 +1,5 @@
--- `writing::plain_rows` meets its contract.
-use Prim.Native.Nat.{_-_}
+-- `plain_rows` counts the rows before the first that is not plain, and their bytes.
+use Prim.Native.Nat.{_+_, _-_}
 use native.Mathlib.Omega.{arith}
 use Rattle.wire.specs.Pen.{Quick}
 use Rattle.wire.proofs.Plain.{Going, going-start, going-turn, going-odd, going-end}
@@ -15,11 +15,16 @@ Inv-loop groups count bytes₀ i₀ bytes i = Going (rowActs groups) 13 count i 
 abbrev μ-loop : tie.MeasureT-loop
 μ-loop groups count bytes₀ i₀ bytes i = count - i
 
-quick : (c : tie.Then1 Inv-loop μ-loop) → Quick (rowActs (c .before .before .before .before .before .before .args .groups .now) (c .before .before .before .before .loop .i)) 13 (c .before .plain-bytes .result)
-quick c = rw (c .before .before .of-columns .ensures, row-acts) at (c .before .plain-bytes .ensures)
+-- what the quick test says of a row
+quick : (c : tie.After-plain-bytes Inv-loop μ-loop) → Quick (rowActs (c .before .before .before .before .before .args .groups .now) (c .before .before .before .loop .i)) 13 (c .plain-bytes .result)
+quick c = rw (c .before .of-columns .ensures, row-acts) at (c .plain-bytes .ensures)
 
-quick-2 : (c : tie.Else1 Inv-loop μ-loop) → Quick (rowActs (c .before .before .before .before .before .before .args .groups .now) (c .before .before .before .before .loop .i)) 13 (c .before .plain-bytes .result)
-quick-2 c = rw (c .before .before .of-columns .ensures, row-acts) at (c .before .plain-bytes .ensures)
+abbrev start : tie.Else1 Inv-loop μ-loop → tie.Start Inv-loop μ-loop
+start c = c .before .before .before .before .before .before
+
+turn : (c : tie.Else1 Inv-loop μ-loop) → Going (rowActs (start c .args .groups .now)) 13 (start c .args .count) (c .before .before .before .before .loop .i + 1)
+    (c .before .before .before .before .loop .bytes + c .before .plain-bytes .result)
+turn c = let l = c .if1 .left in going-turn (c .before .before .before .before .loop .inv) (quick (c .before)) (c .before .before .before .loop-test .taken) (omega (arith, l))
 
 loop-holds : tie.Need-loop-holds Inv-loop μ-loop
 loop-holds c = going-start _ 13 _
@@ -34,10 +39,10 @@ plain-bytes-requires : tie.Need-plain-bytes-requires Inv-loop μ-loop
 plain-bytes-requires c κs = search needs
 
 returns : tie.Need-returns Inv-loop μ-loop
-returns c = going-odd (c .before .before .before .before .loop .inv) (quick c) (c .if1 .taken)
+returns c = going-odd (c .before .before .before .before .loop .inv) (quick (c .before)) (c .if1 .taken)
 
 add-bytes : tie.Need-add-bytes Inv-loop μ-loop
-add-bytes c = let l = c .if1 .left in omega (arith, going-turn (c .before .before .before .before .loop .inv) (quick-2 c) (c .before .before .before .loop-test .taken) (omega (arith, l)) .few, c .before .before .before .loop-test .taken, c .before .before .before .before .before .before .pre .1)
+add-bytes c = omega (arith, turn c .few, c .before .before .before .loop-test .taken, start c .pre .1)
 
 add-i : tie.Need-add-i Inv-loop μ-loop
 add-i c = search needs
@@ -46,7 +51,7 @@ loop-less : tie.Need-loop-less Inv-loop μ-loop
 loop-less c = search needs
 
 loop-again : tie.Need-loop-again Inv-loop μ-loop
-loop-again c = going-turn (c .before .before .before .before .loop .inv) (quick-2 c) (c .before .before .before .loop-test .taken) (let l = c .if1 .left in omega (arith, l))
+loop-again c = turn c
 
 returns-2 : tie.Need-returns-2 Inv-loop μ-loop
 returns-2 c = going-end (c .before .loop .inv) (c .loop-test .left)

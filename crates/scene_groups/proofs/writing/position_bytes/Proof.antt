@@ -1,4 +1,4 @@
--- `writing::position_bytes` meets its contract.
+-- `position_bytes` spells the five bytes of a position.
 use Rattle.wire.specs.Spell.{none, more}
 use borrow.Author.Needs.{needs}
 use Rattle.scene_groups.proofs.writing.position_bytes.Statement.{statement}
@@ -20,7 +20,9 @@ two-requires-5 : tie.Need-two-requires-5
 two-requires-5 c κs = search needs
 
 returns : tie.Need-returns
-returns c = more (c .before .before .before .before .two .ensures) (more (c .before .before .before .two2 .ensures) (more (c .before .before .two3 .ensures) (more (c .before .two4 .ensures) (more (c .two5 .ensures) none))))
+returns c =
+    let p = c .before .before in
+    more (p .before .before .two .ensures) (more (p .before .two2 .ensures) (more (p .two3 .ensures) (more (c .before .two4 .ensures) (more (c .two5 .ensures) none))))
 
 pub position-bytes-spec : {M : Type 1} → statement M
 position-bytes-spec =

@@ -1,0 +1,25 @@
+-- `gain_fits` tests the bytes of a gain that is there.
+use Rattle.scene_groups.proofs.Writes.{fits-there, fits-absent}
+use borrow.Author.Needs.{needs}
+use Rattle.scene_groups.proofs.writing.gain_fits.Statement.{statement}
+use Rattle.scene_groups.proofs.writing.gain_fits.Tie as tie
+
+gain-bytes-requires : tie.Need-gain-bytes-requires
+gain-bytes-requires c κs = search needs
+
+slice-aggregate-fits-all : tie.Need-slice-aggregate-fits-all
+slice-aggregate-fits-all c = search needs
+
+fits-all-requires : tie.Need-fits-all-requires
+fits-all-requires c κs = search needs
+
+returns : tie.Need-returns
+returns c = fits-there _ (c .before .before .before .if1 .taken) (c .fits-all .ensures .of _ (c .before .before .gain-bytes .ensures))
+
+returns-2 : tie.Need-returns-2
+returns-2 c = fits-absent _ (c .if1 .left)
+
+pub gain-fits-spec : {M : Type 1} → statement M
+gain-fits-spec =
+    tie.close
+    (tie.spec gain-bytes-requires slice-aggregate-fits-all fits-all-requires returns returns-2)

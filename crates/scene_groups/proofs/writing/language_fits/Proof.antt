@@ -1,0 +1,25 @@
+-- `language_fits` tests the bytes of a language that is there.
+use Rattle.scene_groups.proofs.Writes.{fits-there, fits-absent}
+use borrow.Author.Needs.{needs}
+use Rattle.scene_groups.proofs.writing.language_fits.Statement.{statement}
+use Rattle.scene_groups.proofs.writing.language_fits.Tie as tie
+
+language-bytes-requires : tie.Need-language-bytes-requires
+language-bytes-requires c κs = search needs
+
+slice-aggregate-fits-all : tie.Need-slice-aggregate-fits-all
+slice-aggregate-fits-all c = search needs
+
+fits-all-requires : tie.Need-fits-all-requires
+fits-all-requires c κs = search needs
+
+returns : tie.Need-returns
+returns c = fits-there _ (c .before .before .before .if1 .taken) (c .fits-all .ensures .of _ (c .before .before .language-bytes .ensures))
+
+returns-2 : tie.Need-returns-2
+returns-2 c = fits-absent _ (c .if1 .left)
+
+pub language-fits-spec : {M : Type 1} → statement M
+language-fits-spec =
+    tie.close
+    (tie.spec language-bytes-requires slice-aggregate-fits-all fits-all-requires returns returns-2)
