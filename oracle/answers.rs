@@ -1,7 +1,8 @@
 //! The Rust's answers in document 01's numbers, columns and places: what `parse` gives as columns, and what `write` makes of columns.
-//! What the Rust has no word for is document 01's and stands in the module `document_01`.
+//! What the Rust has no word for is document 01's and stands in the modules `document_01`, here and in scene.rs, which has the scene.
 use crate::rust::error::{Error, Result};
 use crate::rust::mpegh_3d_audio::*;
+use crate::scene;
 
 /// A number of document 01 and what it returns. Number 3 returns a table, `value`, and the rows that it needs.
 #[derive(Debug, Clone, Copy, PartialEq, Eq)]
@@ -26,11 +27,16 @@ pub struct Kind {
     pub tables: &'static [(u64, usize)],
 }
 
-pub const KINDS: [Kind; 3] = [
+pub const KINDS: [Kind; 4] = [
     Kind {
         number: 1,
         top: 10,
         tables: &[],
+    },
+    Kind {
+        number: 2,
+        top: 13,
+        tables: &[(1, 27), (2, 9), (3, 2), (4, 7), (5, 13)],
     },
     Kind {
         number: 3,
@@ -48,10 +54,10 @@ pub fn kind(number: usize) -> &'static Kind {
     KINDS.iter().find(|k| k.number == number).expect("a kind")
 }
 
-/// What a body is read as.
+/// What a body is read as: the top record, and the kind's tables.
 pub struct Record {
     pub top: Vec<u16>,
-    pub tables: [Vec<u16>; 2],
+    pub tables: Vec<Vec<u16>>,
     pub k: usize,
     pub tally: usize,
 }
@@ -68,14 +74,14 @@ pub struct Answers {
 // ---- reading
 
 /// Goes along the body as the Rust's lengths say, and holds the Rust's bytes to the body's.
-struct Along<'a> {
-    body: &'a [u8],
-    at: usize,
+pub struct Along<'a> {
+    pub body: &'a [u8],
+    pub at: usize,
 }
 
 impl Along<'_> {
     /// Offset and length of a payload.
-    fn payload(&mut self, bytes: &[u8]) -> [u16; 2] {
+    pub fn payload(&mut self, bytes: &[u8]) -> [u16; 2] {
         let at = self.at;
         assert_eq!(&self.body[at..at + bytes.len()], bytes, "a payload");
         self.at += bytes.len();
@@ -83,7 +89,7 @@ impl Along<'_> {
     }
 }
 
-fn zeros(field: u8, width: u32) -> usize {
+pub fn zeros(field: u8, width: u32) -> usize {
     (width - u32::from(field).count_ones()) as usize
 }
 
@@ -112,7 +118,7 @@ fn base_record(m: &MpegH3dAudio, body: &[u8]) -> Record {
     let tally = zeros(m.reserved_flags, 6) + zeros(m.reserved_layout, 2);
     Record {
         top,
-        tables: [vec![], vec![]],
+        tables: vec![],
         k,
         tally,
     }
@@ -173,7 +179,7 @@ fn text_label_record(m: &MpegH3dAudioTextLabel, body: &[u8]) -> Record {
             trailing[0],
             trailing[1],
         ],
-        tables: [languages, entries],
+        tables: vec![languages, entries],
         k,
         tally,
     }
@@ -211,7 +217,7 @@ fn multi_stream_record(m: &MpegH3dAudioMultiStream, body: &[u8]) -> Record {
     assert_eq!(along.at, body.len(), "the end");
     Record {
         top,
-        tables: [groups, vec![]],
+        tables: vec![groups],
         k,
         tally,
     }
@@ -222,6 +228,7 @@ fn parse(kind: &Kind, body: &[u8]) -> std::result::Result<Record, usize> {
     let r = &mut Reader::new(body, "a body");
     let record = match kind.number {
         1 => MpegH3dAudio::parse(r).map(|m| base_record(&m, body)),
+        2 => MpegH3dAudioScene::parse(r).map(|m| scene::record(&m, body)),
         3 => MpegH3dAudioTextLabel::parse(r).map(|m| text_label_record(&m, body)),
         _ => MpegH3dAudioMultiStream::parse(r).map(|m| multi_stream_record(&m, body)),
     };
@@ -273,7 +280,7 @@ fn rows_of(kind: &Kind, record: &Record) -> Vec<u16> {
 /// below 256 and below 2: the entry points take no others.
 pub struct Value<'a> {
     pub top: &'a [u16],
-    pub tables: [&'a [u16]; 2],
+    pub tables: Vec<&'a [u16]>,
     pub store: &'a [u8],
 }
 
@@ -285,14 +292,14 @@ impl Value<'_> {
     }
 
     /// The trailing run, whatever its length.
-    fn trailing(&self, column: usize) -> Vec<u8> {
+    pub fn trailing(&self, column: usize) -> Vec<u8> {
         let offset = usize::from(self.top[column]);
         self.store[offset..offset + usize::from(self.top[column + 1])].to_vec()
     }
 }
 
 /// A column as the Rust's byte. One over 255 becomes 255, which is over the width of every field but a full byte.
-fn byte(column: u16) -> u8 {
+pub fn byte(column: u16) -> u8 {
     column.min(255) as u8
 }
 
@@ -427,16 +434,18 @@ fn multi_stream_value(v: &Value, fault: Option<usize>) -> MpegH3dAudioMultiStrea
 }
 
 /// The Rust's `write`: the image, or the fault, its place being the bytes that it had pushed by then.
-fn image(
+pub fn image(
     write: impl Fn(&mut Vec<u8>) -> Result<()>,
 ) -> std::result::Result<Vec<u8>, (Answer, usize)> {
     let mut out = vec![];
-    match write(&mut out) {
-        Ok(()) => Ok(out),
-        Err(Error::FieldOverflow(_)) => Err((answer(5, out.len()), out.len())),
-        Err(Error::InvalidDescriptor { .. }) => Err((answer(9, out.len()), out.len())),
+    let number = match write(&mut out) {
+        Ok(()) => return Ok(out),
+        Err(Error::FieldOverflow(_)) => 5,
+        Err(Error::InvalidDescriptor { reason, .. }) if reason.contains("needs at least one") => 7,
+        Err(Error::InvalidDescriptor { .. }) => 9,
         Err(e) => panic!("writing refuses by {e:?}"),
-    }
+    };
+    Err((answer(number, out.len()), out.len()))
 }
 
 fn place(write: impl Fn(&mut Vec<u8>) -> Result<()>) -> usize {
@@ -445,7 +454,7 @@ fn place(write: impl Fn(&mut Vec<u8>) -> Result<()>) -> usize {
         .1
 }
 
-type Image = std::result::Result<Vec<u8>, Answer>;
+pub type Image = std::result::Result<Vec<u8>, Answer>;
 
 fn write_text_label(v: &Value) -> Image {
     let fault = document_01::label_fault(v);
@@ -486,6 +495,7 @@ pub fn write(kind: &Kind, v: &Value, room: usize) -> (Answer, Option<Vec<u8>>) {
             let value = base_value(v);
             image(|out| value.write(out)).map_err(|e| e.0)
         }
+        2 => scene::write(v),
         3 => write_text_label(v),
         _ => write_multi_stream(v),
     };
@@ -527,7 +537,7 @@ pub mod document_01 {
         None
     }
 
-    fn passes(first: u16, count: u16, end: usize) -> bool {
+    pub fn passes(first: u16, count: u16, end: usize) -> bool {
         usize::from(first) + usize::from(count) > end
     }
 
@@ -536,6 +546,13 @@ pub mod document_01 {
         let (t, store) = (v.top, v.store.len());
         let out = match kind.number {
             1 => (t[2] != 0 && passes(t[3], t[4], store)) || passes(t[8], t[9], store),
+            2 => {
+                let rows = |i: usize, columns: usize| v.tables[i].len() / columns;
+                (t[2] != 0 && passes(0, t[3], rows(0, 27)))
+                    || (t[5] != 0 && passes(0, t[6], rows(1, 9)))
+                    || (t[8] != 0 && passes(0, t[9], rows(3, 7)))
+                    || passes(t[11], t[12], store)
+            }
             3 => passes(0, t[2], v.tables[0].len() / 12) || passes(t[3], t[4], store),
             _ => (t[1] != 0 && passes(0, t[5], v.tables[0].len() / 5)) || passes(t[6], t[7], store),
         };

@@ -3,6 +3,7 @@
 extern crate alloc;
 mod answers;
 mod rust;
+mod scene;
 use answers::{kind, Answer, Answers, Value};
 use rust::error;
 use std::io::{BufWriter, Read, Write};
@@ -11,12 +12,15 @@ use std::io::{BufWriter, Read, Write};
 const COLUMN: u16 = 43981;
 const BYTE: u8 = 171;
 
-/// What the lines before have set: of the top record and of the two tables, the columns and how many of them are lent.
+/// The columns of the top record and of each table, at most.
+const ROOM: [usize; 6] = [16, 4096, 12288, 4096, 4096, 8192];
+
+/// What the lines before have set: of the top record and of the five tables, the columns and how many of them are lent.
 struct State {
     kind: usize,
     body: Vec<u8>,
-    tables: [Vec<u16>; 3],
-    lent: [usize; 3],
+    tables: [Vec<u16>; 6],
+    lent: [usize; 6],
     out: usize,
 }
 
@@ -53,11 +57,12 @@ impl State {
             t[..n].fill(COLUMN);
         }
         if let Some(r) = &a.record {
-            self.tables[0][..r.top.len()].copy_from_slice(&r.top);
-            self.tables[1][..r.tables[0].len()].copy_from_slice(&r.tables[0]);
-            self.tables[2][..r.tables[1].len()].copy_from_slice(&r.tables[1]);
+            let read = std::iter::once(&r.top).chain(&r.tables);
+            for (t, columns) in self.tables.iter_mut().zip(read) {
+                t[..columns.len()].copy_from_slice(columns);
+            }
         }
-        let mut rows = [COLUMN; 3];
+        let mut rows = vec![COLUMN; if self.kind == 2 { 6 } else { 3 }];
         rows[..a.rows.len()].copy_from_slice(&a.rows);
         let lent = self.tables.iter().zip(self.lent);
         let digest = lent.fold(0, |d, (t, n)| mix_columns(d, &t[..n]));
@@ -88,18 +93,17 @@ impl State {
         // of the top record the entry points take bytes and flags
         let bytes: &[usize] = match self.kind {
             1 => &[0, 5, 6, 7],
+            2 => &[0, 1, 4, 7, 10],
             3 => &[0, 1],
             _ => &[0, 2, 3, 4],
         };
         for &i in bytes {
             top[i] %= 256;
         }
+        let tables = self.tables.iter().zip(self.lent).skip(1);
         let value = Value {
             top: &top,
-            tables: [
-                &self.tables[1][..self.lent[1]],
-                &self.tables[2][..self.lent[2]],
-            ],
+            tables: tables.map(|(t, n)| &t[..n]).collect(),
             store: &self.body,
         };
         let (a, image) = answers::write(kind(self.kind), &value, self.out);
@@ -125,14 +129,13 @@ impl State {
         };
         match letter {
             'k' => self.kind = v()[0],
-            'l' => self.lent.copy_from_slice(&v()),
+            'l' => self.lent = std::array::from_fn(|i| v().get(i).copied().unwrap_or(0)),
             'o' => self.out = v()[0],
             'b' => self.body = hex(rest),
             'a' => self.body.extend(hex(rest)),
             'f' => self.body.resize(self.body.len() + v()[0], v()[1] as u8),
             't' => self.put(0, &v()),
-            '1' => self.put(1, &v()),
-            '2' => self.put(2, &v()),
+            '1'..='5' => self.put(letter as usize - '0' as usize, &v()),
             'r' => self.show_read(self.body.len(), out),
             'n' => self.show_read(v()[0], out),
             'c' => (0..=self.body.len()).for_each(|n| self.show_read(n, out)),
@@ -171,8 +174,8 @@ fn main() {
     let mut s = State {
         kind: 0,
         body: vec![],
-        tables: [vec![0; 16], vec![0; 1024], vec![0; 12288]],
-        lent: [0; 3],
+        tables: ROOM.map(|n| vec![0; n]),
+        lent: [0; 6],
         out: 0,
     };
     for line in list.lines() {
