@@ -83,3 +83,152 @@ pub fn text_label(r: &mut Random, counts: &[[usize; 3]], most: usize, trailing: 
     b.extend(r.bytes(trailing));
     b
 }
+
+/// How the reserved bits of a scene body are set.
+#[derive(Clone, Copy)]
+pub enum Reserved {
+    Mixed,
+    Ones,
+    Zeros,
+}
+
+/// A scene body's shape: the rows of each section that is present. A group is its parts (4 position, 2 gain, 1 language), a switch group
+/// the number of its members, a preset its conditions, and a condition 0 or its detail (1) with gain (2) and position (4).
+#[derive(Clone)]
+pub struct Scene {
+    pub groups: Option<Vec<u8>>,
+    pub switch_groups: Option<Vec<usize>>,
+    pub presets: Option<Vec<Vec<u8>>>,
+    pub trailing: usize,
+}
+
+impl Scene {
+    /// The rows of tables 1 to 5.
+    pub fn rows(&self) -> [usize; 5] {
+        let presets = self.presets.iter().flatten();
+        [
+            self.groups.iter().flatten().count(),
+            self.switch_groups.iter().flatten().count(),
+            self.switch_groups.iter().flatten().sum(),
+            presets.clone().count(),
+            presets.flatten().count(),
+        ]
+    }
+}
+
+/// The bytes of a scene body that are written so far.
+struct SceneBytes<'a> {
+    r: &'a mut Random,
+    reserved: Reserved,
+    bytes: Vec<u8>,
+}
+
+impl SceneBytes<'_> {
+    fn put(&mut self, byte: u8, reserved_bits: u8) {
+        self.bytes.push(match self.reserved {
+            Reserved::Mixed => byte,
+            Reserved::Ones => byte | reserved_bits,
+            Reserved::Zeros => byte & !reserved_bits,
+        });
+    }
+
+    /// A byte of any fields for each of these, which say its reserved bits.
+    fn any(&mut self, reserved_bits: &[u8]) {
+        for bits in reserved_bits {
+            let byte = self.r.byte();
+            self.put(byte, *bits);
+        }
+    }
+
+    /// A byte that ends with a number below `bits`, behind bits that are all reserved.
+    fn number(&mut self, number: usize, bits: u8) {
+        let byte = self.r.byte() & !bits | number as u8;
+        self.put(byte, !bits);
+    }
+
+    fn group(&mut self, parts: u8) {
+        self.any(&[0x80]);
+        let flags = self.r.byte() & 0xF8 | parts;
+        self.put(flags, 0xE0);
+        self.any(&[0xF0]);
+        if parts & 4 != 0 {
+            self.any(&[0x80, 0x80, 0xE0, 0xE0, 0]);
+        }
+        if parts & 2 != 0 {
+            self.any(&[0xC0, 0xE0]);
+        }
+        if parts & 1 != 0 {
+            self.any(&[0, 0, 0]);
+        }
+    }
+
+    fn switch_group(&mut self, members: usize) {
+        self.any(&[0x80]);
+        self.number(members - 1, 0x1F);
+        self.any(&vec![0x80; members + 1]);
+    }
+
+    fn preset(&mut self, conditions: &[u8]) {
+        self.any(&[0xE0, 0xE0]);
+        self.number(conditions.len() - 1, 0x0F);
+        for c in conditions {
+            let (detail, gain, position) = (c & 1, c >> 1 & 1, c >> 2);
+            let first = self.r.byte() & 0xFE | detail;
+            self.put(first, 0);
+            if detail == 1 {
+                let flags = self.r.byte() & 0xFA | gain << 2 | position;
+                self.put(flags, 0xF0);
+                self.any(&vec![0; usize::from(gain)]);
+                self.any(&[0, 0xC0, 0xF0][..3 * usize::from(position)]);
+            }
+        }
+    }
+}
+
+pub fn scene(r: &mut Random, s: &Scene, reserved: Reserved) -> Vec<u8> {
+    let bytes = vec![];
+    let mut b = SceneBytes { r, reserved, bytes };
+    let flag = |present: bool, bit: u8| if present { bit } else { 0 };
+    let flags = flag(s.groups.is_some(), 0x80)
+        | flag(s.switch_groups.is_some(), 0x40)
+        | flag(s.presets.is_some(), 0x20);
+    let first = b.r.byte() & 0x1F | flags;
+    b.put(first, 0x1F);
+    b.any(&[0]);
+    if let Some(groups) = &s.groups {
+        b.number(groups.len(), 0x7F);
+        groups.iter().for_each(|parts| b.group(*parts));
+    }
+    if let Some(switch_groups) = &s.switch_groups {
+        b.number(switch_groups.len(), 0x1F);
+        switch_groups.iter().for_each(|n| b.switch_group(*n));
+    }
+    if let Some(presets) = &s.presets {
+        b.number(presets.len(), 0x1F);
+        presets.iter().for_each(|conditions| b.preset(conditions));
+    }
+    b.any(&vec![0; s.trailing]);
+    b.bytes
+}
+
+/// A shape with sections absent, empty, of a few rows and now and then full.
+pub fn scene_shape(r: &mut Random, trailing: usize) -> Scene {
+    let count = |r: &mut Random, full: usize| match r.to(40) {
+        0 => full,
+        n if n < 12 => 0,
+        _ => 1 + r.to(4),
+    };
+    let (groups, switch_groups) = (count(r, 127), count(r, 31));
+    let presets = count(r, 31);
+    let most = r.one_of(&[1, 2, 3, 5, 16, 32]);
+    let conditions = |r: &mut Random| {
+        let n = 1 + r.to(most.min(16));
+        (0..n).map(|_| r.one_of(&[0, 1, 3, 5, 7])).collect()
+    };
+    Scene {
+        groups: (r.to(4) > 0).then(|| (0..groups).map(|_| r.byte() & 7).collect()),
+        switch_groups: (r.to(4) > 0).then(|| (0..switch_groups).map(|_| 1 + r.to(most)).collect()),
+        presets: (r.to(4) > 0).then(|| (0..presets).map(|_| conditions(r)).collect()),
+        trailing,
+    }
+}

@@ -13,7 +13,7 @@ const COLUMN: u16 = 43981;
 const BYTE: u8 = 171;
 
 /// The columns of the top record and of each table, at most.
-const ROOM: [usize; 6] = [16, 4096, 12288, 4096, 4096, 8192];
+const ROOM: [usize; 6] = [32, 4096, 12288, 4096, 4096, 8192];
 
 /// What the lines before have set: of the top record and of the five tables, the columns and how many of them are lent.
 struct State {

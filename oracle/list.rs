@@ -1,6 +1,7 @@
 //! Prints the list of cases that crates/vectors answers and oracle/judge judges: the same list every time. docs/ORACLE.md says what the
 //! letters mean. Nothing of the Rust and nothing of the library is used here.
 mod bodies;
+mod list_scene;
 use bodies::Random;
 use std::fmt::Display;
 
@@ -799,4 +800,7 @@ fn main() {
     small(9, 11, 2);
     multi_stream_reads(r);
     multi_stream_writes(r);
+    say("---- scene");
+    line('k', &[2]);
+    list_scene::cases(&mut Random(2));
 }
