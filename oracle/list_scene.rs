@@ -240,6 +240,10 @@ fn full_body(r: &mut Random) {
             }
         }
     }
+    full_and_trailing();
+}
+
+fn full_and_trailing() {
     say("the same and a trailing run, to 65,535 bytes and over; the largest image, of 5,810 + 65,535 bytes");
     line('f', &[65536 - 5810, 0]);
     for n in [65536, 65534, 65535] {
