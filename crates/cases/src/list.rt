@@ -1,14 +1,14 @@
 // What a line of the list says, and what the lines before have set.
 use super::tables;
+use super::tables::Bytes;
+use super::tables::Columns;
 
-// The bytes of the line so far, the kind, the bytes of the body, the columns that are lent of the top record and the two tables, and the bytes of the output.
+// The bytes of the line so far, the kind, the bytes of the body, the columns that are lent of the top record and the five tables, and the bytes of the output.
 pub struct State {
     pub line: usize,
     pub kind: usize,
     pub length: usize,
-    pub top: usize,
-    pub one: usize,
-    pub two: usize,
+    pub lent: [usize; 6],
     pub out: usize,
 }
 
@@ -16,7 +16,7 @@ pub struct State {
 pub fn part(letter: u8) -> usize {
     match letter {
         b'a' | b'b' | b'f' => 0,
-        b't' | b'1' | b'2' => 1,
+        b't' | b'1'..=b'5' => 1,
         b'k' | b'l' | b'o' => 2,
         b'w' | b'x' | b'y' => 3,
         b'r' | b'n' | b'c' | b'd' | b's' => 4,
@@ -114,14 +114,12 @@ pub fn with_numbers(s: State, letter: u8, v: &[usize; 4096]) -> State {
         t.out = v[0];
         return t;
     }
-    t.top = v[0];
-    t.one = v[1];
-    t.two = v[2];
+    t.lent = [v[0], v[1], v[2], v[3], v[4], v[5]];
     t
 }
 
 // The body is these bytes (b), or what it was and these (a), or what it was and a run of one byte (f).
-pub fn with_bytes(s: State, letter: u8, n: usize, v: &[usize; 4096], body: &mut [u8]) -> State {
+pub fn with_bytes(s: State, letter: u8, n: usize, v: &[usize; 4096], body: &mut Bytes) -> State {
     let mut t = s;
     if letter == b'b' {
         t.length = tables::put_bytes(body, 0, n, v);
@@ -135,25 +133,28 @@ pub fn with_bytes(s: State, letter: u8, n: usize, v: &[usize; 4096], body: &mut 
     t
 }
 
+// The table that a line sets; 0 is the top record.
+fn table(letter: u8) -> usize {
+    match letter {
+        b'1'..=b'5' => (letter - 48) as usize,
+        _ => 0,
+    }
+}
+
 // The columns of the top record or a table are these, and so many.
 pub fn with_columns(
     s: State,
     letter: u8,
     n: usize,
     v: &[usize; 4096],
-    top: &mut [u16],
-    one: &mut [u16],
-    two: &mut [u16],
+    columns: &mut Columns,
 ) -> State {
     let mut t = s;
-    if letter == b't' {
-        t.top = tables::put_columns(top, n, v);
-        return t;
+    let mut lent = s.lent;
+    let i = table(letter);
+    if i < 6 {
+        lent[i] = tables::put_columns(columns, i, n, v);
     }
-    if letter == b'1' {
-        t.one = tables::put_columns(one, n, v);
-        return t;
-    }
-    t.two = tables::put_columns(two, n, v);
+    t.lent = lent;
     t
 }

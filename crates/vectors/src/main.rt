@@ -6,71 +6,46 @@ mod writes;
 
 use cases::list;
 use cases::list::State;
+use cases::tables;
+use cases::tables::Bytes;
+use cases::tables::Columns;
 
 // The list comes in pieces, at most 64.
 fn main() {
     let mut piece = io::large_buffer();
     let mut line = io::large_buffer();
     let mut body = io::large_buffer();
-    let mut top = [0u16; 16];
-    let mut one = [0u16; 1024];
-    let mut two = [0u16; 12288];
+    let mut columns = [0u16; 40960];
     let mut s = State {
         line: 0,
         kind: 0,
         length: 0,
-        top: 0,
-        one: 0,
-        two: 0,
+        lent: [0; 6],
         out: 0,
     };
     let mut left: usize = 64;
     while 0 < left {
         let n = io::read_full(0, &mut piece);
-        s = run(
-            s,
-            &piece[..n],
-            &mut line,
-            &mut body,
-            &mut top,
-            &mut one,
-            &mut two,
-        );
+        s = run(s, &piece[..n], &mut line, &mut body, &mut columns);
         left -= 1;
     }
 }
 
-fn run(
-    s: State,
-    piece: &[u8],
-    line: &mut [u8],
-    body: &mut [u8],
-    top: &mut [u16],
-    one: &mut [u16],
-    two: &mut [u16],
-) -> State {
+fn run(s: State, piece: &[u8], line: &mut Bytes, body: &mut Bytes, columns: &mut Columns) -> State {
     let mut t = s;
     let mut i: usize = 0;
     while i < piece.len() {
-        t = byte(t, piece[i], line, body, top, one, two);
+        t = byte(t, piece[i], line, body, columns);
         i += 1;
     }
     t
 }
 
 // A byte of a line, or its end.
-fn byte(
-    s: State,
-    b: u8,
-    line: &mut [u8],
-    body: &mut [u8],
-    top: &mut [u16],
-    one: &mut [u16],
-    two: &mut [u16],
-) -> State {
+fn byte(s: State, b: u8, line: &mut Bytes, body: &mut Bytes, columns: &mut Columns) -> State {
     let n = s.line;
     let mut t = s;
-    if line.len() <= n {
+    if 65536 <= n {
         return s;
     }
     if b != b'\n' {
@@ -79,18 +54,11 @@ fn byte(
         return t;
     }
     t.line = 0;
-    step(t, &line[0..n], body, top, one, two)
+    step(t, tables::front_bytes(&line[..], n), body, columns)
 }
 
 // A line is a letter and numbers: bytes in hexadecimal digits, all others in decimal ones.
-fn step(
-    s: State,
-    line: &[u8],
-    body: &mut [u8],
-    top: &mut [u16],
-    one: &mut [u16],
-    two: &mut [u16],
-) -> State {
+fn step(s: State, line: &[u8], body: &mut Bytes, columns: &mut Columns) -> State {
     if line.len() == 0 {
         return s;
     }
@@ -102,17 +70,17 @@ fn step(
         return list::with_bytes(s, letter, n, &v, body);
     }
     if part == 1 {
-        return list::with_columns(s, letter, n, &v, top, one, two);
+        return list::with_columns(s, letter, n, &v, columns);
     }
     if part == 2 {
         return list::with_numbers(s, letter, &v);
     }
     if part == 3 {
-        writes::command(s, letter, &v, body, top, one, two);
+        writes::command(s, letter, &v, &body[..], columns);
         return s;
     }
     if part == 4 {
-        reads::command(s, letter, &v, body, top, one, two);
+        reads::command(s, letter, &v, body, columns);
     }
     s
 }

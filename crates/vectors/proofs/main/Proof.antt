@@ -6,10 +6,10 @@ use Rattle.vectors.proofs.main.Statement.{statement}
 use Rattle.vectors.proofs.main.Tie as tie
 
 abbrev Inv-loop : tie.InvT-loop
-Inv-loop piece₀ line₀ body₀ top₀ one₀ two₀ s₀ left₀ piece line body top one two s left = (65536 ≡ length piece) × (65536 ≡ length line) × (65536 ≡ length body) × (16 ≡ length top) × (1024 ≡ length one) × (12288 ≡ length two)
+Inv-loop piece₀ line₀ body₀ columns₀ s₀ left₀ piece line body columns s left = 65536 ≡ length piece
 
 abbrev μ-loop : tie.MeasureT-loop
-μ-loop piece₀ line₀ body₀ top₀ one₀ two₀ s₀ left₀ piece line body top one two s left = left
+μ-loop piece₀ line₀ body₀ columns₀ s₀ left₀ piece line body columns s left = left
 
 large-buffer-requires : tie.Need-large-buffer-requires Inv-loop μ-loop
 large-buffer-requires c κs = search needs
@@ -34,21 +34,6 @@ array-share-prefix-piece c = search needs
 
 slice-aggregate-run : tie.Need-slice-aggregate-run Inv-loop μ-loop
 slice-aggregate-run c = search needs
-
-slice-aggregate-run-2 : tie.Need-slice-aggregate-run-2 Inv-loop μ-loop
-slice-aggregate-run-2 c = search needs
-
-slice-aggregate-run-3 : tie.Need-slice-aggregate-run-3 Inv-loop μ-loop
-slice-aggregate-run-3 c = search needs
-
-slice-aggregate-run-4 : tie.Need-slice-aggregate-run-4 Inv-loop μ-loop
-slice-aggregate-run-4 c = search needs
-
-slice-aggregate-run-5 : tie.Need-slice-aggregate-run-5 Inv-loop μ-loop
-slice-aggregate-run-5 c = search needs
-
-slice-aggregate-run-6 : tie.Need-slice-aggregate-run-6 Inv-loop μ-loop
-slice-aggregate-run-6 c = search needs
 
 run-requires : tie.Need-run-requires Inv-loop μ-loop
 run-requires c κs = search needs
@@ -79,11 +64,6 @@ main-spec =
     read-full-requires
     array-share-prefix-piece
     slice-aggregate-run
-    slice-aggregate-run-2
-    slice-aggregate-run-3
-    slice-aggregate-run-4
-    slice-aggregate-run-5
-    slice-aggregate-run-6
     run-requires
     sub-left
     loop-less

@@ -1,16 +1,15 @@
 -- `vectors::run` is safe and ends.
-use mathlib.Core.Path.{_≡_}
-use Prim.Native.Nat.{_-_}
+use Prim.Native.Nat.{_-_, _≤_}
 use lib.ListN.{length}
 use borrow.Author.Needs.{needs}
 use Rattle.vectors.proofs.run.Statement.{statement}
 use Rattle.vectors.proofs.run.Tie as tie
 
 abbrev Inv-loop : tie.InvT-loop
-Inv-loop piece line₀ body₀ top₀ one₀ two₀ t₀ i₀ line body top one two t i = (length line ≡ length line₀) × (length body ≡ length body₀) × (length top ≡ length top₀) × (length one ≡ length one₀) × (length two ≡ length two₀)
+Inv-loop piece line₀ body₀ columns₀ t₀ i₀ line body columns t i = 0 ≤ i
 
 abbrev μ-loop : tie.MeasureT-loop
-μ-loop piece line₀ body₀ top₀ one₀ two₀ t₀ i₀ line body top one two t i = length piece - i
+μ-loop piece line₀ body₀ columns₀ t₀ i₀ line body columns t i = length piece - i
 
 loop-holds : tie.Need-loop-holds Inv-loop μ-loop
 loop-holds c = search needs
@@ -30,21 +29,6 @@ loop-less c = search needs
 loop-again : tie.Need-loop-again Inv-loop μ-loop
 loop-again c = search needs
 
-same-length : tie.Need-same-length Inv-loop μ-loop
-same-length c = search needs
-
-same-length-2 : tie.Need-same-length-2 Inv-loop μ-loop
-same-length-2 c = search needs
-
-same-length-3 : tie.Need-same-length-3 Inv-loop μ-loop
-same-length-3 c = search needs
-
-same-length-4 : tie.Need-same-length-4 Inv-loop μ-loop
-same-length-4 c = search needs
-
-same-length-5 : tie.Need-same-length-5 Inv-loop μ-loop
-same-length-5 c = search needs
-
 returns : tie.Need-returns Inv-loop μ-loop
 returns c = search needs
 
@@ -60,9 +44,4 @@ run-spec =
     add-i
     loop-less
     loop-again
-    same-length
-    same-length-2
-    same-length-3
-    same-length-4
-    same-length-5
     returns)

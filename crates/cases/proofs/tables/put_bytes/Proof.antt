@@ -1,13 +1,11 @@
 -- `cases::tables::put_bytes` is safe and ends.
-use mathlib.Core.Path.{_≡_}
-use Prim.Native.Nat.{_-_}
-use lib.ListN.{length}
+use Prim.Native.Nat.{_-_, _≤_}
 use borrow.Author.Needs.{needs}
 use Rattle.cases.proofs.tables.put_bytes.Statement.{statement}
 use Rattle.cases.proofs.tables.put_bytes.Tie as tie
 
 abbrev Inv-loop : tie.InvT-loop
-Inv-loop body₀ at n v to₀ i₀ body to i = length body ≡ length body₀
+Inv-loop body₀ at n v to₀ i₀ body to i = 0 ≤ i
 
 abbrev μ-loop : tie.MeasureT-loop
 μ-loop body₀ at n v to₀ i₀ body to i = n - i
@@ -15,14 +13,8 @@ abbrev μ-loop : tie.MeasureT-loop
 loop-holds : tie.Need-loop-holds Inv-loop μ-loop
 loop-holds c = search needs
 
-same-length : tie.Need-same-length Inv-loop μ-loop
-same-length c = search needs
-
 returns : tie.Need-returns Inv-loop μ-loop
 returns c = search needs
-
-same-length-2 : tie.Need-same-length-2 Inv-loop μ-loop
-same-length-2 c = search needs
 
 returns-2 : tie.Need-returns-2 Inv-loop μ-loop
 returns-2 c = search needs
@@ -36,8 +28,8 @@ element-copy-out-low-byte c = search needs
 low-byte-requires : tie.Need-low-byte-requires Inv-loop μ-loop
 low-byte-requires c κs = search needs
 
-slice-write-body : tie.Need-slice-write-body Inv-loop μ-loop
-slice-write-body c = search needs
+element-write-body : tie.Need-element-write-body Inv-loop μ-loop
+element-write-body c = search needs
 
 add-to : tie.Need-add-to Inv-loop μ-loop
 add-to c = search needs
@@ -51,9 +43,6 @@ loop-less c = search needs
 loop-again : tie.Need-loop-again Inv-loop μ-loop
 loop-again c = search needs
 
-same-length-3 : tie.Need-same-length-3 Inv-loop μ-loop
-same-length-3 c = search needs
-
 returns-3 : tie.Need-returns-3 Inv-loop μ-loop
 returns-3 c = search needs
 
@@ -64,17 +53,14 @@ put-bytes-spec =
     Inv-loop
     μ-loop
     loop-holds
-    same-length
     returns
-    same-length-2
     returns-2
     mul-low-byte
     element-copy-out-low-byte
     low-byte-requires
-    slice-write-body
+    element-write-body
     add-to
     add-i
     loop-less
     loop-again
-    same-length-3
     returns-3)

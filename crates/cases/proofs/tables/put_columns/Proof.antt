@@ -1,25 +1,26 @@
 -- `cases::tables::put_columns` is safe and ends.
-use mathlib.Core.Path.{_≡_}
-use Prim.Native.Nat.{_-_}
-use lib.ListN.{length}
+use Prim.Native.Nat.{_-_, _≤_}
 use borrow.Author.Needs.{needs}
 use Rattle.cases.proofs.tables.put_columns.Statement.{statement}
 use Rattle.cases.proofs.tables.put_columns.Tie as tie
 
 abbrev Inv-loop : tie.InvT-loop
-Inv-loop table₀ n v i₀ table i = length table ≡ length table₀
+Inv-loop columns₀ table n v to₀ i₀ columns to i = 0 ≤ i
 
 abbrev μ-loop : tie.MeasureT-loop
-μ-loop table₀ n v i₀ table i = n - i
+μ-loop columns₀ table n v to₀ i₀ columns to i = n - i
+
+start-requires : tie.Need-start-requires Inv-loop μ-loop
+start-requires c κs = search needs
 
 loop-holds : tie.Need-loop-holds Inv-loop μ-loop
 loop-holds c = search needs
 
-same-length : tie.Need-same-length Inv-loop μ-loop
-same-length c = search needs
-
 returns : tie.Need-returns Inv-loop μ-loop
 returns c = search needs
+
+returns-2 : tie.Need-returns-2 Inv-loop μ-loop
+returns-2 c = search needs
 
 mul-low-column : tie.Need-mul-low-column Inv-loop μ-loop
 mul-low-column c = search needs
@@ -30,8 +31,14 @@ element-copy-out-low-column c = search needs
 low-column-requires : tie.Need-low-column-requires Inv-loop μ-loop
 low-column-requires c κs = search needs
 
-change-column-requires : tie.Need-change-column-requires Inv-loop μ-loop
-change-column-requires c κs = search needs
+mul-columns : tie.Need-mul-columns Inv-loop μ-loop
+mul-columns c = search needs
+
+element-write-columns : tie.Need-element-write-columns Inv-loop μ-loop
+element-write-columns c = search needs
+
+add-to : tie.Need-add-to Inv-loop μ-loop
+add-to c = search needs
 
 add-i : tie.Need-add-i Inv-loop μ-loop
 add-i c = search needs
@@ -42,11 +49,8 @@ loop-less c = search needs
 loop-again : tie.Need-loop-again Inv-loop μ-loop
 loop-again c = search needs
 
-same-length-2 : tie.Need-same-length-2 Inv-loop μ-loop
-same-length-2 c = search needs
-
-returns-2 : tie.Need-returns-2 Inv-loop μ-loop
-returns-2 c = search needs
+returns-3 : tie.Need-returns-3 Inv-loop μ-loop
+returns-3 c = search needs
 
 pub put-columns-spec : {M : Type 1} → statement M
 put-columns-spec =
@@ -54,15 +58,17 @@ put-columns-spec =
     (tie.spec
     Inv-loop
     μ-loop
+    start-requires
     loop-holds
-    same-length
     returns
+    returns-2
     mul-low-column
     element-copy-out-low-column
     low-column-requires
-    change-column-requires
+    mul-columns
+    element-write-columns
+    add-to
     add-i
     loop-less
     loop-again
-    same-length-2
-    returns-2)
+    returns-3)

@@ -1,12 +1,11 @@
 -- `cases::tables::put_run` is safe and ends.
-use mathlib.Core.Path.{_≡_}
-use lib.ListN.{length}
+use Prim.Native.Nat.{_≤_}
 use borrow.Author.Needs.{needs}
 use Rattle.cases.proofs.tables.put_run.Statement.{statement}
 use Rattle.cases.proofs.tables.put_run.Tie as tie
 
 abbrev Inv-loop : tie.InvT-loop
-Inv-loop body₀ at count byte to₀ left₀ body to left = length body ≡ length body₀
+Inv-loop body₀ at count byte to₀ left₀ body to left = 0 ≤ left
 
 abbrev μ-loop : tie.MeasureT-loop
 μ-loop body₀ at count byte to₀ left₀ body to left = left
@@ -14,17 +13,14 @@ abbrev μ-loop : tie.MeasureT-loop
 loop-holds : tie.Need-loop-holds Inv-loop μ-loop
 loop-holds c = search needs
 
-same-length : tie.Need-same-length Inv-loop μ-loop
-same-length c = search needs
-
 returns : tie.Need-returns Inv-loop μ-loop
 returns c = search needs
 
 low-byte-requires : tie.Need-low-byte-requires Inv-loop μ-loop
 low-byte-requires c κs = search needs
 
-slice-write-body : tie.Need-slice-write-body Inv-loop μ-loop
-slice-write-body c = search needs
+element-write-body : tie.Need-element-write-body Inv-loop μ-loop
+element-write-body c = search needs
 
 add-to : tie.Need-add-to Inv-loop μ-loop
 add-to c = search needs
@@ -38,9 +34,6 @@ loop-less c = search needs
 loop-again : tie.Need-loop-again Inv-loop μ-loop
 loop-again c = search needs
 
-same-length-2 : tie.Need-same-length-2 Inv-loop μ-loop
-same-length-2 c = search needs
-
 returns-2 : tie.Need-returns-2 Inv-loop μ-loop
 returns-2 c = search needs
 
@@ -51,13 +44,11 @@ put-run-spec =
     Inv-loop
     μ-loop
     loop-holds
-    same-length
     returns
     low-byte-requires
-    slice-write-body
+    element-write-body
     add-to
     sub-left
     loop-less
     loop-again
-    same-length-2
     returns-2)

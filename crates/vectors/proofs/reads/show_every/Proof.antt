@@ -1,16 +1,14 @@
 -- `vectors::reads::show_every` is safe and ends.
-use mathlib.Core.Path.{_≡_}
-use Prim.Native.Nat.{_-_}
-use lib.ListN.{length}
+use Prim.Native.Nat.{_-_, _≤_}
 use borrow.Author.Needs.{needs}
 use Rattle.vectors.proofs.reads.show_every.Statement.{statement}
 use Rattle.vectors.proofs.reads.show_every.Tie as tie
 
 abbrev Inv-loop : tie.InvT-loop
-Inv-loop s n count top₀ one₀ two₀ digest₀ i₀ t13 top one two digest i = (length top ≡ length top₀) × (length one ≡ length one₀) × (length two ≡ length two₀)
+Inv-loop s n count columns₀ digest₀ i₀ t11 columns digest i = 0 ≤ i
 
 abbrev μ-loop : tie.MeasureT-loop
-μ-loop s n count top₀ one₀ two₀ digest₀ i₀ t13 top one two digest i = count - i
+μ-loop s n count columns₀ digest₀ i₀ t11 columns digest i = count - i
 
 loop-holds : tie.Need-loop-holds Inv-loop μ-loop
 loop-holds c = search needs
@@ -21,11 +19,14 @@ low-byte-requires c κs = search needs
 low-byte-requires-2 : tie.Need-low-byte-requires-2 Inv-loop μ-loop
 low-byte-requires-2 c κs = search needs
 
-slice-aggregate-ask-front : tie.Need-slice-aggregate-ask-front Inv-loop μ-loop
-slice-aggregate-ask-front c = search needs
+slice-aggregate-front-bytes : tie.Need-slice-aggregate-front-bytes Inv-loop μ-loop
+slice-aggregate-front-bytes c = search needs
 
-ask-front-requires : tie.Need-ask-front-requires Inv-loop μ-loop
-ask-front-requires c κs = search needs
+front-bytes-requires : tie.Need-front-bytes-requires Inv-loop μ-loop
+front-bytes-requires c κs = search needs
+
+ask-requires : tie.Need-ask-requires Inv-loop μ-loop
+ask-requires c κs = search needs
 
 mix-requires : tie.Need-mix-requires Inv-loop μ-loop
 mix-requires c κs = search needs
@@ -54,15 +55,6 @@ slice-aggregate-number c = search needs
 number-requires : tie.Need-number-requires Inv-loop μ-loop
 number-requires c κs = search needs
 
-same-length : tie.Need-same-length Inv-loop μ-loop
-same-length c = search needs
-
-same-length-2 : tie.Need-same-length-2 Inv-loop μ-loop
-same-length-2 c = search needs
-
-same-length-3 : tie.Need-same-length-3 Inv-loop μ-loop
-same-length-3 c = search needs
-
 returns : tie.Need-returns Inv-loop μ-loop
 returns c = search needs
 
@@ -75,8 +67,9 @@ show-every-spec =
     loop-holds
     low-byte-requires
     low-byte-requires-2
-    slice-aggregate-ask-front
-    ask-front-requires
+    slice-aggregate-front-bytes
+    front-bytes-requires
+    ask-requires
     mix-requires
     mix-requires-2
     mix-requires-3
@@ -86,7 +79,4 @@ show-every-spec =
     loop-again
     slice-aggregate-number
     number-requires
-    same-length
-    same-length-2
-    same-length-3
     returns)

@@ -1,22 +1,23 @@
 -- `vectors::reads::show_fronts` is safe and ends.
-use mathlib.Core.Path.{_≡_}
-use Prim.Native.Nat.{_-_}
-use lib.ListN.{length}
+use Prim.Native.Nat.{_-_, _≤_}
 use borrow.Author.Needs.{needs}
 use Rattle.vectors.proofs.reads.show_fronts.Statement.{statement}
 use Rattle.vectors.proofs.reads.show_fronts.Tie as tie
 
 abbrev Inv-loop : tie.InvT-loop
-Inv-loop s first last body top₀ one₀ two₀ n₀ t10 top one two n = (length top ≡ length top₀) × (length one ≡ length one₀) × (length two ≡ length two₀)
+Inv-loop s first last body columns₀ n₀ t8 columns n = 0 ≤ n
 
 abbrev μ-loop : tie.MeasureT-loop
-μ-loop s first last body top₀ one₀ two₀ n₀ t10 top one two n = last - n
+μ-loop s first last body columns₀ n₀ t8 columns n = last - n
 
 loop-holds : tie.Need-loop-holds Inv-loop μ-loop
 loop-holds c = search needs
 
-ask-front-requires : tie.Need-ask-front-requires Inv-loop μ-loop
-ask-front-requires c κs = search needs
+front-bytes-requires : tie.Need-front-bytes-requires Inv-loop μ-loop
+front-bytes-requires c κs = search needs
+
+ask-requires : tie.Need-ask-requires Inv-loop μ-loop
+ask-requires c κs = search needs
 
 answer-requires : tie.Need-answer-requires Inv-loop μ-loop
 answer-requires c κs = search needs
@@ -42,15 +43,6 @@ loop-less c = search needs
 loop-again : tie.Need-loop-again Inv-loop μ-loop
 loop-again c = search needs
 
-same-length : tie.Need-same-length Inv-loop μ-loop
-same-length c = search needs
-
-same-length-2 : tie.Need-same-length-2 Inv-loop μ-loop
-same-length-2 c = search needs
-
-same-length-3 : tie.Need-same-length-3 Inv-loop μ-loop
-same-length-3 c = search needs
-
 returns : tie.Need-returns Inv-loop μ-loop
 returns c = search needs
 
@@ -61,7 +53,8 @@ show-fronts-spec =
     Inv-loop
     μ-loop
     loop-holds
-    ask-front-requires
+    front-bytes-requires
+    ask-requires
     answer-requires
     answer-requires-2
     answer-requires-3
@@ -70,7 +63,4 @@ show-fronts-spec =
     add-n
     loop-less
     loop-again
-    same-length
-    same-length-2
-    same-length-3
     returns)
