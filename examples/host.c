@@ -10,7 +10,7 @@
 #include <stdlib.h>
 #include <string.h>
 
-enum { MOST_TABLES = 2, MOST_COLUMNS = 12 };
+enum { MOST_TABLES = 5, MOST_COLUMNS = 27 };
 
 /* A body, its top record and its rows. */
 struct value {
@@ -29,7 +29,7 @@ struct table {
     const char *column[MOST_COLUMNS];
 };
 
-/* A kind of body. A column whose name ends in _offset is a payload's, and its length is the next. */
+/* A kind of body. A column whose name ends in .offset is a payload's, and its length is the next. */
 struct kind {
     int number;
     const char *name;
@@ -51,6 +51,21 @@ static uint64_t base_write(const struct value *v, uint8_t *out, size_t out_lengt
 {
     struct mpegh_base m = mpegh_base_of(v->top);
     return mpegh_base_write_from(&m, v->body, v->length, out, out_length);
+}
+
+static uint64_t scene_read(struct value *v)
+{
+    return mpegh_scene_read(
+        v->body, v->length, v->top, MOST_COLUMNS, v->table[0], v->columns[0], v->table[1], v->columns[1], v->table[2], v->columns[2],
+        v->table[3], v->columns[3], v->table[4], v->columns[4]);
+}
+
+static uint64_t scene_write(const struct value *v, uint8_t *out, size_t out_length)
+{
+    struct mpegh_scene m = mpegh_scene_of(v->top);
+    return mpegh_scene_write_from(
+        &m, v->table[0], v->columns[0], v->table[1], v->columns[1], v->table[2], v->columns[2], v->table[3], v->columns[3],
+        v->table[4], v->columns[4], v->body, v->length, out, out_length);
 }
 
 static uint64_t text_label_read(struct value *v)
@@ -80,26 +95,52 @@ static uint64_t multi_stream_write(const struct value *v, uint8_t *out, size_t o
 static const struct kind kinds[] = {
     {1, "base",
      {0, "top record", MPEGH_BASE_COLUMNS,
-      {"profile_level_indication", "interactivity_enabled", "compatible_sets_present", "compatible_sets_offset",
-       "compatible_sets_length", "reserved_flags", "reserved_layout", "reference_channel_layout", "trailing_offset",
-       "trailing_length"}},
+      {"profile_level_indication", "interactivity_enabled", "compatible_sets_present", "compatible_sets.offset",
+       "compatible_sets.length", "reserved_flags", "reserved_layout", "reference_channel_layout", "trailing.offset",
+       "trailing.length"}},
      MPEGH_BASE_TABLES,
      {{0, NULL, 0, {NULL}}},
      mpegh_base_measure, mpegh_base_tally, base_read, base_write},
+    {2, "scene",
+     {0, "top record", MPEGH_SCENE_COLUMNS,
+      {"reserved_flags", "scene_info_id", "groups_present", "groups", "reserved_switch_groups", "switch_groups_present",
+       "switch_groups", "reserved_presets", "presets_present", "presets", "reserved_groups", "trailing.offset",
+       "trailing.length"}},
+     MPEGH_SCENE_TABLES,
+     {{1, "groups", MPEGH_SCENE_GROUP_COLUMNS,
+       {"reserved_id", "group_id", "reserved_flags", "allow_on_off", "default_on_off", "reserved_kind", "content_kind",
+        "position_present", "position.reserved_min_az", "position.min_az_offset", "position.reserved_max_az",
+        "position.max_az_offset", "position.reserved_min_el", "position.min_el_offset", "position.reserved_max_el",
+        "position.max_el_offset", "position.min_dist_offset", "position.max_dist_offset", "gain_present",
+        "gain.reserved_min", "gain.min_gain", "gain.reserved_max", "gain.max_gain", "content_language_present",
+        "content_language[0]", "content_language[1]", "content_language[2]"}},
+      {2, "switch_groups", MPEGH_SWITCH_GROUP_COLUMNS,
+       {"reserved_id", "switch_group_id", "allow_on_off", "default_on_off", "reserved_members", "members.first",
+        "members.count", "reserved_default", "default_group_id"}},
+      {3, "members", MPEGH_MEMBER_COLUMNS, {"reserved", "member_id"}},
+      {4, "presets", MPEGH_PRESET_COLUMNS,
+       {"reserved_id", "preset_id", "reserved_kind", "preset_kind", "reserved_conditions", "conditions.first",
+        "conditions.count"}},
+      {5, "conditions", MPEGH_CONDITION_COLUMNS,
+       {"group_id", "detail_present", "detail.reserved", "detail.disable_gain_interactivity",
+        "detail.disable_position_interactivity", "detail.gain_present", "detail.gain", "detail.position_present",
+        "detail.position.az_offset", "detail.position.reserved_el", "detail.position.el_offset",
+        "detail.position.reserved_dist", "detail.position.dist_factor"}}},
+     mpegh_scene_measure, mpegh_scene_tally, scene_read, scene_write},
     {3, "text_label",
      {0, "top record", MPEGH_TEXT_LABEL_COLUMNS,
-      {"scene_info_id", "reserved", "languages", "trailing_offset", "trailing_length"}},
+      {"scene_info_id", "reserved", "languages", "trailing.offset", "trailing.length"}},
      MPEGH_TEXT_LABEL_TABLES,
      {{6, "languages", MPEGH_LANGUAGE_COLUMNS,
        {"language[0]", "language[1]", "language[2]", "reserved_groups", "groups.first", "groups.count",
         "reserved_switch_groups", "switch_groups.first", "switch_groups.count", "reserved_presets", "presets.first",
         "presets.count"}},
-      {7, "entries", MPEGH_ENTRY_COLUMNS, {"reserved", "id", "data_offset", "data_length"}}},
+      {7, "entries", MPEGH_ENTRY_COLUMNS, {"reserved", "id", "data.offset", "data.length"}}},
      mpegh_text_label_measure, mpegh_text_label_tally, text_label_read, text_label_write},
     {4, "multi_stream",
      {0, "top record", MPEGH_MULTI_STREAM_COLUMNS,
       {"this_stream_id", "main_present", "reserved_aux", "num_auxiliary_streams", "reserved_groups", "groups",
-       "trailing_offset", "trailing_length"}},
+       "trailing.offset", "trailing.length"}},
      MPEGH_MULTI_STREAM_TABLES,
      {{8, "groups", MPEGH_GROUP_COLUMNS,
        {"group_id", "is_in_main_stream", "auxiliary_present", "is_in_ts", "auxiliary_stream_id"}}},
@@ -119,7 +160,7 @@ static void print_row(const char *indent, const struct table *t, const uint16_t 
 {
     for (size_t i = 0; i < t->columns; i++) {
         size_t part = strlen(t->column[i]);
-        if (part > 7 && strcmp(t->column[i] + part - 7, "_offset") == 0) {
+        if (part > 7 && strcmp(t->column[i] + part - 7, ".offset") == 0) {
             printf("%s%.*s: at %u, length %u:", indent, (int)(part - 7), t->column[i], row[i], row[i + 1]);
             print_bytes(body + row[i], row[i + 1]);
             printf("\n");

@@ -1,5 +1,5 @@
 /*
- * The MPEG-H 3D audio descriptor bodies of Rec. ITU-T H.222.0 for C and C++: base (kind 1), text label (3), multi-stream (4).
+ * The MPEG-H 3D audio descriptor bodies of Rec. ITU-T H.222.0 for C and C++: base (kind 1), scene (2), text label (3), multi-stream (4).
  * Link with target/staticlib/libmpegh_c.a (`rt staticlib mpegh_c`, x86-64). Of the C library the archive needs memmove and nothing else.
  *
  * Every kind has four functions:
@@ -190,6 +190,418 @@ static inline uint64_t mpegh_base_write_from(
         m->profile_level_indication, m->interactivity_enabled, m->compatible_sets_present, m->compatible_sets.offset,
         m->compatible_sets.length, m->reserved_flags, m->reserved_layout, m->reference_channel_layout, m->trailing.offset,
         m->trailing.length, store, store_length, out, out_length);
+}
+
+/* ----------------------------------------------------- kind 2: scene */
+
+enum {
+    MPEGH_SCENE_COLUMNS = 13,       /* of the top record */
+    MPEGH_SCENE_TABLES = 5,         /* 1 to 5, as below: the columns that measure puts into `rows` */
+    MPEGH_SCENE_GROUP_COLUMNS = 27, /* of a row of table 1 */
+    MPEGH_SWITCH_GROUP_COLUMNS = 9, /* of a row of table 2 */
+    MPEGH_MEMBER_COLUMNS = 2,       /* of a row of table 3 */
+    MPEGH_PRESET_COLUMNS = 7,       /* of a row of table 4 */
+    MPEGH_CONDITION_COLUMNS = 13,   /* of a row of table 5 */
+    MPEGH_MOST_SCENE_GROUPS = 127,  /* no body has more rows */
+    MPEGH_MOST_SWITCH_GROUPS = 31,
+    MPEGH_MOST_MEMBERS = 992, /* 31 switch groups of 32 members */
+    MPEGH_MOST_PRESETS = 31,
+    MPEGH_MOST_CONDITIONS = 496 /* 31 presets of 16 conditions */
+};
+
+/*
+ * The top record (the Rust's MpegH3dAudioScene). Its groups, switch groups and presets are the first rows of tables 1, 2 and 4. A section may
+ * be present and empty. Where it is not present its count is 0 and its reserved bits are 1s; writing looks at neither then.
+ */
+struct mpegh_scene {
+    uint8_t reserved_flags; /* 5 bits */
+    uint8_t scene_info_id;
+    bool groups_present;
+    uint16_t groups;                /* their count */
+    uint8_t reserved_switch_groups; /* 3 bits */
+    bool switch_groups_present;
+    uint16_t switch_groups;   /* their count */
+    uint8_t reserved_presets; /* 3 bits */
+    bool presets_present;
+    uint16_t presets;        /* their count */
+    uint8_t reserved_groups; /* 1 bit */
+    struct mpegh_payload trailing;
+};
+
+/* In the rows below a part is there where the flag before it is 1. Where that is 0 its columns are 0, and writing does not look at them. */
+
+struct mpegh_position_interactivity {
+    uint16_t reserved_min_az; /* 1 bit */
+    uint16_t min_az_offset;   /* 7 bits */
+    uint16_t reserved_max_az; /* 1 bit */
+    uint16_t max_az_offset;   /* 7 bits */
+    uint16_t reserved_min_el; /* 3 bits */
+    uint16_t min_el_offset;   /* 5 bits */
+    uint16_t reserved_max_el; /* 3 bits */
+    uint16_t max_el_offset;   /* 5 bits */
+    uint16_t min_dist_offset; /* 4 bits */
+    uint16_t max_dist_offset; /* 4 bits */
+};
+
+struct mpegh_gain_interactivity {
+    uint16_t reserved_min; /* 2 bits */
+    uint16_t min_gain;     /* 6 bits */
+    uint16_t reserved_max; /* 3 bits */
+    uint16_t max_gain;     /* 5 bits */
+};
+
+/* A row of table 1. */
+struct mpegh_scene_group {
+    uint16_t reserved_id;      /* 1 bit */
+    uint16_t group_id;         /* 7 bits */
+    uint16_t reserved_flags;   /* 3 bits */
+    uint16_t allow_on_off;     /* 0 or 1 */
+    uint16_t default_on_off;   /* 0 or 1 */
+    uint16_t reserved_kind;    /* 4 bits */
+    uint16_t content_kind;     /* 4 bits */
+    uint16_t position_present; /* 0 or 1 */
+    struct mpegh_position_interactivity position;
+    uint16_t gain_present; /* 0 or 1 */
+    struct mpegh_gain_interactivity gain;
+    uint16_t content_language_present; /* 0 or 1 */
+    uint16_t content_language[3];      /* three characters of ISO 639-2 */
+};
+
+/* A row of table 2. Its members, 1 to 32, are rows of table 3. */
+struct mpegh_switch_group {
+    uint16_t reserved_id;      /* 1 bit */
+    uint16_t switch_group_id;  /* 5 bits */
+    uint16_t allow_on_off;     /* 0 or 1 */
+    uint16_t default_on_off;   /* 0 or 1 */
+    uint16_t reserved_members; /* 3 bits */
+    struct mpegh_range members;
+    uint16_t reserved_default; /* 1 bit */
+    uint16_t default_group_id; /* 7 bits */
+};
+
+/* A row of table 3. */
+struct mpegh_switch_group_member {
+    uint16_t reserved;  /* 1 bit */
+    uint16_t member_id; /* 7 bits */
+};
+
+/* A row of table 4. Its conditions, 1 to 16, are rows of table 5. */
+struct mpegh_group_preset {
+    uint16_t reserved_id;         /* 3 bits */
+    uint16_t preset_id;           /* 5 bits */
+    uint16_t reserved_kind;       /* 3 bits */
+    uint16_t preset_kind;         /* 5 bits */
+    uint16_t reserved_conditions; /* 4 bits */
+    struct mpegh_range conditions;
+};
+
+struct mpegh_preset_position {
+    uint16_t az_offset;     /* 8 bits */
+    uint16_t reserved_el;   /* 2 bits */
+    uint16_t el_offset;     /* 6 bits */
+    uint16_t reserved_dist; /* 4 bits */
+    uint16_t dist_factor;   /* 4 bits */
+};
+
+struct mpegh_preset_condition_detail {
+    uint16_t reserved;                       /* 4 bits */
+    uint16_t disable_gain_interactivity;     /* 0 or 1 */
+    uint16_t disable_position_interactivity; /* 0 or 1 */
+    uint16_t gain_present;                   /* 0 or 1 */
+    uint16_t gain;                           /* 8 bits */
+    uint16_t position_present;               /* 0 or 1 */
+    struct mpegh_preset_position position;
+};
+
+/* A row of table 5. */
+struct mpegh_preset_condition {
+    uint16_t group_id;       /* 7 bits */
+    uint16_t detail_present; /* 0 or 1 */
+    struct mpegh_preset_condition_detail detail;
+};
+
+/*
+ * Answers 0 and puts the top record into the first MPEGH_SCENE_COLUMNS columns of `top`, the groups into the first rows of `groups` (table 1),
+ * the switch groups into those of `switch_groups` (2), their members of `members` (3), the presets of `presets` (4) and their conditions
+ * of `conditions` (5), or refuses with 2, 1, or 3 (of table 0 to 5), judged in this order.
+ */
+uint64_t mpegh_scene_read(
+    const uint8_t *body, size_t body_length,
+    uint16_t *top, size_t top_length,
+    uint16_t *groups, size_t groups_length,
+    uint16_t *switch_groups, size_t switch_groups_length,
+    uint16_t *members, size_t members_length,
+    uint16_t *presets, size_t presets_length,
+    uint16_t *conditions, size_t conditions_length);
+
+/*
+ * Answers k and puts the rows needed of tables 1 to 5 into the first MPEGH_SCENE_TABLES columns of `rows`, or refuses with 2, 1, or 3 (table
+ * 0, 1 row) where `rows` is shorter, judged in this order.
+ */
+uint64_t mpegh_scene_measure(const uint8_t *body, size_t body_length, uint16_t *rows, size_t rows_length);
+
+/* Answers the number of reserved bits that are 0, or refuses with 2 or 1. */
+uint64_t mpegh_scene_tally(const uint8_t *body, size_t body_length);
+
+/*
+ * Answers the length and puts the body at the front of `out`, or refuses with the first of 5, 6 and 7 in the order of the body, then 10, then
+ * 4. So many rows of `groups`, `switch_groups` and `presets` are written as the counts say; switch groups may share rows of `members`,
+ * and presets rows of `conditions`.
+ */
+uint64_t mpegh_scene_write(
+    uint8_t reserved_flags,
+    uint8_t scene_info_id,
+    bool groups_present,
+    uint16_t groups_count,
+    uint8_t reserved_switch_groups,
+    bool switch_groups_present,
+    uint16_t switch_groups_count,
+    uint8_t reserved_presets,
+    bool presets_present,
+    uint16_t presets_count,
+    uint8_t reserved_groups,
+    uint16_t trailing_offset,
+    uint16_t trailing_length,
+    const uint16_t *groups, size_t groups_length,
+    const uint16_t *switch_groups, size_t switch_groups_length,
+    const uint16_t *members, size_t members_length,
+    const uint16_t *presets, size_t presets_length,
+    const uint16_t *conditions, size_t conditions_length,
+    const uint8_t *store, size_t store_length,
+    uint8_t *out, size_t out_length);
+
+/* The top record of columns that mpegh_scene_read filled. */
+static inline struct mpegh_scene mpegh_scene_of(const uint16_t *top)
+{
+    struct mpegh_scene m;
+    m.reserved_flags = (uint8_t)top[0];
+    m.scene_info_id = (uint8_t)top[1];
+    m.groups_present = top[2] != 0;
+    m.groups = top[3];
+    m.reserved_switch_groups = (uint8_t)top[4];
+    m.switch_groups_present = top[5] != 0;
+    m.switch_groups = top[6];
+    m.reserved_presets = (uint8_t)top[7];
+    m.presets_present = top[8] != 0;
+    m.presets = top[9];
+    m.reserved_groups = (uint8_t)top[10];
+    m.trailing = mpegh_payload_of(top + 11);
+    return m;
+}
+
+/* mpegh_scene_read into a struct. A refusal leaves it as it was. */
+static inline uint64_t mpegh_scene_read_into(
+    struct mpegh_scene *m, const uint8_t *body, size_t body_length,
+    uint16_t *groups, size_t groups_length,
+    uint16_t *switch_groups, size_t switch_groups_length,
+    uint16_t *members, size_t members_length,
+    uint16_t *presets, size_t presets_length,
+    uint16_t *conditions, size_t conditions_length)
+{
+    uint16_t top[MPEGH_SCENE_COLUMNS];
+    uint64_t answer = mpegh_scene_read(
+        body, body_length, top, MPEGH_SCENE_COLUMNS, groups, groups_length, switch_groups, switch_groups_length, members,
+        members_length, presets, presets_length, conditions, conditions_length);
+    if (mpegh_number(answer) == MPEGH_DONE)
+        *m = mpegh_scene_of(top);
+    return answer;
+}
+
+/* mpegh_scene_write from a struct. */
+static inline uint64_t mpegh_scene_write_from(
+    const struct mpegh_scene *m,
+    const uint16_t *groups, size_t groups_length,
+    const uint16_t *switch_groups, size_t switch_groups_length,
+    const uint16_t *members, size_t members_length,
+    const uint16_t *presets, size_t presets_length,
+    const uint16_t *conditions, size_t conditions_length,
+    const uint8_t *store, size_t store_length,
+    uint8_t *out, size_t out_length)
+{
+    return mpegh_scene_write(
+        m->reserved_flags, m->scene_info_id, m->groups_present, m->groups, m->reserved_switch_groups, m->switch_groups_present,
+        m->switch_groups, m->reserved_presets, m->presets_present, m->presets, m->reserved_groups, m->trailing.offset,
+        m->trailing.length, groups, groups_length, switch_groups, switch_groups_length, members, members_length, presets,
+        presets_length, conditions, conditions_length, store, store_length, out, out_length);
+}
+
+/* A row of table 1, counted from 0. */
+static inline struct mpegh_scene_group mpegh_scene_group_get(const uint16_t *groups, size_t row)
+{
+    const uint16_t *c = groups + row * MPEGH_SCENE_GROUP_COLUMNS;
+    struct mpegh_scene_group g;
+    g.reserved_id = c[0];
+    g.group_id = c[1];
+    g.reserved_flags = c[2];
+    g.allow_on_off = c[3];
+    g.default_on_off = c[4];
+    g.reserved_kind = c[5];
+    g.content_kind = c[6];
+    g.position_present = c[7];
+    g.position.reserved_min_az = c[8];
+    g.position.min_az_offset = c[9];
+    g.position.reserved_max_az = c[10];
+    g.position.max_az_offset = c[11];
+    g.position.reserved_min_el = c[12];
+    g.position.min_el_offset = c[13];
+    g.position.reserved_max_el = c[14];
+    g.position.max_el_offset = c[15];
+    g.position.min_dist_offset = c[16];
+    g.position.max_dist_offset = c[17];
+    g.gain_present = c[18];
+    g.gain.reserved_min = c[19];
+    g.gain.min_gain = c[20];
+    g.gain.reserved_max = c[21];
+    g.gain.max_gain = c[22];
+    g.content_language_present = c[23];
+    g.content_language[0] = c[24];
+    g.content_language[1] = c[25];
+    g.content_language[2] = c[26];
+    return g;
+}
+
+static inline void mpegh_scene_group_put(uint16_t *groups, size_t row, const struct mpegh_scene_group *g)
+{
+    uint16_t *c = groups + row * MPEGH_SCENE_GROUP_COLUMNS;
+    c[0] = g->reserved_id;
+    c[1] = g->group_id;
+    c[2] = g->reserved_flags;
+    c[3] = g->allow_on_off;
+    c[4] = g->default_on_off;
+    c[5] = g->reserved_kind;
+    c[6] = g->content_kind;
+    c[7] = g->position_present;
+    c[8] = g->position.reserved_min_az;
+    c[9] = g->position.min_az_offset;
+    c[10] = g->position.reserved_max_az;
+    c[11] = g->position.max_az_offset;
+    c[12] = g->position.reserved_min_el;
+    c[13] = g->position.min_el_offset;
+    c[14] = g->position.reserved_max_el;
+    c[15] = g->position.max_el_offset;
+    c[16] = g->position.min_dist_offset;
+    c[17] = g->position.max_dist_offset;
+    c[18] = g->gain_present;
+    c[19] = g->gain.reserved_min;
+    c[20] = g->gain.min_gain;
+    c[21] = g->gain.reserved_max;
+    c[22] = g->gain.max_gain;
+    c[23] = g->content_language_present;
+    c[24] = g->content_language[0];
+    c[25] = g->content_language[1];
+    c[26] = g->content_language[2];
+}
+
+/* A row of table 2, counted from 0. */
+static inline struct mpegh_switch_group mpegh_switch_group_get(const uint16_t *switch_groups, size_t row)
+{
+    const uint16_t *c = switch_groups + row * MPEGH_SWITCH_GROUP_COLUMNS;
+    struct mpegh_switch_group g;
+    g.reserved_id = c[0];
+    g.switch_group_id = c[1];
+    g.allow_on_off = c[2];
+    g.default_on_off = c[3];
+    g.reserved_members = c[4];
+    g.members = mpegh_range_of(c + 5);
+    g.reserved_default = c[7];
+    g.default_group_id = c[8];
+    return g;
+}
+
+static inline void mpegh_switch_group_put(uint16_t *switch_groups, size_t row, const struct mpegh_switch_group *g)
+{
+    uint16_t *c = switch_groups + row * MPEGH_SWITCH_GROUP_COLUMNS;
+    c[0] = g->reserved_id;
+    c[1] = g->switch_group_id;
+    c[2] = g->allow_on_off;
+    c[3] = g->default_on_off;
+    c[4] = g->reserved_members;
+    c[5] = g->members.first;
+    c[6] = g->members.count;
+    c[7] = g->reserved_default;
+    c[8] = g->default_group_id;
+}
+
+/* A row of table 3, counted from 0. */
+static inline struct mpegh_switch_group_member mpegh_switch_group_member_get(const uint16_t *members, size_t row)
+{
+    const uint16_t *c = members + row * MPEGH_MEMBER_COLUMNS;
+    struct mpegh_switch_group_member m;
+    m.reserved = c[0];
+    m.member_id = c[1];
+    return m;
+}
+
+static inline void mpegh_switch_group_member_put(uint16_t *members, size_t row, const struct mpegh_switch_group_member *m)
+{
+    uint16_t *c = members + row * MPEGH_MEMBER_COLUMNS;
+    c[0] = m->reserved;
+    c[1] = m->member_id;
+}
+
+/* A row of table 4, counted from 0. */
+static inline struct mpegh_group_preset mpegh_group_preset_get(const uint16_t *presets, size_t row)
+{
+    const uint16_t *c = presets + row * MPEGH_PRESET_COLUMNS;
+    struct mpegh_group_preset p;
+    p.reserved_id = c[0];
+    p.preset_id = c[1];
+    p.reserved_kind = c[2];
+    p.preset_kind = c[3];
+    p.reserved_conditions = c[4];
+    p.conditions = mpegh_range_of(c + 5);
+    return p;
+}
+
+static inline void mpegh_group_preset_put(uint16_t *presets, size_t row, const struct mpegh_group_preset *p)
+{
+    uint16_t *c = presets + row * MPEGH_PRESET_COLUMNS;
+    c[0] = p->reserved_id;
+    c[1] = p->preset_id;
+    c[2] = p->reserved_kind;
+    c[3] = p->preset_kind;
+    c[4] = p->reserved_conditions;
+    c[5] = p->conditions.first;
+    c[6] = p->conditions.count;
+}
+
+/* A row of table 5, counted from 0. */
+static inline struct mpegh_preset_condition mpegh_preset_condition_get(const uint16_t *conditions, size_t row)
+{
+    const uint16_t *c = conditions + row * MPEGH_CONDITION_COLUMNS;
+    struct mpegh_preset_condition p;
+    p.group_id = c[0];
+    p.detail_present = c[1];
+    p.detail.reserved = c[2];
+    p.detail.disable_gain_interactivity = c[3];
+    p.detail.disable_position_interactivity = c[4];
+    p.detail.gain_present = c[5];
+    p.detail.gain = c[6];
+    p.detail.position_present = c[7];
+    p.detail.position.az_offset = c[8];
+    p.detail.position.reserved_el = c[9];
+    p.detail.position.el_offset = c[10];
+    p.detail.position.reserved_dist = c[11];
+    p.detail.position.dist_factor = c[12];
+    return p;
+}
+
+static inline void mpegh_preset_condition_put(uint16_t *conditions, size_t row, const struct mpegh_preset_condition *p)
+{
+    uint16_t *c = conditions + row * MPEGH_CONDITION_COLUMNS;
+    c[0] = p->group_id;
+    c[1] = p->detail_present;
+    c[2] = p->detail.reserved;
+    c[3] = p->detail.disable_gain_interactivity;
+    c[4] = p->detail.disable_position_interactivity;
+    c[5] = p->detail.gain_present;
+    c[6] = p->detail.gain;
+    c[7] = p->detail.position_present;
+    c[8] = p->detail.position.az_offset;
+    c[9] = p->detail.position.reserved_el;
+    c[10] = p->detail.position.el_offset;
+    c[11] = p->detail.position.reserved_dist;
+    c[12] = p->detail.position.dist_factor;
 }
 
 /* ------------------------------------------------ kind 3: text label */
