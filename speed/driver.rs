@@ -7,7 +7,9 @@ extern crate alloc;
 mod rust;
 
 use rust::error;
-use rust::mpegh_3d_audio::{MpegH3dAudio, MpegH3dAudioMultiStream, MpegH3dAudioTextLabel, Reader};
+use rust::mpegh_3d_audio::{
+    MpegH3dAudio, MpegH3dAudioMultiStream, MpegH3dAudioScene, MpegH3dAudioTextLabel, Reader,
+};
 use std::hint::black_box;
 
 const FEW: usize = 10;
@@ -26,6 +28,51 @@ extern "C" {
         reference_channel_layout: u8,
         trailing_offset: u16,
         trailing_length: u16,
+        store: *const u8,
+        store_len: usize,
+        out: *mut u8,
+        out_len: usize,
+    ) -> u64;
+    fn mpegh_scene_read(
+        body: *const u8,
+        body_len: usize,
+        top: *mut u16,
+        top_len: usize,
+        groups: *mut u16,
+        groups_len: usize,
+        switch_groups: *mut u16,
+        switch_groups_len: usize,
+        members: *mut u16,
+        members_len: usize,
+        presets: *mut u16,
+        presets_len: usize,
+        conditions: *mut u16,
+        conditions_len: usize,
+    ) -> u64;
+    fn mpegh_scene_write(
+        reserved_flags: u8,
+        scene_info_id: u8,
+        groups_present: bool,
+        groups_count: u16,
+        reserved_switch_groups: u8,
+        switch_groups_present: bool,
+        switch_groups_count: u16,
+        reserved_presets: u8,
+        presets_present: bool,
+        presets_count: u16,
+        reserved_groups: u8,
+        trailing_offset: u16,
+        trailing_length: u16,
+        groups: *const u16,
+        groups_len: usize,
+        switch_groups: *const u16,
+        switch_groups_len: usize,
+        members: *const u16,
+        members_len: usize,
+        presets: *const u16,
+        presets_len: usize,
+        conditions: *const u16,
+        conditions_len: usize,
         store: *const u8,
         store_len: usize,
         out: *mut u8,
@@ -91,6 +138,8 @@ struct Lent {
 /// A kind of body, on both sides.
 trait Kind {
     type Value;
+    /// The number of `Error::InvalidDescriptor`, where the kind has it: 7 for an empty list, 9 for an auxiliary part that does not fit.
+    const INVALID: u64;
     fn parse(r: &mut Reader<'_>) -> error::Result<Self::Value>;
     fn write(value: &Self::Value, out: &mut Vec<u8>) -> error::Result<()>;
     fn our_read(body: &[u8], lent: &mut Lent) -> u64;
@@ -103,6 +152,7 @@ struct Base;
 
 impl Kind for Base {
     type Value = MpegH3dAudio;
+    const INVALID: u64 = 0;
     #[inline(always)]
     fn parse(r: &mut Reader<'_>) -> error::Result<MpegH3dAudio> {
         MpegH3dAudio::parse(r)
@@ -149,10 +199,115 @@ impl Kind for Base {
     }
 }
 
+struct Scene;
+
+impl Kind for Scene {
+    type Value = MpegH3dAudioScene;
+    const INVALID: u64 = 7;
+    #[inline(always)]
+    fn parse(r: &mut Reader<'_>) -> error::Result<MpegH3dAudioScene> {
+        MpegH3dAudioScene::parse(r)
+    }
+    #[inline(always)]
+    fn write(value: &MpegH3dAudioScene, out: &mut Vec<u8>) -> error::Result<()> {
+        value.write(out)
+    }
+    #[inline(always)]
+    fn our_read(body: &[u8], lent: &mut Lent) -> u64 {
+        let top = &mut lent.top;
+        let [groups, switch_groups, members, presets, conditions] = &mut lent.tables;
+        unsafe {
+            mpegh_scene_read(
+                body.as_ptr(),
+                body.len(),
+                top.as_mut_ptr(),
+                top.len(),
+                groups.as_mut_ptr(),
+                groups.len(),
+                switch_groups.as_mut_ptr(),
+                switch_groups.len(),
+                members.as_mut_ptr(),
+                members.len(),
+                presets.as_mut_ptr(),
+                presets.len(),
+                conditions.as_mut_ptr(),
+                conditions.len(),
+            )
+        }
+    }
+    #[inline(always)]
+    fn our_write(lent: &Lent, store: &[u8], out: &mut [u8]) -> u64 {
+        let t = &lent.top;
+        let [groups, switch_groups, members, presets, conditions] = &lent.tables;
+        unsafe {
+            mpegh_scene_write(
+                t[0] as u8,
+                t[1] as u8,
+                t[2] != 0,
+                t[3],
+                t[4] as u8,
+                t[5] != 0,
+                t[6],
+                t[7] as u8,
+                t[8] != 0,
+                t[9],
+                t[10] as u8,
+                t[11],
+                t[12],
+                groups.as_ptr(),
+                groups.len(),
+                switch_groups.as_ptr(),
+                switch_groups.len(),
+                members.as_ptr(),
+                members.len(),
+                presets.as_ptr(),
+                presets.len(),
+                conditions.as_ptr(),
+                conditions.len(),
+                store.as_ptr(),
+                store.len(),
+                out.as_mut_ptr(),
+                out.len(),
+            )
+        }
+    }
+    fn spoil(fault: &str, value: &mut MpegH3dAudioScene, lent: &mut Lent) {
+        let last = |count: usize| usize::from(lent.top[count]).saturating_sub(1);
+        let (group, switch_group, preset) = (27 * last(3), 9 * last(6), 7 * last(9));
+        let [groups, switch_groups, _, presets, conditions] = &mut lent.tables;
+        match fault {
+            "group" => {
+                let list = value.groups.as_mut().unwrap();
+                list.last_mut().unwrap().content_kind = 16;
+                groups[group + 6] = 16;
+            }
+            "default" => {
+                let list = value.switch_groups.as_mut().unwrap();
+                list.last_mut().unwrap().default_group_id = 128;
+                switch_groups[switch_group + 8] = 128;
+            }
+            "field" | "empty" => {
+                let list = value.presets.as_mut().unwrap();
+                let last = &mut list.last_mut().unwrap().conditions;
+                if fault == "empty" {
+                    last.clear();
+                    presets[preset + 6] = 0;
+                } else {
+                    last.last_mut().unwrap().group_id = 128;
+                    let end = presets[preset + 5] + presets[preset + 6];
+                    conditions[13 * (usize::from(end) - 1)] = 128;
+                }
+            }
+            _ => panic!("the scene body has no fault {fault}"),
+        }
+    }
+}
+
 struct TextLabel;
 
 impl Kind for TextLabel {
     type Value = MpegH3dAudioTextLabel;
+    const INVALID: u64 = 0;
     #[inline(always)]
     fn parse(r: &mut Reader<'_>) -> error::Result<MpegH3dAudioTextLabel> {
         MpegH3dAudioTextLabel::parse(r)
@@ -220,6 +375,7 @@ struct MultiStream;
 
 impl Kind for MultiStream {
     type Value = MpegH3dAudioMultiStream;
+    const INVALID: u64 = 9;
     #[inline(always)]
     fn parse(r: &mut Reader<'_>) -> error::Result<MpegH3dAudioMultiStream> {
         MpegH3dAudioMultiStream::parse(r)
@@ -284,11 +440,11 @@ impl Kind for MultiStream {
 }
 
 /// The number of the Rust's answer, with the need of number 1. It does not name the place of a fault in a value.
-fn number(e: error::Error) -> u64 {
+fn number<K: Kind>(e: error::Error) -> u64 {
     match e {
         error::Error::BufferTooShort { need, .. } => 1 | (need as u64) << 8,
         error::Error::FieldOverflow(_) => 5,
-        error::Error::InvalidDescriptor { .. } => 9,
+        error::Error::InvalidDescriptor { .. } => K::INVALID,
     }
 }
 
@@ -300,7 +456,7 @@ fn rust_read<K: Kind>(body: &[u8]) -> u64 {
             black_box(&value);
             0
         }
-        Err(e) => number(e),
+        Err(e) => number::<K>(e),
     }
 }
 
@@ -320,7 +476,7 @@ fn rust_write_reserved<K: Kind>(value: &K::Value, room: usize) -> u64 {
 fn written<K: Kind>(value: &K::Value, mut out: Vec<u8>) -> u64 {
     match K::write(value, &mut out) {
         Ok(()) => (black_box(&out).len() as u64) << 8,
-        Err(e) => number(e),
+        Err(e) => number::<K>(e),
     }
 }
 
@@ -420,6 +576,7 @@ fn main() {
     let body = bytes(&mut words);
     match kind {
         "1" => measure::<Base>(fault, &body),
+        "2" => measure::<Scene>(fault, &body),
         "3" => measure::<TextLabel>(fault, &body),
         "4" => measure::<MultiStream>(fault, &body),
         _ => panic!("no kind {kind}"),
