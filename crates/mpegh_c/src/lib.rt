@@ -2,4 +2,5 @@
 pub mod base_body;
 pub mod codes;
 pub mod multi_stream_body;
+pub mod scene_body;
 pub mod text_label_body;
