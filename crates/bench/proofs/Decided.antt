@@ -10,7 +10,7 @@ use Rattle.frame.specs.Numbers.{Answer, numbered}
 use Rattle.frame.specs.Kind.{Kind}
 use Rattle.frame.specs.Entry.{Sizes, measuring, tallying}
 use Rattle.bench.specs.declared.line.Line.{Line}
-use Rattle.bench.specs.Line.{refusedLine, tooLongLine, judgedLine, bodyLine, baseLine, textLabelLine, multiStreamLine, kindLine, lineOf}
+use Rattle.bench.specs.Line.{refusedLine, tooLongLine, judgedLine, bodyLine, baseLine, sceneLine, textLabelLine, multiStreamLine, kindLine, lineOf}
 
 pub nothing : (s : List ℕ) → length s ≡ 0 → lineOf s ≡ refusedLine (numbered 11 (0 ∷ []))
 unfolding lineOf kindLine
@@ -28,17 +28,21 @@ is-1 : (k : ℕ) (body : List ℕ) → k ≡ 1 → kindLine k body ≡ baseLine 
 unfolding kindLine
 is-1 k body e = rw (eq-eqb k 1 e, kindLine) refl
 
-is-3 : (k : ℕ) (body : List ℕ) → (k ≡ 1 → ⊥) → k ≡ 3 → kindLine k body ≡ textLabelLine body
+is-2 : (k : ℕ) (body : List ℕ) → (k ≡ 1 → ⊥) → k ≡ 2 → kindLine k body ≡ sceneLine body
 unfolding kindLine
-is-3 k body n e = rw (ne-eqb k 1 n, eq-eqb k 3 e, kindLine) refl
+is-2 k body n e = rw (ne-eqb k 1 n, eq-eqb k 2 e, kindLine) refl
 
-is-4 : (k : ℕ) (body : List ℕ) → (k ≡ 1 → ⊥) → (k ≡ 3 → ⊥) → k ≡ 4 → kindLine k body ≡ multiStreamLine body
+is-3 : (k : ℕ) (body : List ℕ) → (k ≡ 1 → ⊥) → (k ≡ 2 → ⊥) → k ≡ 3 → kindLine k body ≡ textLabelLine body
 unfolding kindLine
-is-4 k body n m e = rw (ne-eqb k 1 n, ne-eqb k 3 m, eq-eqb k 4 e, kindLine) refl
+is-3 k body n m e = rw (ne-eqb k 1 n, ne-eqb k 2 m, eq-eqb k 3 e, kindLine) refl
 
-is-other : (k : ℕ) (body : List ℕ) → (k ≡ 1 → ⊥) → (k ≡ 3 → ⊥) → (k ≡ 4 → ⊥) → kindLine k body ≡ refusedLine (numbered 11 (k ∷ []))
+is-4 : (k : ℕ) (body : List ℕ) → (k ≡ 1 → ⊥) → (k ≡ 2 → ⊥) → (k ≡ 3 → ⊥) → k ≡ 4 → kindLine k body ≡ multiStreamLine body
 unfolding kindLine
-is-other k body n m o = rw (ne-eqb k 1 n, ne-eqb k 3 m, ne-eqb k 4 o, kindLine) refl
+is-4 k body n m o e = rw (ne-eqb k 1 n, ne-eqb k 2 m, ne-eqb k 3 o, eq-eqb k 4 e, kindLine) refl
+
+is-other : (k : ℕ) (body : List ℕ) → (k ≡ 1 → ⊥) → (k ≡ 2 → ⊥) → (k ≡ 3 → ⊥) → (k ≡ 4 → ⊥) → kindLine k body ≡ refusedLine (numbered 11 (k ∷ []))
+unfolding kindLine
+is-other k body n m o p = rw (ne-eqb k 1 n, ne-eqb k 2 m, ne-eqb k 3 o, ne-eqb k 4 p, kindLine) refl
 
 -- the body is lent as the part of the input behind the kind byte
 module _ (s : List ℕ) {k : ℕ} (h : 0 < length s) (e : k ≡ getD s 0 0) where
@@ -50,14 +54,17 @@ module _ (s : List ℕ) {k : ℕ} (h : 0 < length s) (e : k ≡ getD s 0 0) wher
   pub as-base : {line : Line} → k ≡ 1 → line ≡ baseLine (take (length s - 1) (drop 1 s)) → line ≡ lineOf s
   as-base {line} q r = by-kind line baseLine (is-1 k (drop 1 s) q) r
 
-  pub as-text-label : {line : Line} → (k ≡ 1 → ⊥) → k ≡ 3 → line ≡ textLabelLine (take (length s - 1) (drop 1 s)) → line ≡ lineOf s
-  as-text-label {line} n q r = by-kind line textLabelLine (is-3 k (drop 1 s) n q) r
+  pub as-scene : {line : Line} → (k ≡ 1 → ⊥) → k ≡ 2 → line ≡ sceneLine (take (length s - 1) (drop 1 s)) → line ≡ lineOf s
+  as-scene {line} n q r = by-kind line sceneLine (is-2 k (drop 1 s) n q) r
 
-  pub as-multi-stream : {line : Line} → (k ≡ 1 → ⊥) → (k ≡ 3 → ⊥) → k ≡ 4 → line ≡ multiStreamLine (take (length s - 1) (drop 1 s)) → line ≡ lineOf s
-  as-multi-stream {line} n m q r = by-kind line multiStreamLine (is-4 k (drop 1 s) n m q) r
+  pub as-text-label : {line : Line} → (k ≡ 1 → ⊥) → (k ≡ 2 → ⊥) → k ≡ 3 → line ≡ textLabelLine (take (length s - 1) (drop 1 s)) → line ≡ lineOf s
+  as-text-label {line} n m q r = by-kind line textLabelLine (is-3 k (drop 1 s) n m q) r
 
-  pub unknown : {line : Line} → (k ≡ 1 → ⊥) → (k ≡ 3 → ⊥) → (k ≡ 4 → ⊥) → line ≡ refusedLine (numbered 11 (k ∷ [])) → line ≡ lineOf s
-  unknown {line} n m o r = by-kind line (λ body. refusedLine (numbered 11 (k ∷ []))) (is-other k (drop 1 s) n m o) r
+  pub as-multi-stream : {line : Line} → (k ≡ 1 → ⊥) → (k ≡ 2 → ⊥) → (k ≡ 3 → ⊥) → k ≡ 4 → line ≡ multiStreamLine (take (length s - 1) (drop 1 s)) → line ≡ lineOf s
+  as-multi-stream {line} n m o q r = by-kind line multiStreamLine (is-4 k (drop 1 s) n m o q) r
+
+  pub unknown : {line : Line} → (k ≡ 1 → ⊥) → (k ≡ 2 → ⊥) → (k ≡ 3 → ⊥) → (k ≡ 4 → ⊥) → line ≡ refusedLine (numbered 11 (k ∷ [])) → line ≡ lineOf s
+  unknown {line} n m o p r = by-kind line (λ body. refusedLine (numbered 11 (k ∷ []))) (is-other k (drop 1 s) n m o p) r
 
 -- ---- a body
 

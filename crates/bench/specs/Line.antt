@@ -8,6 +8,7 @@ use Rattle.frame.specs.Numbers.{Numbered, numbered, Answer, accepted, refused}
 use Rattle.frame.specs.Kind.{Kind}
 use Rattle.frame.specs.Entry.{Sizes, measuring, tallying}
 use Rattle.base.specs.Write as Base
+use Rattle.scene_kind.specs.Kind as Scene
 use Rattle.text_label.specs.Write as TextLabel
 use Rattle.multi_stream.specs.Write as MultiStream
 use Rattle.bench.specs.declared.line.Line.{Line}
@@ -35,21 +36,27 @@ bodyLine K body = elim (leb (length body) 4096) [ true ↦ judgedLine (measuring
 abbrev pub baseLine : List ℕ → Line
 baseLine body = bodyLine Base.kind body
 
+abbrev pub sceneLine : List ℕ → Line
+sceneLine body = bodyLine Scene.kind body
+
 abbrev pub textLabelLine : List ℕ → Line
 textLabelLine body = bodyLine TextLabel.kind body
 
 abbrev pub multiStreamLine : List ℕ → Line
 multiStreamLine body = bodyLine MultiStream.kind body
 
--- the kinds that exist: 1 base, 3 text label, 4 multi-stream
+-- the kinds that exist: 1 base, 2 scene, 3 text label, 4 multi-stream
 unfoldable pub kindLine : ℕ → List ℕ → Line
 kindLine k body = elim (eqb k 1) [
   | true ↦ baseLine body
-  | false ↦ elim (eqb k 3) [
-    | true ↦ textLabelLine body
-    | false ↦ elim (eqb k 4) [
-      | true ↦ multiStreamLine body
-      | false ↦ refusedLine (numbered 11 (k ∷ []))
+  | false ↦ elim (eqb k 2) [
+    | true ↦ sceneLine body
+    | false ↦ elim (eqb k 3) [
+      | true ↦ textLabelLine body
+      | false ↦ elim (eqb k 4) [
+        | true ↦ multiStreamLine body
+        | false ↦ refusedLine (numbered 11 (k ∷ []))
+      ]
     ]
   ]
 ]

@@ -1,7 +1,7 @@
 // The four numbers that the bench program prints (document 01, "The bench program"), decided from its input: one kind byte, then the body.
 ghost use mathlib.Core.Path.{_≡_};
 ghost use Rattle.frame.specs.Numbers.{refusal, tallied};
-ghost use Rattle.bench.specs.Line.{lineOf, baseLine, textLabelLine, multiStreamLine, talliedLine, refusedLine, tooLongLine};
+ghost use Rattle.bench.specs.Line.{lineOf, baseLine, sceneLine, textLabelLine, multiStreamLine, talliedLine, refusedLine, tooLongLine};
 use frame::Refusal;
 use frame::Tallied;
 
@@ -23,6 +23,9 @@ pub fn decide(input: &[u8]) -> Line
     let kind = wire::bits::wide(input[0]);
     if kind == 1 {
         return base_line(&input[1..]);
+    }
+    if kind == 2 {
+        return scene_line(&input[1..]);
     }
     if kind == 3 {
         return text_label_line(&input[1..]);
@@ -46,6 +49,20 @@ fn base_line(body: &[u8]) -> Line
     match m {
         base::Measured::Refused(r) => refusal_line(r),
         base::Measured::Done(s) => tallied_line(s.k, t),
+    }
+}
+
+fn scene_line(body: &[u8]) -> Line
+    ensures { λ r. ⌜ r ≡ sceneLine (now (body .entry)) ⌝ }
+{
+    if 4096 < body.len() {
+        return too_long();
+    }
+    let m = scene::measure(body);
+    let t = scene::tally(body);
+    match m {
+        scene::Measured::Refused(r) => refusal_line(r),
+        scene::Measured::Done(s) => tallied_line(s.k, t),
     }
 }
 

@@ -1,7 +1,7 @@
 -- `bench::line::decide` meets its contract: each test of the code is one of the definition.
 use mathlib.Core.Path.{sym, _∙_}
 use native.Mathlib.Omega.{arith}
-use Rattle.bench.proofs.Decided.{nothing, as-base, as-text-label, as-multi-stream, unknown}
+use Rattle.bench.proofs.Decided.{nothing, as-base, as-scene, as-text-label, as-multi-stream, unknown}
 use borrow.Author.Needs.{needs}
 use Rattle.bench.proofs.line.decide.Statement.{statement}
 use Rattle.bench.proofs.line.decide.Tie as tie
@@ -35,6 +35,22 @@ returns-2 : tie.Need-returns-2
 returns-2 c =
     as-base _ (omega arith) (c .before .before .before .wide .ensures) (c .before .before .if2 .taken) (c .base-line .ensures)
 
+sub-scene-line : tie.Need-sub-scene-line
+sub-scene-line c = search needs
+
+part-scene-line-start : tie.Need-part-scene-line-start
+part-scene-line-start c = search needs
+
+part-scene-line-end : tie.Need-part-scene-line-end
+part-scene-line-end c = search needs
+
+scene-line-requires : tie.Need-scene-line-requires
+scene-line-requires c κs = search needs
+
+returns-3 : tie.Need-returns-3
+returns-3 c =
+    as-scene _ (omega arith) (c .before .before .before .before .wide .ensures) (c .before .before .before .if2 .left) (c .before .before .if3 .taken) (c .scene-line .ensures)
+
 sub-text-label-line : tie.Need-sub-text-label-line
 sub-text-label-line c = search needs
 
@@ -47,9 +63,9 @@ part-text-label-line-end c = search needs
 text-label-line-requires : tie.Need-text-label-line-requires
 text-label-line-requires c κs = search needs
 
-returns-3 : tie.Need-returns-3
-returns-3 c =
-    as-text-label _ (omega arith) (c .before .before .before .before .wide .ensures) (c .before .before .before .if2 .left) (c .before .before .if3 .taken) (c .text-label-line .ensures)
+returns-4 : tie.Need-returns-4
+returns-4 c =
+    as-text-label _ (omega arith) (c .before .before .before .before .before .wide .ensures) (c .before .before .before .before .if2 .left) (c .before .before .before .if3 .left) (c .before .before .if4 .taken) (c .text-label-line .ensures)
 
 sub-multi-stream-line : tie.Need-sub-multi-stream-line
 sub-multi-stream-line c = search needs
@@ -63,9 +79,9 @@ part-multi-stream-line-end c = search needs
 multi-stream-line-requires : tie.Need-multi-stream-line-requires
 multi-stream-line-requires c κs = search needs
 
-returns-4 : tie.Need-returns-4
-returns-4 c =
-    as-multi-stream _ (omega arith) (c .before .before .before .before .before .wide .ensures) (c .before .before .before .before .if2 .left) (c .before .before .before .if3 .left) (c .before .before .if4 .taken) (c .multi-stream-line .ensures)
+returns-5 : tie.Need-returns-5
+returns-5 c =
+    as-multi-stream _ (omega arith) (c .before .before .before .before .before .before .wide .ensures) (c .before .before .before .before .before .if2 .left) (c .before .before .before .before .if3 .left) (c .before .before .before .if4 .left) (c .before .before .if5 .taken) (c .multi-stream-line .ensures)
 
 cast-refused : tie.Need-cast-refused
 cast-refused c = search needs
@@ -73,9 +89,9 @@ cast-refused c = search needs
 refused-requires-2 : tie.Need-refused-requires-2
 refused-requires-2 c κs = search needs
 
-returns-5 : tie.Need-returns-5
-returns-5 c =
-    unknown _ (omega arith) (c .before .before .before .before .wide .ensures) (c .before .before .before .if2 .left) (c .before .before .if3 .left) (c .before .if4 .left) (c .refused2 .ensures)
+returns-6 : tie.Need-returns-6
+returns-6 c =
+    unknown _ (omega arith) (c .before .before .before .before .before .wide .ensures) (c .before .before .before .before .if2 .left) (c .before .before .before .if3 .left) (c .before .before .if4 .left) (c .before .if5 .left) (c .refused2 .ensures)
 
 pub decide-spec : {M : Type 1} → statement M
 decide-spec =
@@ -90,16 +106,21 @@ decide-spec =
     part-base-line-end
     base-line-requires
     returns-2
+    sub-scene-line
+    part-scene-line-start
+    part-scene-line-end
+    scene-line-requires
+    returns-3
     sub-text-label-line
     part-text-label-line-start
     part-text-label-line-end
     text-label-line-requires
-    returns-3
+    returns-4
     sub-multi-stream-line
     part-multi-stream-line-start
     part-multi-stream-line-end
     multi-stream-line-requires
-    returns-4
+    returns-5
     cast-refused
     refused-requires-2
-    returns-5)
+    returns-6)
