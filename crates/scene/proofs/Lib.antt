@@ -1,3 +1,4 @@
+pub mod Bodies
 pub mod Sections
 pub mod Walked
 pub mod Found
