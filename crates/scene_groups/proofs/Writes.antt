@@ -44,7 +44,7 @@ headBytes g = fieldsOf g (idCells ∷ flagCells ∷ contentCells ∷ [])
 abbrev pub plainActs : Columns → List Act
 plainActs g = demand F.Field (flagsOf g) ∷ demand F.Empty true ∷ (map byte (headBytes g) ++ partActs g)
 
--- none of them is a flag or a count
+-- no cell of a part is a flag or a count
 no-flags : (g : Columns) (x y z : Bool) → every flagged g (partCells x y z) ≡ true
 unfolding every flatten
 no-flags g true true true = refl
