@@ -35,9 +35,9 @@ use Rattle.scene_kind.specs.Rows.{tables}
 use Rattle.scene_kind.specs.Kind as K
 use Rattle.scene_kind.specs.Kind.{kind}
 use Rattle.scene.specs.Contract.{sized}
-use Rattle.scene.specs.Walk.{rowsAt, countAt, reservedAt, reservedZeros, groupsFlag, switchesFlag, presetsFlag, Found, tree, Recorded, Counted, Zeros, Rooms, Stored}
+use Rattle.scene.specs.Walk.{Flags, rowsAt, countAt, reservedAt, reservedZeros, groupsFlag, switchesFlag, presetsFlag, Found, tree, Recorded, Counted, Zeros, Rooms, Stored}
 use Rattle.scene.proofs.Walked.{found-reads}
-use Rattle.scene.proofs.Found.{Flags, groups-stand, switches-stand, presets-stand, measures-found, reads-found}
+use Rattle.scene.proofs.Found.{groups-stand, switches-stand, presets-stand, measures-found, reads-found}
 
 -- ---- the sizes, and the room
 

@@ -23,7 +23,7 @@ use Rattle.scene_kind.specs.declared.rows.MpegH3dAudioScene.{MpegH3dAudioScene}
 use Rattle.scene_kind.specs.Rows.{section, tables, needed}
 use Rattle.scene_kind.specs.Read.{all}
 use Rattle.scene_kind.specs.Kind.{kind}
-use Rattle.scene.specs.Walk.{rowsAt, countAt, reservedAt, groupsFlag, switchesFlag, presetsFlag, Found, tree, Recorded, Counted}
+use Rattle.scene.specs.Walk.{Flags, rowsAt, countAt, reservedAt, groupsFlag, switchesFlag, presetsFlag, Found, tree, Recorded, Counted}
 use Rattle.scene_kind.proofs.Format.{switchRows, presetRows}
 use Rattle.scene.proofs.Sections.{Stands, stands}
 use Rattle.scene.proofs.Walked.{found-reads}
@@ -77,11 +77,6 @@ module _ {s : List ℕ} {p : Places} (f : Found s p) where
 -- ---- the record and the sizes, from the bytes
 
 -- flags as code has them
-pub record Flags (s : List ℕ) (g t q : ℕ) : Type 0 where
-  pub of-groups : g ≡ groupsFlag s
-  pub of-switches : t ≡ switchesFlag s
-  pub of-presets : q ≡ presetsFlag s
-
 pub flags-so : {s : List ℕ} {v g t q : ℕ} → v ≡ getD s 0 0 → g ≡ part 7 1 v → t ≡ part 6 1 v → q ≡ part 5 1 v → Flags s g t q
 flags-so e a b c = record { of-groups = a ∙ ap (part 7 1) e; of-switches = b ∙ ap (part 6 1) e; of-presets = c ∙ ap (part 5 1) e }
 

@@ -5,4 +5,5 @@ pub mod Found
 pub mod Stored
 pub mod Answers
 pub mod Writes
+pub mod Bare
 pub mod Claims

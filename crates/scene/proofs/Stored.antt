@@ -23,11 +23,11 @@ use Rattle.presets.specs.Layout.{preset, presets}
 use Rattle.scene.specs.declared.parsing.Places.{Places}
 use Rattle.scene_kind.specs.Rows.{tables}
 use Rattle.scene_kind.specs.Kind.{parse}
-use Rattle.scene.specs.Walk.{rowsAt, countAt, groupsFlag, switchesFlag, presetsFlag, Found, tree, Rooms, Stored}
+use Rattle.scene.specs.Walk.{Flags, rowsAt, countAt, groupsFlag, switchesFlag, presetsFlag, Found, tree, Rooms, Stored}
 use Rattle.scene_kind.proofs.Format.{switchRows, presetRows}
 use Rattle.scene_kind.proofs.Laws.{Few, few}
 use Rattle.scene.proofs.Walked.{found-reads}
-use Rattle.scene.proofs.Found.{Flags, groups-stand, switches-stand, presets-stand, groups-counted, switches-counted, presets-counted, at-presets, at-switches}
+use Rattle.scene.proofs.Found.{groups-stand, switches-stand, presets-stand, groups-counted, switches-counted, presets-counted, at-presets, at-switches}
 
 -- ---- rows at the front of a table
 

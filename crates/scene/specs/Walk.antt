@@ -15,6 +15,8 @@ use Rattle.scene_groups.specs.Layout.{group}
 use Rattle.switch_groups.specs.Layout.{switchGroups}
 use Rattle.presets.specs.Layout.{presets}
 use Rattle.scene.specs.declared.parsing.Places.{Places}
+use Rattle.scene.specs.declared.parsing.Look.{Look}
+use Rattle.scene.specs.declared.parsing.Look.the-variants as L
 use Rattle.scene.specs.declared.parsing.Walk.{Walk}
 use Rattle.scene.specs.declared.parsing.Walk.the-variants as W
 use Rattle.scene_kind.specs.declared.rows.MpegH3dAudioScene.{MpegH3dAudioScene}
@@ -47,6 +49,12 @@ switchesFlag s = part 6 1 (getD s 0 0)
 
 abbrev pub presetsFlag : List ℕ → ℕ
 presetsFlag s = part 5 1 (getD s 0 0)
+
+-- the flags as code has them
+pub record Flags (s : List ℕ) (g t q : ℕ) : Type 0 where
+  pub of-groups : g ≡ groupsFlag s
+  pub of-switches : t ≡ switchesFlag s
+  pub of-presets : q ≡ presetsFlag s
 
 -- each section is read where the one before it ends
 pub record Found (s : List ℕ) (p : Places) : Type 0 where
@@ -95,3 +103,18 @@ walks s (W.Short x) = run parse s 0 ≡ short x
 
 pub record Walks (s : List ℕ) (r : Walk) : Type 0 where
   pub finds : walks s r
+
+-- sections that have no rows
+pub record Bare (s : List ℕ) (p : Places) : Type 0 where
+  pub found : Found s p
+  pub no-groups : found .in-groups .rows ≡ []
+  pub no-switches : found .in-switches .rows ≡ []
+  pub no-presets : found .in-presets .rows ≡ []
+
+abbrev pub looks : List ℕ → Look → Type 0
+looks s (L.Bare p) = Bare s p
+looks s (L.Short x) = run parse s 0 ≡ short x
+looks s L.Rows = 2 ≤ length s
+
+pub record Looks (s : List ℕ) (r : Look) : Type 0 where
+  pub sees : looks s r

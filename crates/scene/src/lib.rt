@@ -21,6 +21,7 @@ use frame::Room;
 use frame::Tallied;
 use frame::Written;
 use frame::and_table;
+use parsing::Look;
 use parsing::Places;
 use parsing::Walk;
 use presets::rows::PRESET_COLUMNS;
@@ -78,6 +79,26 @@ pub fn read(
     if 65535 < body.len() {
         return Reading::Refused(Refusal::TooLong(body.len()));
     }
+    let l = parsing::first_look(body);
+    match l {
+        Look::Bare(p) => Reading::Done(parsing::record_at(body, p)),
+        Look::Short(x) => Reading::Refused(Refusal::Short(x)),
+        Look::Rows => read_rows(body, groups, switch_groups, members, presets, conditions),
+    }
+}
+
+// The record of a body that may have rows.
+fn read_rows(
+    body: &[u8],
+    groups: &mut [u16],
+    switch_groups: &mut [u16],
+    members: &mut [u16],
+    presets: &mut [u16],
+    conditions: &mut [u16],
+) -> Reading
+    requires { ⌜ length (now body) < 2 ^ 16 ⌝ }
+    ensures { λ r. ⌜ Reads kind (now (body .entry)) (now (groups .entry) ∷ now («switch_groups» .entry) ∷ now (members .entry) ∷ now (presets .entry) ∷ now (conditions .entry) ∷ []) (read r) (now (groups .exit) ∷ now («switch_groups» .exit) ∷ now (members .exit) ∷ now (presets .exit) ∷ now (conditions .exit) ∷ []) ⌝ }
+{
     let w = parsing::find_sections(body);
     match w {
         Walk::Done(p) => read_found(body, p, groups, switch_groups, members, presets, conditions),

@@ -15,7 +15,7 @@ ghost use Rattle.switch_groups.specs.Layout.{switchGroup, switchGroups};
 ghost use Rattle.presets.specs.Layout.{preset, presets as presetRows};
 ghost use Rattle.scene_kind.specs.Read.{section};
 ghost use Rattle.scene_kind.specs.Rows.{section as sectionIs};
-ghost use Rattle.scene.specs.Walk.{rowsAt, countAt, reservedAt, Found, Walks, Recorded, Counted, Rooms, Stored};
+ghost use Rattle.scene.specs.Walk.{rowsAt, countAt, reservedAt, Flags, Found, Looks, Walks, Recorded, Counted, Rooms, Stored};
 use super::Sizes;
 use presets::parsing::fill_presets;
 use presets::parsing::measure_presets;
@@ -94,6 +94,56 @@ fn presets_rows(body: &[u8], at: usize, flag: u16) -> Sum
         return Sum::Short(a.short());
     };
     measure_presets(body, n, count_at(body, at, flag, 5) as usize)
+}
+
+// What the first bytes of a body tell: it is cut there; or its sections have no rows, so that it needs no table; or it may have rows.
+pub enum Look {
+    Bare(Places),
+    Short(Short),
+    Rows,
+}
+
+// The places of sections that have no rows, which stand one behind the other: they need no table.
+fn bare(body: &[u8], g: u16, s: u16, q: u16) -> Look
+    requires { ⌜ (2 ≤ length (now body)) × Flags (now body) g s q ⌝ }
+    ensures { λ r. ⌜ Looks (now (body .entry)) r ⌝ }
+{
+    let switch_groups = rows_at(2, g);
+    let presets = rows_at(switch_groups, s);
+    let k = rows_at(presets, q);
+    if body.len() < k {
+        return Look::Rows;
+    }
+    let below = count_at(body, switch_groups, s, 5) + count_at(body, presets, q, 5);
+    if count_at(body, 2, g, 7) + below == 0 {
+        Look::Bare(Places {
+            switch_groups,
+            presets,
+            members: 0,
+            conditions: 0,
+            k,
+        })
+    } else {
+        Look::Rows
+    }
+}
+
+// A body that is cut in its first bytes or has no rows is seen at once.
+pub fn first_look(body: &[u8]) -> Look
+    ensures { λ r. ⌜ Looks (now (body .entry)) r ⌝ }
+{
+    let a = head(body, 0, 2);
+    let Ends::At(n) = a else {
+        return Look::Short(a.short());
+    };
+    let flags = wide(body[0]);
+    let g = part(flags, 7, 1);
+    let s = part(flags, 6, 1);
+    let q = part(flags, 5, 1);
+    if ((g == 1) | ((s == 1) | (q == 1))) & (body.len() <= n) {
+        return Look::Short(Short { need: n + 1 });
+    }
+    bare(body, g, s, q)
 }
 
 // The sections one after the other.

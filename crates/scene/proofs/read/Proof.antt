@@ -1,7 +1,8 @@
--- `scene::read` meets its contract: the sections, or why there are none.
+-- `scene::read` meets its contract: the first look decides, or the rows are read.
 use native.Mathlib.Omega.{arith}
 use Rattle.frame.proofs.Entries.{measures-long, measures-short, reads-unmeasured}
 use Rattle.scene_kind.specs.Kind.{kind}
+use Rattle.scene.proofs.Bare.{bare-reads}
 use borrow.Author.Needs.{needs}
 use Rattle.scene.proofs.read.Statement.{statement}
 use Rattle.scene.proofs.read.Tie as tie
@@ -10,18 +11,34 @@ returns : tie.Need-returns
 returns c =
     reads-unmeasured kind _ (measures-long kind _ (c .if1 .taken)) _
 
-find-sections-requires : tie.Need-find-sections-requires
-find-sections-requires c κs = search needs
+first-look-requires : tie.Need-first-look-requires
+first-look-requires c κs = search needs
 
-enum-known-w : tie.Need-enum-known-w
-enum-known-w c = search needs
+enum-known-l : tie.Need-enum-known-l
+enum-known-l c = search needs
 
-read-found-requires : tie.Need-read-found-requires
-read-found-requires c κs =
-    (rw (c .before .before .before .before .before .before .w .given .1) at (c .before .before .before .before .before .before .before .before .find-sections .ensures) .finds, omega (arith, c .before .before .before .before .before .before .before .before .before .if1 .left))
+record-at-requires : tie.Need-record-at-requires
+record-at-requires c κs =
+    ((rw (c .before .l .given .1) at (c .before .before .before .first-look .ensures) .sees) .found, omega (arith, c .before .before .before .before .if1 .left))
 
-enum-known-w-2 : tie.Need-enum-known-w-2
-enum-known-w-2 c = search needs
+enum-known-l-2 : tie.Need-enum-known-l-2
+enum-known-l-2 c = search needs
+
+enum-told : tie.Need-enum-told
+enum-told c = search needs
+
+read-rows-requires : tie.Need-read-rows-requires
+read-rows-requires c κs =
+    omega (arith, c .before .before .before .before .before .before .before .before .if1 .left)
+
+returns-2 : tie.Need-returns-2
+returns-2 c =
+    bare-reads (rw (c .before .before .l .given .1) at (c .before .before .before .before .first-look .ensures) .sees) (omega (arith, c .before .before .before .before .before .if1 .left)) _ _ _ _ _ (c .record-at .ensures)
+
+returns-3 : tie.Need-returns-3
+unfolding kind
+returns-3 c =
+    reads-unmeasured kind _ (measures-short kind _ (omega (arith, c .before .before .before .before .if1 .left)) (rw (c .before .l2 .given .1) at (c .before .before .before .first-look .ensures) .sees)) _
 
 same-length : tie.Need-same-length
 same-length c = search needs
@@ -38,28 +55,26 @@ same-length-4 c = search needs
 same-length-5 : tie.Need-same-length-5
 same-length-5 c = search needs
 
-returns-2 : tie.Need-returns-2
-returns-2 c =
-    c .before .before .before .before .before .before .before .before .before .before .read-found .ensures
-
-returns-3 : tie.Need-returns-3
-unfolding kind
-returns-3 c =
-    reads-unmeasured kind _ (measures-short kind _ (omega (arith, c .before .before .before .before .if1 .left)) (rw (c .before .w2 .given .1) at (c .before .before .before .find-sections .ensures) .finds)) _
+returns-4 : tie.Need-returns-4
+returns-4 c =
+    c .before .before .before .before .before .before .before .before .before .before .read-rows .ensures
 
 pub read-spec : {M : Type 1} → statement M
 read-spec =
     tie.close
     (tie.spec
     returns
-    find-sections-requires
-    enum-known-w
-    read-found-requires
-    enum-known-w-2
+    first-look-requires
+    enum-known-l
+    record-at-requires
+    enum-known-l-2
+    enum-told
+    read-rows-requires
+    returns-2
+    returns-3
     same-length
     same-length-2
     same-length-3
     same-length-4
     same-length-5
-    returns-2
-    returns-3)
+    returns-4)

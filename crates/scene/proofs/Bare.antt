@@ -1,0 +1,189 @@
+-- A body whose sections have no rows is found at once, and needs no table; one that ends before the byte of its first section is short.
+use Prim.Native.Nat.{ℕ, _+_, _≤_, _<_}
+use mathlib.Core.Path.{_≡_, refl, sym, ap, subst, _∙_}
+use mathlib.Core.List.{List, [], _∷_, flatten, flatMap}
+use mathlib.Core.Bool.{Bool, true, false, _&&_, _||_}
+use mathlib.Core.Option.{none}
+use native.Mathlib.Omega.{arith}
+use native.Mathlib.Nat.{add-zero}
+use lib.ListN.{length, getD}
+use lib.Dec.{eqb, leb}
+use borrow.Author.Tests.{eqb-true, ne-eqb, eq-eqb, le-leb, leb-true}
+use Rattle.wire.specs.Lists.{firsts}
+use Rattle.wire.specs.Bits.{part}
+use Rattle.wire.specs.Prog.{Prog, done, short, needing, run, many, _>>=_}
+use Rattle.wire.specs.Reads.{mapOut, shortOf}
+use Rattle.wire.specs.Act.{pick}
+use Rattle.wire.specs.Straight.{ends, ones}
+use Rattle.wire.specs.Layout.{flat, Family}
+use Rattle.wire.proofs.Acts.{and-both}
+use Rattle.wire.proofs.Walk.{From, onward, cut-off}
+use Rattle.wire.proofs.Cells.{clash}
+use Rattle.wire.proofs.Straight.{ones-lacks}
+use Rattle.frame.specs.Kind.{Lent}
+use Rattle.frame.specs.Numbers.{accepted}
+use Rattle.frame.specs.Entry.{Need, needs, lacking, room, first, others, filled, tail, Reads}
+use Rattle.scene_groups.specs.Layout.{group}
+use Rattle.switch_groups.specs.Layout.{switchGroups}
+use Rattle.presets.specs.Layout.{presets}
+use Rattle.scene_kind.specs.declared.rows.MpegH3dAudioScene.{MpegH3dAudioScene}
+use Rattle.scene_kind.specs.Read.{Section, section}
+use Rattle.scene_kind.specs.Rows.{Scene, tables}
+use Rattle.scene_kind.specs.Kind.{parse, kind}
+use Rattle.scene.specs.declared.parsing.Places.{Places}
+use Rattle.scene.specs.Walk.{Flags, rowsAt, countAt, groupsFlag, switchesFlag, presetsFlag, Found, tree, Recorded, Bare}
+use Rattle.scene.proofs.Sections.{sectionOf, section-so, section-cut}
+use Rattle.scene.proofs.Walked.{Two, behind-groups, head-there}
+use Rattle.scene.proofs.Found.{reads-found}
+
+-- ---- sections without rows
+
+section-bare : {A : Type 0} (p : Prog A) (r w ones : ℕ) (s : List ℕ) (flag at : ℕ) → rowsAt flag at ≤ length s → countAt w s flag at ≡ 0 → run (section flag r w ones p) s at ≡ done (sectionOf p r w ones s flag at []) (rowsAt flag at)
+unfolding many run
+section-bare p r w ones s flag at h e = section-so p r w ones s flag at h ∙ ap (λ (c : ℕ). mapOut (sectionOf p r w ones s flag at) (run (many c p) s (rowsAt flag at))) e
+
+rows-at-most : (flag at : ℕ) → at ≤ rowsAt flag at
+unfolding rowsAt
+rows-at-most flag at = omega arith
+
+pub rows-at-near : (flag at : ℕ) → rowsAt flag at ≤ at + 1
+unfolding rowsAt
+rows-at-near flag at = go (eqb flag 1)
+  where
+    go : (b : Bool) → at + pick b 1 0 ≤ at + 1
+    go true = omega arith
+    go false = omega arith
+
+-- the byte of each section is there, if that of the last is
+pub stand : {n : ℕ} (g t q a b k : ℕ) → a ≡ rowsAt g 2 → b ≡ rowsAt t a → k ≡ rowsAt q b → k ≤ n → (rowsAt g 2 ≤ n) × (rowsAt t a ≤ n) × (rowsAt q b ≤ n)
+stand g t q a b k x y z h = let i = rows-at-most q b in let j = rows-at-most t a in (omega arith, omega arith, omega arith)
+
+bare-found : (s : List ℕ) → 2 ≤ length s → {a b k : ℕ} → a ≡ rowsAt (groupsFlag s) 2 → b ≡ rowsAt (switchesFlag s) a → k ≡ rowsAt (presetsFlag s) b → k ≤ length s → countAt 7 s (groupsFlag s) 2 ≡ 0 → countAt 5 s (switchesFlag s) a ≡ 0 → countAt 5 s (presetsFlag s) b ≡ 0
+    → Bare s (record { «switch_groups» = a; presets = b; members = 0; conditions = 0; k = k })
+unfolding flatMap
+bare-found s h {a} {b} {k} ea eb ek l x y z =
+    let i = rows-at-most (presetsFlag s) b in
+    let j = rows-at-most (switchesFlag s) a in
+    let u = section-bare (flat 27 group) 1 7 1 s (groupsFlag s) 2 (omega arith) x in
+    let v = section-bare switchGroups 3 5 7 s (switchesFlag s) a (omega arith) y in
+    let w = section-bare presets 3 5 7 s (presetsFlag s) b (omega arith) z in
+    record {
+      found = record {
+        in-groups = sectionOf (flat 27 group) 1 7 1 s (groupsFlag s) 2 [];
+        in-switches = sectionOf switchGroups 3 5 7 s (switchesFlag s) a [];
+        in-presets = sectionOf presets 3 5 7 s (presetsFlag s) b [];
+        head = h;
+        groups-read = u ∙ ap (done (sectionOf (flat 27 group) 1 7 1 s (groupsFlag s) 2 [])) (sym ea);
+        switches-read = v ∙ ap (done (sectionOf switchGroups 3 5 7 s (switchesFlag s) a [])) (sym eb);
+        presets-read = w ∙ ap (done (sectionOf presets 3 5 7 s (presetsFlag s) b [])) (sym ek);
+        members-are = refl;
+        conditions-are = refl;
+        members-few = omega arith;
+        conditions-few = omega arith;
+      };
+      no-groups = refl;
+      no-switches = refl;
+      no-presets = refl;
+    }
+
+-- with the flags and the counts as code has them
+pub bare-so : {s : List ℕ} {g t q : ℕ} → 2 ≤ length s → Flags s g t q → {a b k x y z : ℕ} → a ≡ rowsAt g 2 → b ≡ rowsAt t a → k ≡ rowsAt q b → k ≤ length s → x ≡ countAt 7 s g 2 → y ≡ countAt 5 s t a → z ≡ countAt 5 s q b → x + (y + z) ≡ 0
+    → Bare s (record { «switch_groups» = a; presets = b; members = 0; conditions = 0; k = k })
+bare-so {s} h w {a} {b} {k} {x} {y} {z} ea eb ek l ex ey ez n =
+    let x0 : x ≡ 0 = omega arith in
+    let y0 : y ≡ 0 = omega arith in
+    let z0 : z ≡ 0 = omega arith in
+    bare-found s h (ea ∙ ap (λ (g : ℕ). rowsAt g 2) (w .of-groups)) (eb ∙ ap (λ (t : ℕ). rowsAt t a) (w .of-switches)) (ek ∙ ap (λ (q : ℕ). rowsAt q b) (w .of-presets)) l
+    (ap (λ (g : ℕ). countAt 7 s g 2) (sym (w .of-groups)) ∙ sym ex ∙ x0)
+    (ap (λ (t : ℕ). countAt 5 s t a) (sym (w .of-switches)) ∙ sym ey ∙ y0)
+    (ap (λ (q : ℕ). countAt 5 s q b) (sym (w .of-presets)) ∙ sym ez ∙ z0)
+
+-- ---- they need no table, and none changes
+
+no-more : (lent : Lent) → lacking [] lent ≡ none
+unfolding lacking
+no-more lent = refl
+
+no-rows : (n : Need) (ns : List Need) (lent : Lent) → n .rows ≡ 0 → lacking ns (others lent) ≡ none → lacking (n ∷ ns) lent ≡ none
+unfolding lacking
+no-rows n ns lent e h = rw (le-leb (n .rows) (room n lent) (omega arith), lacking) h
+
+module _ {s : List ℕ} {p : Places} (b : Bare s p) where
+  abbrev none-of : (gs : List (List ℕ)) (ss ps : List Family) → Scene
+  none-of gs ss ps = record { top = tree (b .found) .top; groups = gs; «switch_groups» = ss; presets = ps }
+
+  enough : (lent : Lent) → lacking (needs (tables (none-of [] [] []))) lent ≡ none
+  unfolding needs tables firsts flatMap
+  enough lent = no-rows _ _ lent refl (no-rows _ _ _ refl (no-rows _ _ _ refl (no-rows _ _ _ refl (no-rows _ _ _ refl (no-more _)))))
+
+  stays : (x y z u v : List ℕ) → filled (tables (none-of [] [] [])) (x ∷ y ∷ z ∷ u ∷ v ∷ []) ≡ x ∷ y ∷ z ∷ u ∷ v ∷ []
+  unfolding filled tables first others flatten firsts flatMap
+  stays x y z u v = refl
+
+  bare-is : tree (b .found) ≡ none-of [] [] []
+  bare-is = λ i. none-of (b .no-groups i) (b .no-switches i) (b .no-presets i)
+
+  pub bare-reads : length s < 65536 → (x y z u v : List ℕ) {m : MpegH3dAudioScene} → Recorded s p m → Reads kind s (x ∷ y ∷ z ∷ u ∷ v ∷ []) (accepted m) (x ∷ y ∷ z ∷ u ∷ v ∷ [])
+  unfolding kind
+  bare-reads h x y z u v r =
+      let lent = x ∷ y ∷ z ∷ u ∷ v ∷ [] in
+      let e : lacking (needs (tables (tree (b .found)))) lent ≡ none = ap (λ (t : Scene). lacking (needs (tables t)) lent) bare-is ∙ enough lent in
+      let k : filled (tables (tree (b .found))) lent ≡ lent = ap (λ (t : Scene). filled (tables t) lent) bare-is ∙ stays x y z u v in
+      rw (r .is (b .found)) (subst (λ (after : Lent). Reads kind s lent (accepted (kind .top (tree (b .found)) (tail (p .k) s))) after) k (reads-found (b .found) (omega arith) lent e))
+
+-- ---- cut before the byte of its first section
+
+section-missing : {A : Type 0} (p : Prog A) (r w full : ℕ) (s : List ℕ) (flag : ℕ) → length s ≡ 2 → flag ≡ 1 → run (section flag r w full p) s 2 ≡ short (needing 3)
+section-missing p r w full s flag l e =
+    let c : ends (ones (pick (eqb flag 1) 1 0)) s 2 ≡ short (needing 3) = ap (λ (b : Bool). ends (ones (pick b 1 0)) s 2) (eq-eqb flag 1 e) ∙ ones-lacks 1 s 2 (omega arith) (omega arith) ∙ ap (λ (n : ℕ). short (needing (n + 1))) l in
+    section-cut p r w full s flag 2 c
+
+section-passed : {A : Type 0} (p : Prog A) (r w full : ℕ) (s : List ℕ) (flag : ℕ) → length s ≡ 2 → (flag ≡ 1 → ⊥) → run (section flag r w full p) s 2 ≡ done (sectionOf p r w full s flag 2 []) 2
+unfolding rowsAt countAt
+section-passed p r w full s flag l e =
+    let x = ne-eqb flag 1 e in
+    let a : rowsAt flag 2 ≡ 2 = ap (λ (b : Bool). 2 + pick b 1 0) x in
+    section-bare p r w full s flag 2 (omega arith) (ap (λ (b : Bool). pick b (part 0 w (getD s 2 0)) 0) x) ∙ ap (done (sectionOf p r w full s flag 2 [])) a
+
+cut : {A : Type 0} (p : Prog A) {s : List ℕ} (f : A → Prog Scene) → From parse s 0 (p >>= f) 2 → run p s 2 ≡ short (needing 3) → run parse s 0 ≡ short (needing 3)
+cut p f w e = sym (cut-off p f w refl e (sym (ap shortOf e)))
+
+flag-is : (v : ℕ) → eqb v 1 ≡ true → v ≡ 1
+flag-is v e = eqb-true v 1 e
+
+flag-is-not : (v : ℕ) → eqb v 1 ≡ false → v ≡ 1 → ⊥
+flag-is-not v e q = clash (eq-eqb v 1 q) e
+
+first-cut : (s : List ℕ) → length s ≡ 2 → eqb (groupsFlag s) 1 || (eqb (switchesFlag s) 1 || eqb (presetsFlag s) 1) ≡ true → run parse s 0 ≡ short (needing 3)
+first-cut s l h = go (eqb (groupsFlag s) 1) (eqb (switchesFlag s) 1) (eqb (presetsFlag s) 1) refl refl refl h
+  where
+    groups : Prog (Section (List ℕ))
+    groups = section (groupsFlag s) 1 7 1 (flat 27 group)
+
+    switches : Prog (Section Family)
+    switches = section (switchesFlag s) 3 5 7 switchGroups
+
+    w₀ : From parse s 0 (groups >>= behind-groups s) 2
+    w₀ = head-there s (omega arith)
+
+    w₁ : (groupsFlag s ≡ 1 → ⊥) → From parse s 0 (behind-groups s (sectionOf (flat 27 group) 1 7 1 s (groupsFlag s) 2 [])) 2
+    w₁ a = onward groups (behind-groups s) w₀ refl (section-passed (flat 27 group) 1 7 1 s (groupsFlag s) l a)
+
+    go : (x y z : Bool) → eqb (groupsFlag s) 1 ≡ x → eqb (switchesFlag s) 1 ≡ y → eqb (presetsFlag s) 1 ≡ z → x || (y || z) ≡ true → run parse s 0 ≡ short (needing 3)
+    go true y z a b c h = cut groups (behind-groups s) w₀ (section-missing (flat 27 group) 1 7 1 s (groupsFlag s) l (flag-is _ a))
+    go false true z a b c h = cut switches _ (w₁ (flag-is-not _ a)) (section-missing switchGroups 3 5 7 s (switchesFlag s) l (flag-is _ b))
+    go false false true a b c h =
+        cut (section (presetsFlag s) 3 5 7 presets) _ (onward switches _ (w₁ (flag-is-not _ a)) refl (section-passed switchGroups 3 5 7 s (switchesFlag s) l (flag-is-not _ b))) (section-missing presets 3 5 7 s (presetsFlag s) l (flag-is _ c))
+    go false false false a b c h = absurd (let z : _≡_ {A = ℕ} 0 1 = cc h in omega arith)
+
+-- with the flags as code has them
+flags-as : {s : List ℕ} {g t q : ℕ} → Flags s g t q → eqb g 1 || (eqb t 1 || eqb q 1) ≡ true → eqb (groupsFlag s) 1 || (eqb (switchesFlag s) 1 || eqb (presetsFlag s) 1) ≡ true
+flags-as w h = (λ i. eqb (sym (w .of-groups) i) 1 || (eqb (sym (w .of-switches) i) 1 || eqb (sym (w .of-presets) i) 1)) ∙ h
+
+pub cut-so : {s : List ℕ} {g t q n : ℕ} → Two s n → Flags s g t q → (eqb g 1 || (eqb t 1 || eqb q 1)) && leb (length s) n ≡ true → run parse s 0 ≡ short (needing (n + 1))
+cut-so {s} {g} {t} {q} {n} h w e =
+    let (x, y) = and-both (eqb g 1 || (eqb t 1 || eqb q 1)) (leb (length s) n) e in
+    let l : length s ≤ n = leb-true (length s) n y in
+    let m = h .at-two in
+    let i = h .inside in
+    first-cut s (omega arith) (flags-as w x) ∙ ap (λ (n : ℕ). short (needing (n + 1))) (sym m)

@@ -1,0 +1,78 @@
+-- `scene::parsing::first_look` meets its contract: the first bytes tell that a body is cut, or has no rows.
+use mathlib.Core.Path.{sym, ap, _∙_}
+use native.Mathlib.Omega.{arith}
+use Rattle.wire.specs.Prog.{short}
+use Rattle.wire.specs.Reads.{endsOut, shortOf}
+use Rattle.scene.proofs.Walked.{two-there, head-cut}
+use Rattle.scene.proofs.Found.{flags-so}
+use Rattle.scene.proofs.Bare.{cut-so}
+use borrow.Author.Needs.{needs}
+use Rattle.scene.proofs.parsing.first_look.Statement.{statement}
+use Rattle.scene.proofs.parsing.first_look.Tie as tie
+
+head-requires : tie.Need-head-requires
+head-requires c κs = search needs
+
+enum-known-a : tie.Need-enum-known-a
+enum-known-a c = search needs
+
+enum-told : tie.Need-enum-told
+enum-told c = search needs
+
+short-requires : tie.Need-short-requires
+short-requires c κs = search needs
+
+returns : tie.Need-returns
+returns c =
+    let d = ap endsOut (c .before .enum-told .given .1) in record { sees = head-cut _ (sym (c .before .before .before .head .ensures) ∙ d) ∙ ap short (sym (c .short .ensures ∙ ap shortOf d)) }
+
+shared-slice-read-wide : tie.Need-shared-slice-read-wide
+shared-slice-read-wide c =
+    let h = two-there _ (c .before .before .before .before .head .ensures) (ap endsOut (c .before .before .a .given .1)) .inside in omega arith
+
+wide-requires : tie.Need-wide-requires
+wide-requires c κs = search needs
+
+part-requires : tie.Need-part-requires
+part-requires c κs = search needs
+
+part-requires-2 : tie.Need-part-requires-2
+part-requires-2 c κs = search needs
+
+part-requires-3 : tie.Need-part-requires-3
+part-requires-3 c κs = search needs
+
+add-t19 : tie.Need-add-t19
+add-t19 c =
+    let h = two-there _ (c .before .before .before .before .before .before .before .before .before .head .ensures) (ap endsOut (c .before .before .before .before .before .before .before .a .given .1)) .at-two in omega arith
+
+returns-2 : tie.Need-returns-2
+returns-2 c =
+    let h = two-there _ (c .before .before .before .before .before .before .before .before .before .head .ensures) (ap endsOut (c .before .before .before .before .before .before .before .a .given .1)) in let w = flags-so (c .before .before .before .before .wide .ensures) (c .before .before .before .part .ensures) (c .before .before .part2 .ensures) (c .before .part3 .ensures) in record { sees = cut-so h w (c .if1 .taken) }
+
+bare-requires : tie.Need-bare-requires
+bare-requires c κs =
+    (two-there _ (c .before .before .before .before .before .before .before .before .before .head .ensures) (ap endsOut (c .before .before .before .before .before .before .before .a .given .1)) .inside, flags-so (c .before .before .before .before .wide .ensures) (c .before .before .before .part .ensures) (c .before .before .part2 .ensures) (c .before .part3 .ensures))
+
+returns-3 : tie.Need-returns-3
+returns-3 c =
+    c .bare .ensures
+
+pub first-look-spec : {M : Type 1} → statement M
+first-look-spec =
+    tie.close
+    (tie.spec
+    head-requires
+    enum-known-a
+    enum-told
+    short-requires
+    returns
+    shared-slice-read-wide
+    wide-requires
+    part-requires
+    part-requires-2
+    part-requires-3
+    add-t19
+    returns-2
+    bare-requires
+    returns-3)
