@@ -4,7 +4,9 @@ use mathlib.Core.Path.{_≡_, refl, sym, ap, _∙_}
 use mathlib.Core.List.{List, [], _∷_, _++_, append-assoc, append-nil, flatten}
 use mathlib.Core.Bool.{Bool, true, false}
 use native.Mathlib.Omega.{arith}
-use lib.ListN.{length, getD}
+use native.Mathlib.Nat.{add-zero}
+use lib.ListN.{length, getD, length-append}
+use lib.Seq.{sets}
 use lib.Dec.{eqb}
 use borrow.Author.Tests.{eq-eqb, ne-eqb}
 use Rattle.wire.specs.Lists.{each}
@@ -15,6 +17,7 @@ use Rattle.wire.specs.Act.{pick}
 use Rattle.wire.specs.Layout.{Layout, end, optional, Columns, flat, put, blank, has, row}
 use Rattle.wire.specs.Straight.{ends, ones, putsAt, took, taken, spans, sizes, PartTaken}
 use Rattle.wire.proofs.Cells.{all, free}
+use Rattle.wire.proofs.Steps.{sets-append}
 use Rattle.wire.proofs.Fields.{part-below}
 use Rattle.wire.proofs.Straight.{Whole, flat-ends, sizes-so, steered, ends-within, ends-at, ends-on, ends-cut, heads, each-off, flag-is, part-there, part-absent}
 use Rattle.wire.specs.declared.reads.Short.{Short}
@@ -22,7 +25,7 @@ use Rattle.scene_groups.specs.Layout.{group, position, gain, language}
 use Rattle.scene_groups.specs.declared.rows.PositionInteractivity.{PositionInteractivity}
 use Rattle.scene_groups.specs.declared.rows.GainInteractivity.{GainInteractivity}
 use Rattle.scene_groups.specs.declared.rows.ContentLanguage.{ContentLanguage}
-use Rattle.scene_groups.specs.Rows.{idCells, flagCells, contentCells, parts, positionRow, gainRow, languageRow, positionFrom, gainFrom, languageFrom, blanks}
+use Rattle.scene_groups.specs.Rows.{idCells, flagCells, contentCells, parts, positionRow, gainRow, languageRow, positionFrom, gainFrom, languageFrom, blanks, headOf, PartPut, RowPut}
 
 -- the columns after the three bytes
 abbrev headed : List ℕ → ℕ → Columns
@@ -129,6 +132,39 @@ part-none k n p s at {v} h t = let z : 0 ≡ v = go v h t in record { of = λ f 
     go (suc zero) h t = absurd (t refl)
     go (suc (suc v)) h t = absurd (omega arith)
 
+-- ---- stored: a part that is there, and the zeros of one that is not
+
+pub put-there : (k n : ℕ) (p : Layout) (m : ℕ) {v at to : ℕ} {z row q s t u : List ℕ} → v ≡ 1 → PartTaken k n p v z s at q → length q ≡ n → row ≡ q → u ≡ sets t to row
+    → PartPut k n p v z m s at t to (at + m) u
+put-there k n p m {v} {at} {to} {row = row} {q = q} {t = t} h w l e r =
+    record { row = q; long = l; takes = w; stored = r ∙ ap (sets t to) e; on = ap (λ (x : Bool). at + pick x m 0) (sym (eq-eqb v 1 h)) }
+
+blanks-long : (n : ℕ) → length (blanks n) ≡ n
+unfolding blanks
+blanks-long zero = refl
+blanks-long (suc n) = ap suc (blanks-long n)
+
+pub put-none : (k n : ℕ) (p : Layout) (m : ℕ) {v at to : ℕ} {s t u : List ℕ} → v ≤ 1 → (v ≡ 1 → ⊥) → u ≡ sets t to (0 ∷ blanks n)
+    → PartPut k (suc n) p v (blanks n) m s at t to at u
+put-none k n p m {v} {at} {to} {s} h l r =
+    record {
+      row = 0 ∷ blanks n;
+      long = ap suc (blanks-long n);
+      takes = part-none k n p s at h l;
+      stored = r;
+      on = sym (ap (λ (x : Bool). at + pick x m 0) (ne-eqb v 1 l) ∙ add-zero at);
+    }
+
+-- four lists that are stored end to end are stored as one
+four-stored : (t : List ℕ) (to : ℕ) (a b c d : List ℕ) → length a ≡ 7 → length b ≡ 11 → length c ≡ 5
+    → sets (sets (sets (sets t to a) (to + 7) b) (to + 18) c) (to + 23) d ≡ sets t to (a ++ (b ++ (c ++ d)))
+four-stored t to a b c d x y z =
+    let i : to + length a ≡ to + 7 = omega (arith, x) in
+    let j : to + length a + length b ≡ to + 18 = omega (arith, x, y) in
+    let k : to + length a + length b + length c ≡ to + 23 = omega (arith, x, y, z) in
+    sym (sets-append t to a (b ++ (c ++ d)) ∙ sets-append (sets t to a) (to + length a) b (c ++ d) ∙ sets-append (sets (sets t to a) (to + length a) b) (to + length a + length b) c d
+    ∙ (λ o. sets (sets (sets (sets t to a) (i o) b) (j o) c) (k o) d))
+
 -- the bytes of the parts
 abbrev pub fives : ℕ → ℕ
 fives v = pick (eqb v 1) 5 0
@@ -174,9 +210,6 @@ with-gain s at m = taken (optional 18 gain end) (with-position s at) s m
 
 abbrev with-all : List ℕ → ℕ → ℕ → ℕ → Columns
 with-all s at m n = taken (optional 23 language end) (with-gain s at m) s n
-
-abbrev pub headOf : ℕ → ℕ → ℕ → List ℕ
-headOf a b c = part 7 1 a ∷ part 0 7 a ∷ part 5 3 b ∷ part 4 1 b ∷ part 3 1 b ∷ part 4 4 c ∷ part 0 4 c ∷ []
 
 module _ (s : List ℕ) (at : ℕ) {b m n : ℕ} (e : b ≡ getD s (at + 1) 0) (a : m ≡ at + 3 + fives (part 2 1 b)) (z : n ≡ m + twos (part 1 1 b)) where
   parts-taken : taken group blank s at ≡ with-all s at m n
@@ -227,3 +260,20 @@ module _ {s : List ℕ} {at : ℕ} (w : Whole 27 group s at) {b : ℕ} (e : b �
       let r = (λ o. q o ++ (u ++ (v ++ t))) ∙ group-taken s at e m n (rw ep at i) (rw eg at j) (rw el at k) in
       let f : at + 3 + x + y + z ≡ at + total (spans group blank s at) = omega (arith, long, ex, ey, ez) in
       (λ o. done (r o) (f o)) ∙ sym (w .is)
+
+  -- the same, stored part by part
+  pub group-put : {t t₁ t₂ t₃ t₄ h : List ℕ} {to i j k : ℕ} → h ≡ headOf (getD s at 0) b (getD s (at + 2) 0) → t₁ ≡ sets t to h
+      → PartPut 7 11 position p (blanks 10) 5 s (at + 3) t₁ (to + 7) i t₂ → PartPut 18 5 gain g (blanks 4) 2 s i t₂ (to + 18) j t₃
+      → PartPut 23 4 language l (blanks 3) 3 s j t₃ (to + 23) k t₄ → RowPut s at t to k t₄
+  group-put {t} {h = h} {to = to} q e x y z =
+      let l : length h ≡ 7 = ap length q in
+      let n = length-append h (x .row ++ (y .row ++ z .row)) ∙ ap (λ (k : ℕ). length h + k) (length-append (x .row) (y .row ++ z .row) ∙ ap (λ (k : ℕ). length (x .row) + k) (length-append (y .row) (z .row))) in
+      let f : List ℕ → List ℕ = λ t. sets t (to + 7) (x .row) in
+      let v : List ℕ → List ℕ = λ t. sets t (to + 18) (y .row) in
+      let w : List ℕ → List ℕ = λ t. sets t (to + 23) (z .row) in
+      record {
+        row = h ++ (x .row ++ (y .row ++ z .row));
+        long = n ∙ omega (arith, l, x .long, y .long, z .long);
+        read = rw (z .on, y .on, x .on) (group-done refl refl refl q (x .takes) (rw (x .on) at (y .takes)) (rw (y .on, x .on) at (z .takes)));
+        stored = z .stored ∙ ap w (y .stored ∙ ap v (x .stored ∙ ap f e)) ∙ four-stored t to h (x .row) (y .row) (z .row) l (x .long) (y .long);
+      }

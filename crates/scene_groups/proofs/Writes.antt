@@ -1,25 +1,25 @@
 -- The actions of a group part by part, and what its two passes do with them.
 use Prim.Native.Nat.{ℕ, _+_, _*_, _≤_}
-use mathlib.Core.Path.{_≡_, refl, sym, ap, _∙_}
+use mathlib.Core.Path.{_≡_, refl, sym, ap, subst, _∙_}
 use mathlib.Core.List.{List, [], _∷_, _++_, map, flatten}
 use mathlib.Core.Bool.{Bool, true, false, _&&_, and-true}
 use native.Mathlib.Omega.{arith}
 use native.Mathlib.Nat.{add-zero}
 use lib.ListN.{length}
 use lib.Dec.{eqb}
-use borrow.Author.Tests.{eq-eqb, ne-eqb}
+use borrow.Author.Tests.{eq-eqb, ne-eqb, eqb-true}
 use Rattle.wire.specs.Bits.{Field, isFlag, fit}
 use Rattle.wire.specs.Act.{Act, demand, byte, when, pick}
-use Rattle.wire.specs.Pen.{Quick, clean, bytes}
+use Rattle.wire.specs.Pen.{Quick, Ready, Filled, clean, bytes}
 use Rattle.wire.specs.Layout.{Columns, at, flatActs, writes, shown, cells, every, counted, flagged}
-use Rattle.wire.specs.Spell.{fieldsOf, fitAll}
+use Rattle.wire.specs.Spell.{fieldsOf, fitAll, Spelt, ReadyAll, FillsAll}
 use Rattle.wire.specs.declared.pen.Fault.the-variants as F
 use Rattle.wire.proofs.Acts.{and-both, clean-append}
 use Rattle.wire.proofs.Cells.{fit-flags}
 use Rattle.wire.proofs.Passes.{quick-clean, quick-odd}
 use Rattle.wire.proofs.Plain.{clean-when, clean-all, absorb, no-quick}
 use Rattle.scene_groups.specs.Layout.{group}
-use Rattle.scene_groups.specs.Write.{partFits, plainFits, groupActs, rowActs}
+use Rattle.scene_groups.specs.Write.{partFits, plainFits, noParts, groupActs, rowActs}
 use Rattle.scene_groups.specs.Rows.{groupCols, groupOf, idCells, flagCells, contentCells, positionCells, gainCells, languageCells, partCells}
 
 -- ---- a group
@@ -44,7 +44,7 @@ headBytes g = fieldsOf g (idCells ∷ flagCells ∷ contentCells ∷ [])
 abbrev pub plainActs : Columns → List Act
 plainActs g = demand F.Field (flagsOf g) ∷ demand F.Empty true ∷ (map byte (headBytes g) ++ partActs g)
 
--- no cell of a part is a flag or a count
+-- none of them is a flag or a count
 no-flags : (g : Columns) (x y z : Bool) → every flagged g (partCells x y z) ≡ true
 unfolding every flatten
 no-flags g true true true = refl
@@ -83,6 +83,23 @@ fits-there {v} fields t e = e ∙ ap (λ (x : Bool). pick x (fitAll fields) true
 
 pub fits-absent : {v : ℕ} (fields : List (List Field)) → (v ≡ 1 → ⊥) → true ≡ partFits v fields
 fits-absent {v} fields t = ap (λ (x : Bool). pick x (fitAll fields) true) (sym (ne-eqb v 1 t))
+
+-- ---- the fill pass of a part that is there, and of one that is not
+
+ready : (fss : List (List Field)) {v n : ℕ} {l : List ℕ} → v ≡ 1 → Ready (when (eqb v 1) (map byte fss)) n l → Ready (map byte fss) n l
+ready fss {v} {n} {l} t r = subst (λ (x : Bool). Ready (when x (map byte fss)) n l) (eq-eqb v 1 t) r
+
+module _ {v : ℕ} {fss : List (List Field)} {n : ℕ} {l : List ℕ} where
+  pub ready-there : {vs : List ℕ} → v ≡ 1 → Spelt fss vs → Ready (when (eqb v 1) (map byte fss)) n l → ReadyAll true vs n l
+  ready-there t s r = record { fss = fss; spelt = s; ready = ready fss t r }
+
+  pub filled-there : {vs : List ℕ} {r : ℕ} {o : List ℕ} → v ≡ 1 → Spelt fss vs → Ready (when (eqb v 1) (map byte fss)) n l → FillsAll true vs n l r o
+      → Filled (when (eqb v 1) (map byte fss)) n l r o
+  filled-there {r = r} {o} t s q w = subst (λ (x : Bool). Filled (when x (map byte fss)) n l r o) (sym (eq-eqb v 1 t)) (w .of fss s (ready fss t q .sound))
+
+pub filled-absent : {v n : ℕ} {l : List ℕ} (fss : List (List Field)) → (v ≡ 1 → ⊥) → Filled (when (eqb v 1) (map byte fss)) n l n l
+unfolding bytes
+filled-absent {v} {n} {l} fss t = subst (λ (x : Bool). Filled (when x (map byte fss)) n l n l) (sym (ne-eqb v 1 t)) (record { place = sym (add-zero n); holds = refl })
 
 -- the bytes of a part
 pub part-most : (v n : ℕ) {r : ℕ} → r ≡ pick (eqb v 1) n 0 → r ≤ n
@@ -143,6 +160,28 @@ plain-so g {n} e q =
 
 pub odd-so : (g : Columns) → plainFits g ≡ false → Quick (flatActs group g) 13 0
 odd-so g e = quick-odd (flatActs group g) 13 (λ z. no-quick e (sym (group-clean g) ∙ z))
+
+-- a row without parts is its three bytes
+module _ (g : Columns) {b : Bool} (h : b ≡ noParts g) (t : b ≡ true) where
+  zeros : (g 7 ≡ 0) × (g 18 ≡ 0) × (g 23 ≡ 0)
+  zeros =
+      let (p, r) = and-both (eqb (g 7) 0) _ (sym h ∙ t) in
+      let (q, l) = and-both (eqb (g 18) 0) (eqb (g 23) 0) r in
+      (eqb-true (g 7) 0 p, eqb-true (g 18) 0 q, eqb-true (g 23) 0 l)
+
+  bare-fits : plainFits g ≡ fitAll (headBytes g)
+  bare-fits =
+      let (p, q, l) = zeros in
+      (λ i. fitAll (headBytes g) && (partFits (p i) (fieldsOf g positionCells) && (partFits (q i) (fieldsOf g gainCells) && partFits (l i) (fieldsOf g languageCells))))
+      ∙ and-true (fitAll (headBytes g))
+
+  pub bare-so : {r : Bool} → r ≡ fitAll (headBytes g) → r ≡ true → Quick (flatActs group g) 13 3
+  bare-so e z =
+      let (p, q, l) = zeros in
+      plain-so g (bare-fits ∙ sym e ∙ z) (sym (λ i. 3 + (pick (eqb (p i) 1) 5 0 + (pick (eqb (q i) 1) 2 0 + pick (eqb (l i) 1) 3 0))))
+
+  pub bare-odd : {r : Bool} → r ≡ fitAll (headBytes g) → r ≡ false → Quick (flatActs group g) 13 0
+  bare-odd e z = odd-so g (bare-fits ∙ sym e ∙ z)
 
 -- ---- a row of the table
 

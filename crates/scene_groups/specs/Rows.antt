@@ -2,11 +2,16 @@
 use Prim.Native.Nat.{ℕ, zero, suc, _+_, _-_}
 use mathlib.Core.List.{List, [], _∷_, _++_, flatten}
 use mathlib.Core.Bool.{Bool}
-use lib.ListN.{getD}
+use mathlib.Core.Path.{_≡_}
+use lib.ListN.{length, getD}
+use lib.Seq.{sets}
+use lib.Dec.{eqb}
 use Rattle.wire.specs.Bits.{part}
 use Rattle.wire.specs.Act.{pick}
-use Rattle.wire.specs.Layout.{Cell, Layout, end, optional, _▹_, num, reserved, flag, Columns, of}
-use Rattle.scene_groups.specs.Layout.{position, gain, language}
+use Rattle.wire.specs.Layout.{Cell, Layout, end, optional, _▹_, num, reserved, flag, Columns, of, flat}
+use Rattle.wire.specs.Prog.{done, run}
+use Rattle.wire.specs.Straight.{PartTaken}
+use Rattle.scene_groups.specs.Layout.{group, position, gain, language}
 use Rattle.scene_groups.specs.declared.rows.PositionInteractivity.{PositionInteractivity}
 use Rattle.scene_groups.specs.declared.rows.GainInteractivity.{GainInteractivity}
 use Rattle.scene_groups.specs.declared.rows.ContentLanguage.{ContentLanguage}
@@ -119,6 +124,27 @@ gainFrom s at = record { present = 1; «reserved_min» = part 6 2 (getD s at 0);
 
 abbrev pub languageFrom : List ℕ → ℕ → ContentLanguage
 languageFrom s at = record { present = 1; first = part 0 8 (getD s at 0); second = part 0 8 (getD s (at + 1) 0); third = part 0 8 (getD s (at + 2) 0) }
+
+-- the seven columns of the three bytes that are always there
+abbrev pub headOf : ℕ → ℕ → ℕ → List ℕ
+headOf a b c = part 7 1 a ∷ part 0 7 a ∷ part 5 3 b ∷ part 4 1 b ∷ part 3 1 b ∷ part 4 4 c ∷ part 0 4 c ∷ []
+
+-- ---- stored in a table: t became u, from the column `to` on
+
+-- the n columns of the part p, whose first is its flag v; the part has m bytes if it is there
+pub record PartPut (k n : ℕ) (p : Layout) (v : ℕ) (zeros : List ℕ) (m : ℕ) (s : List ℕ) (at : ℕ) (t : List ℕ) (to next : ℕ) (u : List ℕ) : Type 0 where
+  pub row : List ℕ
+  pub long : length row ≡ n
+  pub takes : PartTaken k n p v zeros s at row
+  pub stored : u ≡ sets t to row
+  pub on : next ≡ at + pick (eqb v 1) m 0
+
+-- the 27 columns of the group that begins at `at`
+pub record RowPut (s : List ℕ) (at : ℕ) (t : List ℕ) (to next : ℕ) (u : List ℕ) : Type 0 where
+  pub row : List ℕ
+  pub long : length row ≡ 27
+  pub read : done row next ≡ run (flat 27 group) s at
+  pub stored : u ≡ sets t to row
 
 -- ---- the layout of a group in its parts: the bytes that are always there, and three parts
 

@@ -1,10 +1,10 @@
 -- What the functions that write a group promise: the bytes of its parts, its flags, its actions.
 use Prim.Native.Nat.{ℕ}
-use mathlib.Core.List.{List, [], _∷_}
+use mathlib.Core.List.{List, [], _∷_, map}
 use mathlib.Core.Bool.{Bool, true, _&&_}
 use lib.Dec.{eqb}
 use Rattle.wire.specs.Bits.{Field, isFlag}
-use Rattle.wire.specs.Act.{Act, pick}
+use Rattle.wire.specs.Act.{Act, byte, when, pick}
 use Rattle.wire.specs.Layout.{Columns, at, flatActs}
 use Rattle.wire.specs.Spell.{fieldsOf, fitAll}
 use Rattle.scene_groups.specs.Layout.{group}
@@ -33,11 +33,34 @@ groupFlags g = isFlag (g .«allow_on_off») && (isFlag (g .«default_on_off») &
 abbrev pub partFits : ℕ → List (List Field) → Bool
 partFits v fields = pick (eqb v 1) (fitAll fields) true
 
+abbrev pub positionFits : PositionInteractivity → Bool
+positionFits p = partFits (p .present) (positionFields p)
+
+abbrev pub gainFits : GainInteractivity → Bool
+gainFits g = partFits (g .present) (gainFields g)
+
+abbrev pub languageFits : ContentLanguage → Bool
+languageFits l = partFits (l .present) (languageFields l)
+
 -- a row without a fault
 abbrev pub plainFits : Columns → Bool
 plainFits g =
     fitAll (fieldsOf g (idCells ∷ flagCells ∷ contentCells ∷ []))
     && (partFits (g 7) (fieldsOf g positionCells) && (partFits (g 18) (fieldsOf g gainCells) && partFits (g 23) (fieldsOf g languageCells)))
+
+-- a row without parts
+abbrev pub noParts : Columns → Bool
+noParts g = eqb (g 7) 0 && (eqb (g 18) 0 && eqb (g 23) 0)
+
+-- the actions of a part
+abbrev pub positionPart : PositionInteractivity → List Act
+positionPart p = when (eqb (p .present) 1) (map byte (positionFields p))
+
+abbrev pub gainPart : GainInteractivity → List Act
+gainPart g = when (eqb (g .present) 1) (map byte (gainFields g))
+
+abbrev pub languagePart : ContentLanguage → List Act
+languagePart l = when (eqb (l .present) 1) (map byte (languageFields l))
 
 abbrev pub groupActs : SceneGroup → List Act
 groupActs g = flatActs group (groupCols g)

@@ -13,7 +13,7 @@ ghost use Rattle.wire.specs.Reads.{endOf, isDone, rowsOf, endsOut};
 ghost use Rattle.wire.specs.Layout.{flat};
 ghost use Rattle.wire.specs.Straight.{ones, PartTaken};
 ghost use Rattle.scene_groups.specs.Layout.{group, position, gain, language};
-ghost use Rattle.scene_groups.specs.Rows.{groupRow, positionRow, gainRow, languageRow, positionFrom, gainFrom, languageFrom, blanks};
+ghost use Rattle.scene_groups.specs.Rows.{groupRow, positionRow, gainRow, languageRow, positionFrom, gainFrom, languageFrom, blanks, headOf, PartPut, RowPut};
 use super::rows::ContentLanguage;
 use super::rows::GROUP_COLUMNS;
 use super::rows::GainInteractivity;
@@ -73,7 +73,7 @@ pub fn measure_groups(body: &[u8], at: usize, count: usize) -> Ends
     Ends::At(pos)
 }
 
-// ---- taken, once measured
+// ---- taken, once measured: for the tally
 
 // A group, and the next position.
 pub struct Placed {
@@ -209,6 +209,127 @@ pub fn group_at(body: &[u8], at: usize) -> Placed
     }
 }
 
+// ---- stored part by part, so that a row is built in its table and a part that is not there costs its columns alone
+
+// The columns of the position that begins here and is there.
+fn position_row(body: &[u8], at: usize) -> [u16; 11]
+    requires { ⌜ at + 5 ≤ length (now body) ⌝ }
+    ensures { λ r. ⌜ r ≡ positionRow (positionFrom (now (body .entry)) at) ⌝ }
+{
+    let p = position_from(body, at);
+    [
+        p.present,
+        p.reserved_min_az,
+        p.min_az_offset,
+        p.reserved_max_az,
+        p.max_az_offset,
+        p.reserved_min_el,
+        p.min_el_offset,
+        p.reserved_max_el,
+        p.max_el_offset,
+        p.min_dist_offset,
+        p.max_dist_offset,
+    ]
+}
+
+// Stores the position that begins here, if its flag is 1, and answers the next position.
+fn fill_position(body: &[u8], at: usize, present: u16, groups: &mut [u16], to: usize) -> usize
+    requires { ⌜ (at + pick (eqb present 1) 5 0 ≤ length (now body)) × (present ≤ 1) × (to + 11 ≤ length (now groups)) ⌝ }
+    ensures { λ r. ⌜ PartPut 7 11 position present (blanks 10) 5 (now (body .entry)) at (now (groups .entry)) to r (now (groups .exit)) ⌝ }
+{
+    if present == 1 {
+        put_row(groups, to, &position_row(body, at));
+        at + 5
+    } else {
+        put_row(groups, to, &[0, 0, 0, 0, 0, 0, 0, 0, 0, 0, 0]);
+        at
+    }
+}
+
+// The columns of the gain that begins here and is there.
+fn gain_row(body: &[u8], at: usize) -> [u16; 5]
+    requires { ⌜ at + 2 ≤ length (now body) ⌝ }
+    ensures { λ r. ⌜ r ≡ gainRow (gainFrom (now (body .entry)) at) ⌝ }
+{
+    let g = gain_from(body, at);
+    [
+        g.present,
+        g.reserved_min,
+        g.min_gain,
+        g.reserved_max,
+        g.max_gain,
+    ]
+}
+
+// Stores the gain that begins here, if its flag is 1, and answers the next position.
+fn fill_gain(body: &[u8], at: usize, present: u16, groups: &mut [u16], to: usize) -> usize
+    requires { ⌜ (at + pick (eqb present 1) 2 0 ≤ length (now body)) × (present ≤ 1) × (to + 5 ≤ length (now groups)) ⌝ }
+    ensures { λ r. ⌜ PartPut 18 5 gain present (blanks 4) 2 (now (body .entry)) at (now (groups .entry)) to r (now (groups .exit)) ⌝ }
+{
+    if present == 1 {
+        put_row(groups, to, &gain_row(body, at));
+        at + 2
+    } else {
+        put_row(groups, to, &[0, 0, 0, 0, 0]);
+        at
+    }
+}
+
+// The columns of the language that begins here and is there.
+fn language_row(body: &[u8], at: usize) -> [u16; 4]
+    requires { ⌜ at + 3 ≤ length (now body) ⌝ }
+    ensures { λ r. ⌜ r ≡ languageRow (languageFrom (now (body .entry)) at) ⌝ }
+{
+    let l = language_from(body, at);
+    [l.present, l.first, l.second, l.third]
+}
+
+// Stores the language that begins here, if its flag is 1, and answers the next position.
+fn fill_language(body: &[u8], at: usize, present: u16, groups: &mut [u16], to: usize) -> usize
+    requires { ⌜ (at + pick (eqb present 1) 3 0 ≤ length (now body)) × (present ≤ 1) × (to + 4 ≤ length (now groups)) ⌝ }
+    ensures { λ r. ⌜ PartPut 23 4 language present (blanks 3) 3 (now (body .entry)) at (now (groups .entry)) to r (now (groups .exit)) ⌝ }
+{
+    if present == 1 {
+        put_row(groups, to, &language_row(body, at));
+        at + 3
+    } else {
+        put_row(groups, to, &[0, 0, 0, 0]);
+        at
+    }
+}
+
+// The seven columns of the three bytes that are always there.
+fn head_row(id: u16, flags: u16, content: u16) -> [u16; 7]
+    ensures { λ r. ⌜ r ≡ headOf id flags content ⌝ }
+{
+    [
+        part(id, 7, 1),
+        part(id, 0, 7),
+        part(flags, 5, 3),
+        part(flags, 4, 1),
+        part(flags, 3, 1),
+        part(content, 4, 4),
+        part(content, 0, 4),
+    ]
+}
+
+// Stores a group that was measured as the row whose first column is `to`, and answers the next position.
+fn fill_group(body: &[u8], at: usize, groups: &mut [u16], to: usize) -> usize
+    requires { ⌜ (at ≤ length (now body)) × (isDone (run (flat 27 group) (now body) at) ≡ true) × (to + 27 ≤ length (now groups)) ⌝ }
+    ensures { λ r. ⌜ RowPut (now (body .entry)) at (now (groups .entry)) to r (now (groups .exit)) ⌝ }
+{
+    let id = wide(body[at]);
+    let flags = wide(body[at + 1]);
+    let content = wide(body[at + 2]);
+    let p = part(flags, 2, 1);
+    let g = part(flags, 1, 1);
+    let l = part(flags, 0, 1);
+    put_row(groups, to, &head_row(id, flags, content));
+    let at_gain = fill_position(body, at + 3, p, groups, to + 7);
+    let at_language = fill_gain(body, at_gain, g, groups, to + 18);
+    fill_language(body, at_language, l, groups, to + 23)
+}
+
 // Stores `count` groups that were measured as the first rows of table 1.
 pub fn fill_groups(body: &[u8], at: usize, count: usize, groups: &mut [u16])
     requires { ⌜ (at ≤ length (now body)) × (isDone (run (many count (flat 27 group)) (now body) at) ≡ true) × (27 * count ≤ length (now groups)) ⌝ }
@@ -218,10 +339,7 @@ pub fn fill_groups(body: &[u8], at: usize, count: usize, groups: &mut [u16])
     let mut left = count;
     let mut to = 0;
     while 0 < left {
-        let p = group_at(body, pos);
-        let row = p.group.columns();
-        put_row(groups, to, &row);
-        pos = p.next;
+        pos = fill_group(body, pos, groups, to);
         left -= 1;
         to += GROUP_COLUMNS;
     }

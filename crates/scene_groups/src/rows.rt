@@ -8,7 +8,7 @@ use wire::bits::flag;
 use wire::ids::GroupId;
 
 // Column `k` of the row of table 1 whose first column is `b`: the index is proved here alone.
-fn column_at(t: &[u16], b: usize, k: usize) -> u16
+pub fn column(t: &[u16], b: usize, k: usize) -> u16
     requires { ⌜ (b + 27 ≤ length (now t)) × (k < 27) ⌝ }
     ensures { λ r. ⌜ r ≡ getD (now (t .entry)) (b + k) 0 ⌝ }
 {
@@ -93,22 +93,22 @@ impl PositionInteractivity {
     }
 
     // Of the row whose first column is `b`.
-    fn of_columns(t: &[u16], b: usize) -> Self
+    pub fn of_columns(t: &[u16], b: usize) -> Self
         requires { ⌜ b + 27 ≤ length (now t) ⌝ }
         ensures { λ r. ⌜ r ≡ positionOf (now (t .entry)) b ⌝ }
     {
         Self {
-            present: column_at(t, b, 7),
-            reserved_min_az: column_at(t, b, 8),
-            min_az_offset: column_at(t, b, 9),
-            reserved_max_az: column_at(t, b, 10),
-            max_az_offset: column_at(t, b, 11),
-            reserved_min_el: column_at(t, b, 12),
-            min_el_offset: column_at(t, b, 13),
-            reserved_max_el: column_at(t, b, 14),
-            max_el_offset: column_at(t, b, 15),
-            min_dist_offset: column_at(t, b, 16),
-            max_dist_offset: column_at(t, b, 17),
+            present: column(t, b, 7),
+            reserved_min_az: column(t, b, 8),
+            min_az_offset: column(t, b, 9),
+            reserved_max_az: column(t, b, 10),
+            max_az_offset: column(t, b, 11),
+            reserved_min_el: column(t, b, 12),
+            min_el_offset: column(t, b, 13),
+            reserved_max_el: column(t, b, 14),
+            max_el_offset: column(t, b, 15),
+            min_dist_offset: column(t, b, 16),
+            max_dist_offset: column(t, b, 17),
         }
     }
 }
@@ -140,16 +140,16 @@ impl GainInteractivity {
     }
 
     // Of the row whose first column is `b`.
-    fn of_columns(t: &[u16], b: usize) -> Self
+    pub fn of_columns(t: &[u16], b: usize) -> Self
         requires { ⌜ b + 27 ≤ length (now t) ⌝ }
         ensures { λ r. ⌜ r ≡ gainOf (now (t .entry)) b ⌝ }
     {
         Self {
-            present: column_at(t, b, 18),
-            reserved_min: column_at(t, b, 19),
-            min_gain: column_at(t, b, 20),
-            reserved_max: column_at(t, b, 21),
-            max_gain: column_at(t, b, 22),
+            present: column(t, b, 18),
+            reserved_min: column(t, b, 19),
+            min_gain: column(t, b, 20),
+            reserved_max: column(t, b, 21),
+            max_gain: column(t, b, 22),
         }
     }
 }
@@ -178,15 +178,15 @@ impl ContentLanguage {
     }
 
     // Of the row whose first column is `b`.
-    fn of_columns(t: &[u16], b: usize) -> Self
+    pub fn of_columns(t: &[u16], b: usize) -> Self
         requires { ⌜ b + 27 ≤ length (now t) ⌝ }
         ensures { λ r. ⌜ r ≡ languageOf (now (t .entry)) b ⌝ }
     {
         Self {
-            present: column_at(t, b, 23),
-            first: column_at(t, b, 24),
-            second: column_at(t, b, 25),
-            third: column_at(t, b, 26),
+            present: column(t, b, 23),
+            first: column(t, b, 24),
+            second: column(t, b, 25),
+            third: column(t, b, 26),
         }
     }
 }
@@ -275,12 +275,12 @@ impl SceneGroup {
     {
         Self {
             reserved_id: t[b],
-            group_id: GroupId(column_at(t, b, 1)),
-            reserved_flags: column_at(t, b, 2),
-            allow_on_off: column_at(t, b, 3),
-            default_on_off: column_at(t, b, 4),
-            reserved_kind: column_at(t, b, 5),
-            content_kind: column_at(t, b, 6),
+            group_id: GroupId(column(t, b, 1)),
+            reserved_flags: column(t, b, 2),
+            allow_on_off: column(t, b, 3),
+            default_on_off: column(t, b, 4),
+            reserved_kind: column(t, b, 5),
+            content_kind: column(t, b, 6),
             position: PositionInteractivity::of_columns(t, b),
             gain: GainInteractivity::of_columns(t, b),
             content_language: ContentLanguage::of_columns(t, b),

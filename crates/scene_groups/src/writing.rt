@@ -1,21 +1,22 @@
 // Writing groups: their bytes as numbers, the check pass with a quick test of a plain row, and the fill pass.
 ghost use mathlib.Core.Path.{_≡_};
 ghost use mathlib.Core.List.{map};
-ghost use Prim.Native.Nat.{_*_, _<_, _≤_, _^_};
+ghost use Prim.Native.Nat.{_+_, _*_, _<_, _≤_, _^_};
 ghost use lib.ListN.{length};
 ghost use Rattle.wire.specs.Act.{rows};
 ghost use Rattle.wire.specs.Layout.{fieldOf};
 ghost use Rattle.wire.specs.Pen.{Checked, Quick, Ready, Filled};
 ghost use Rattle.wire.specs.Spell.{Spells, Spelt, PlainRows};
 ghost use Rattle.wire.specs.declared.pen.Pen.the-variants.{At};
-ghost use Rattle.scene_groups.specs.Rows.{groupCols, flagCells};
-ghost use Rattle.scene_groups.specs.Write.{headFields, positionFields, gainFields, languageFields, groupFlags, partFits, plainFits, groupActs, rowActs};
+ghost use Rattle.scene_groups.specs.Rows.{groupCols, groupOf, positionOf, gainOf, languageOf, flagCells};
+ghost use Rattle.scene_groups.specs.Write.{headFields, positionFields, gainFields, languageFields, groupFlags, positionFits, gainFits, languageFits, plainFits, noParts, positionPart, gainPart, languagePart, groupActs, rowActs};
 use super::parsing::size;
 use super::rows::ContentLanguage;
 use super::rows::GROUP_COLUMNS;
 use super::rows::GainInteractivity;
 use super::rows::PositionInteractivity;
 use super::rows::SceneGroup;
+use super::rows::column;
 use wire::bits::is_flag;
 use wire::pen;
 use wire::pen::Fault;
@@ -29,24 +30,30 @@ use wire::spell::two;
 
 // ---- the bytes
 
-fn flags_byte(g: SceneGroup) -> u32
-    ensures { λ r. ⌜ Spells (map (fieldOf (groupCols g)) flagCells) r ⌝ }
+fn flags_byte(groups: &[u16], b: usize) -> u32
+    requires { ⌜ b + 27 ≤ length (now groups) ⌝ }
+    ensures { λ r. ⌜ Spells (map (fieldOf (groupCols (groupOf (now (groups .entry)) b))) flagCells) r ⌝ }
 {
-    let a = Joined::none().field(g.reserved_flags, 3);
-    let b = a.field(g.allow_on_off, 1).field(g.default_on_off, 1);
-    b.field(g.position.present, 1)
-        .field(g.gain.present, 1)
-        .field(g.content_language.present, 1)
+    let reserved = Joined::none().field(column(groups, b, 2), 3);
+    let on_off = reserved
+        .field(column(groups, b, 3), 1)
+        .field(column(groups, b, 4), 1);
+    on_off
+        .field(column(groups, b, 7), 1)
+        .field(column(groups, b, 18), 1)
+        .field(column(groups, b, 23), 1)
         .spelt()
 }
 
-fn head_bytes(g: SceneGroup) -> [u32; 3]
-    ensures { λ r. ⌜ Spelt (headFields g) r ⌝ }
+// Of the row whose first column is `b`: no column of a part but its flag is loaded.
+fn head_bytes(groups: &[u16], b: usize) -> [u32; 3]
+    requires { ⌜ b + 27 ≤ length (now groups) ⌝ }
+    ensures { λ r. ⌜ Spelt (headFields (groupOf (now (groups .entry)) b)) r ⌝ }
 {
     [
-        two(g.reserved_id, 1, g.group_id.0, 7),
-        flags_byte(g),
-        two(g.reserved_kind, 4, g.content_kind, 4),
+        two(groups[b], 1, column(groups, b, 1), 7),
+        flags_byte(groups, b),
+        two(column(groups, b, 5), 4, column(groups, b, 6), 4),
     ]
 }
 
@@ -89,12 +96,13 @@ fn flags_hold(g: SceneGroup) -> bool
 }
 
 // Flags at the start of the row, then each byte at its place.
-fn check_group(n: usize, g: SceneGroup) -> Pen
-    requires { ⌜ n < 2 ^ 31 ⌝ }
-    ensures { λ r. ⌜ Checked (groupActs g) 13 (At n) r ⌝ }
+fn check_group(n: usize, groups: &[u16], b: usize) -> Pen
+    requires { ⌜ (n < 2 ^ 31) × (b + 27 ≤ length (now groups)) ⌝ }
+    ensures { λ r. ⌜ Checked (groupActs (groupOf (now (groups .entry)) b)) 13 (At n) r ⌝ }
 {
+    let g = SceneGroup::of_columns(groups, b);
     let p0 = pen::demand(Pen::At(n), Fault::Field, flags_hold(g));
-    let p1 = check_all(p0, true, &head_bytes(g));
+    let p1 = check_all(p0, true, &head_bytes(groups, b));
     let p2 = check_all(p1, g.position.present == 1, &position_bytes(g.position));
     let p3 = check_all(p2, g.gain.present == 1, &gain_bytes(g.gain));
     check_all(
@@ -105,56 +113,86 @@ fn check_group(n: usize, g: SceneGroup) -> Pen
 }
 
 // Whether the fields of a part fit, if it is there: its columns are loaded behind its flag.
-fn position_fits(p: PositionInteractivity) -> bool
-    ensures { λ r. ⌜ r ≡ partFits (p .present) (positionFields p) ⌝ }
+fn position_fits(groups: &[u16], b: usize) -> bool
+    requires { ⌜ b + 27 ≤ length (now groups) ⌝ }
+    ensures { λ r. ⌜ r ≡ positionFits (positionOf (now (groups .entry)) b) ⌝ }
 {
-    if p.present == 1 {
-        fits_all(&position_bytes(p))
+    if column(groups, b, 7) == 1 {
+        fits_all(&position_bytes(PositionInteractivity::of_columns(groups, b)))
     } else {
         true
     }
 }
 
-fn gain_fits(g: GainInteractivity) -> bool
-    ensures { λ r. ⌜ r ≡ partFits (g .present) (gainFields g) ⌝ }
+fn gain_fits(groups: &[u16], b: usize) -> bool
+    requires { ⌜ b + 27 ≤ length (now groups) ⌝ }
+    ensures { λ r. ⌜ r ≡ gainFits (gainOf (now (groups .entry)) b) ⌝ }
 {
-    if g.present == 1 {
-        fits_all(&gain_bytes(g))
+    if column(groups, b, 18) == 1 {
+        fits_all(&gain_bytes(GainInteractivity::of_columns(groups, b)))
     } else {
         true
     }
 }
 
-fn language_fits(l: ContentLanguage) -> bool
-    ensures { λ r. ⌜ r ≡ partFits (l .present) (languageFields l) ⌝ }
+fn language_fits(groups: &[u16], b: usize) -> bool
+    requires { ⌜ b + 27 ≤ length (now groups) ⌝ }
+    ensures { λ r. ⌜ r ≡ languageFits (languageOf (now (groups .entry)) b) ⌝ }
 {
-    if l.present == 1 {
-        fits_all(&language_bytes(l))
+    if column(groups, b, 23) == 1 {
+        fits_all(&language_bytes(ContentLanguage::of_columns(groups, b)))
     } else {
         true
     }
 }
 
-// Whether nothing is wrong with it: a flag is a field of one bit, so the bytes tell.
-fn plain(g: SceneGroup) -> bool
-    ensures { λ r. ⌜ r ≡ plainFits (groupCols g) ⌝ }
+// Whether nothing is wrong with a row: a flag is a field of one bit, so the bytes tell.
+fn plain(groups: &[u16], b: usize) -> bool
+    requires { ⌜ b + 27 ≤ length (now groups) ⌝ }
+    ensures { λ r. ⌜ r ≡ plainFits (groupCols (groupOf (now (groups .entry)) b)) ⌝ }
 {
-    let position = position_fits(g.position);
-    let gain = gain_fits(g.gain);
-    let language = language_fits(g.content_language);
-    fits_all(&head_bytes(g)) & (position & (gain & language))
+    let position = position_fits(groups, b);
+    let gain = gain_fits(groups, b);
+    let language = language_fits(groups, b);
+    fits_all(&head_bytes(groups, b)) & (position & (gain & language))
 }
 
-// Its bytes, or 0 if it has a fault: in almost every row nothing is wrong, and this is seen at once.
-fn plain_bytes(g: SceneGroup) -> usize
-    ensures { λ r. ⌜ Quick (groupActs g) 13 r ⌝ }
+// The bytes of a row that has parts, or 0 if it has a fault.
+fn full_bytes(groups: &[u16], b: usize) -> usize
+    requires { ⌜ b + 27 ≤ length (now groups) ⌝ }
+    ensures { λ r. ⌜ Quick (groupActs (groupOf (now (groups .entry)) b)) 13 r ⌝ }
 {
-    if plain(g) {
+    if plain(groups, b) {
         3
-            + (size(g.position.present, 5)
-                + (size(g.gain.present, 2) + size(g.content_language.present, 3)))
+            + (size(column(groups, b, 7), 5)
+                + (size(column(groups, b, 18), 2) + size(column(groups, b, 23), 3)))
     } else {
         0
+    }
+}
+
+// Whether a row has no part.
+fn bare(groups: &[u16], b: usize) -> bool
+    requires { ⌜ b + 27 ≤ length (now groups) ⌝ }
+    ensures { λ r. ⌜ r ≡ noParts (groupCols (groupOf (now (groups .entry)) b)) ⌝ }
+{
+    (column(groups, b, 7) == 0) & ((column(groups, b, 18) == 0) & (column(groups, b, 23) == 0))
+}
+
+// The bytes of a row, or 0 if it has a fault: in almost every row nothing is wrong, and this is seen at once.
+// Of a row without parts, only the three bytes are looked at.
+fn plain_bytes(groups: &[u16], b: usize) -> usize
+    requires { ⌜ b + 27 ≤ length (now groups) ⌝ }
+    ensures { λ r. ⌜ Quick (groupActs (groupOf (now (groups .entry)) b)) 13 r ⌝ }
+{
+    if bare(groups, b) {
+        if fits_all(&head_bytes(groups, b)) {
+            3
+        } else {
+            0
+        }
+    } else {
+        full_bytes(groups, b)
     }
 }
 
@@ -171,7 +209,7 @@ fn plain_rows(groups: &[u16], count: usize) -> Passed
     let mut bytes: usize = 0;
     let mut i: usize = 0;
     while i < count {
-        let k = plain_bytes(SceneGroup::of_columns(groups, i * GROUP_COLUMNS));
+        let k = plain_bytes(groups, i * GROUP_COLUMNS);
         if k == 0 {
             return Passed { rows: i, bytes };
         }
@@ -190,7 +228,7 @@ pub fn check_groups(n: usize, groups: &[u16], count: usize) -> Pen
     let i = p.rows;
     let at = n + p.bytes;
     if i < count {
-        check_group(at, SceneGroup::of_columns(groups, i * GROUP_COLUMNS))
+        check_group(at, groups, i * GROUP_COLUMNS)
     } else {
         Pen::At(at)
     }
@@ -198,24 +236,51 @@ pub fn check_groups(n: usize, groups: &[u16], count: usize) -> Pen
 
 // ---- the fill pass
 
-fn fill_group(g: SceneGroup, out: &mut [u8], n: usize) -> usize
-    requires { ⌜ Ready (groupActs g) n (now out) ⌝ }
-    ensures { λ r. ⌜ Filled (groupActs g) n (now (out .entry)) r (now (out .exit)) ⌝ }
+// Each part behind its flag: a store to `out` would keep the compiler from moving a load there.
+fn fill_position(groups: &[u16], b: usize, out: &mut [u8], n: usize) -> usize
+    requires { ⌜ (b + 27 ≤ length (now groups)) × Ready (positionPart (positionOf (now groups) b)) n (now out) ⌝ }
+    ensures { λ r. ⌜ Filled (positionPart (positionOf (now (groups .entry)) b)) n (now (out .entry)) r (now (out .exit)) ⌝ }
 {
-    let n1 = fill_all(out, n, true, &head_bytes(g));
-    let n2 = fill_all(
-        out,
-        n1,
-        g.position.present == 1,
-        &position_bytes(g.position),
-    );
-    let n3 = fill_all(out, n2, g.gain.present == 1, &gain_bytes(g.gain));
-    fill_all(
-        out,
-        n3,
-        g.content_language.present == 1,
-        &language_bytes(g.content_language),
-    )
+    if column(groups, b, 7) == 1 {
+        let bytes = position_bytes(PositionInteractivity::of_columns(groups, b));
+        fill_all(out, n, true, &bytes)
+    } else {
+        n
+    }
+}
+
+fn fill_gain(groups: &[u16], b: usize, out: &mut [u8], n: usize) -> usize
+    requires { ⌜ (b + 27 ≤ length (now groups)) × Ready (gainPart (gainOf (now groups) b)) n (now out) ⌝ }
+    ensures { λ r. ⌜ Filled (gainPart (gainOf (now (groups .entry)) b)) n (now (out .entry)) r (now (out .exit)) ⌝ }
+{
+    if column(groups, b, 18) == 1 {
+        let bytes = gain_bytes(GainInteractivity::of_columns(groups, b));
+        fill_all(out, n, true, &bytes)
+    } else {
+        n
+    }
+}
+
+fn fill_language(groups: &[u16], b: usize, out: &mut [u8], n: usize) -> usize
+    requires { ⌜ (b + 27 ≤ length (now groups)) × Ready (languagePart (languageOf (now groups) b)) n (now out) ⌝ }
+    ensures { λ r. ⌜ Filled (languagePart (languageOf (now (groups .entry)) b)) n (now (out .entry)) r (now (out .exit)) ⌝ }
+{
+    if column(groups, b, 23) == 1 {
+        let bytes = language_bytes(ContentLanguage::of_columns(groups, b));
+        fill_all(out, n, true, &bytes)
+    } else {
+        n
+    }
+}
+
+fn fill_group(groups: &[u16], b: usize, out: &mut [u8], n: usize) -> usize
+    requires { ⌜ (b + 27 ≤ length (now groups)) × Ready (groupActs (groupOf (now groups) b)) n (now out) ⌝ }
+    ensures { λ r. ⌜ Filled (groupActs (groupOf (now (groups .entry)) b)) n (now (out .entry)) r (now (out .exit)) ⌝ }
+{
+    let n1 = fill_all(out, n, true, &head_bytes(groups, b));
+    let n2 = fill_position(groups, b, out, n1);
+    let n3 = fill_gain(groups, b, out, n2);
+    fill_language(groups, b, out, n3)
 }
 
 // The rows of table 1, from the first.
@@ -226,8 +291,7 @@ pub fn fill_groups(groups: &[u16], count: usize, out: &mut [u8], n: usize) -> us
     let mut at = n;
     let mut i: usize = 0;
     while i < count {
-        let g = SceneGroup::of_columns(groups, i * GROUP_COLUMNS);
-        at = fill_group(g, out, at);
+        at = fill_group(groups, i * GROUP_COLUMNS, out, at);
         i += 1;
     }
     at

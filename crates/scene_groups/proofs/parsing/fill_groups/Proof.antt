@@ -17,18 +17,10 @@ loop-holds : tie.Need-loop-holds Inv-loop μ-loop
 loop-holds c =
     record { inside = c .before .before .pre .0; long = refl; place = refl; sound = c .before .before .pre .1; end = refl; stored = refl }
 
-group-at-requires : tie.Need-group-at-requires Inv-loop μ-loop
-group-at-requires c κs =
-    (c .before .loop .inv .inside, first-done (flat 27 group) _ _ _ (c .loop-test .taken) (c .before .loop .inv .sound))
-
-columns-requires : tie.Need-columns-requires Inv-loop μ-loop
-columns-requires c κs = search needs
-
-slice-aggregate-put-row : tie.Need-slice-aggregate-put-row Inv-loop μ-loop
-slice-aggregate-put-row c = search needs
-
-put-row-requires : tie.Need-put-row-requires Inv-loop μ-loop
-put-row-requires c κs = search needs
+fill-group-requires : tie.Need-fill-group-requires Inv-loop μ-loop
+fill-group-requires c κs =
+    let l = c .before .before .loop .inv in
+    (l .inside, first-done (flat 27 group) _ _ _ (c .before .loop-test .taken) (l .sound), search needs)
 
 sub-left : tie.Need-sub-left Inv-loop μ-loop
 sub-left c = search needs
@@ -41,9 +33,10 @@ loop-less c = search needs
 
 loop-again : tie.Need-loop-again Inv-loop μ-loop
 loop-again c =
-    let l = c .before .before .before .before .before .before in
-    fill-next (flat 27 group) (λ r. r) 27 _ _ _ _ 0 _ _ _ _ (l .before .before .loop .inv) (l .before .loop-test .taken) (l .group-at .ensures)
-    refl refl (c .before .before .before .before .before .columns .ensures) (c .before .before .put-row .ensures)
+    let l = c .before .before .before .before in
+    let p = c .before .before .fill-group .ensures in
+    fill-next (flat 27 group) (λ r. r) 27 _ _ _ _ 0 _ _ _ _ (l .before .loop .inv) (l .loop-test .taken) (p .read)
+    refl (p .long) refl (p .stored)
 
 same-length : tie.Need-same-length Inv-loop μ-loop
 same-length c = search needs
@@ -59,10 +52,7 @@ fill-groups-spec =
     Inv-loop
     μ-loop
     loop-holds
-    group-at-requires
-    columns-requires
-    slice-aggregate-put-row
-    put-row-requires
+    fill-group-requires
     sub-left
     add-to
     loop-less

@@ -7,7 +7,8 @@ use lib.ListN.{length, getD}
 use Rattle.wire.specs.Bits.{part}
 use Rattle.wire.proofs.Straight.{Whole, flat-done}
 use Rattle.scene_groups.specs.Layout.{group}
-use Rattle.scene_groups.proofs.Groups.{fives, twos, threes, headOf, group-room, group-done, flag-below}
+use Rattle.scene_groups.specs.Rows.{headOf}
+use Rattle.scene_groups.proofs.Groups.{fives, twos, threes, group-room, group-done, flag-below}
 use borrow.Author.Needs.{needs}
 use Rattle.scene_groups.proofs.parsing.group_at.Statement.{statement}
 use Rattle.scene_groups.proofs.parsing.group_at.Tie as tie

@@ -11,17 +11,14 @@ plain-rows-requires c κs = search needs
 add-at : tie.Need-add-at
 add-at c = search needs
 
-mul-of-columns : tie.Need-mul-of-columns
-mul-of-columns c = search needs
-
-of-columns-requires : tie.Need-of-columns-requires
-of-columns-requires c κs = search needs
+mul-check-group : tie.Need-mul-check-group
+mul-check-group c = search needs
 
 check-group-requires : tie.Need-check-group-requires
 check-group-requires c κs = search needs
 
 returns : tie.Need-returns
-returns c = plain-odd _ 13 _ _ (c .before .before .before .before .plain-rows .ensures) (c .before .before .if1 .taken) (rw (c .before .of-columns .ensures, row-acts) at (c .check-group .ensures))
+returns c = plain-odd _ 13 _ _ (c .before .before .before .plain-rows .ensures) (c .before .if1 .taken) (rw row-acts at (c .check-group .ensures))
 
 returns-2 : tie.Need-returns-2
 returns-2 c = plain-end _ 13 _ _ (c .before .before .plain-rows .ensures) (c .if1 .left)
@@ -32,8 +29,7 @@ check-groups-spec =
     (tie.spec
     plain-rows-requires
     add-at
-    mul-of-columns
-    of-columns-requires
+    mul-check-group
     check-group-requires
     returns
     returns-2)

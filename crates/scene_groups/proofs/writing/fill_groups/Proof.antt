@@ -20,16 +20,13 @@ loop-holds : tie.Need-loop-holds Inv-loop μ-loop
 loop-holds c =
     (omega arith, rw sub-zero (fill-start (c .before .before .pre .2)))
 
-mul-of-columns : tie.Need-mul-of-columns Inv-loop μ-loop
-mul-of-columns c = search needs
-
-of-columns-requires : tie.Need-of-columns-requires Inv-loop μ-loop
-of-columns-requires c κs =
-    omega arith
+mul-fill-group : tie.Need-mul-fill-group Inv-loop μ-loop
+mul-fill-group c = search needs
 
 fill-group-requires : tie.Need-fill-group-requires Inv-loop μ-loop
 fill-group-requires c κs =
-    rw (c .before .of-columns .ensures, row-acts) (fill-row _ _ (c .before .before .before .loop .inv .1) (rows-turn _ _ _ (c .before .before .loop-test .taken)))
+    let l = c .before in
+    (omega arith, rw row-acts (fill-row _ _ (l .before .loop .inv .1) (rows-turn _ _ _ (l .loop-test .taken))))
 
 add-i : tie.Need-add-i Inv-loop μ-loop
 add-i c = search needs
@@ -40,8 +37,8 @@ loop-less c = search needs
 loop-again : tie.Need-loop-again Inv-loop μ-loop
 loop-again c =
     let l = c .before .before .before .before in
-    let w = rw (l .of-columns .ensures, row-acts) at (c .before .before .fill-group .ensures) in
-    (omega arith, fill-turn (l .before .before .loop .inv .1) (rows-turn _ _ _ (l .before .loop-test .taken)) (c .before .before .fill-group .kept .1 .0) w)
+    let w = rw row-acts at (c .before .before .fill-group .ensures) in
+    (omega arith, fill-turn (l .before .loop .inv .1) (rows-turn _ _ _ (l .loop-test .taken)) (c .before .before .fill-group .kept .1 .1 .0) w)
 
 same-length : tie.Need-same-length Inv-loop μ-loop
 same-length c =
@@ -58,8 +55,7 @@ fill-groups-spec =
     Inv-loop
     μ-loop
     loop-holds
-    mul-of-columns
-    of-columns-requires
+    mul-fill-group
     fill-group-requires
     add-i
     loop-less

@@ -16,33 +16,30 @@ abbrev μ-loop : tie.MeasureT-loop
 μ-loop groups count bytes₀ i₀ bytes i = count - i
 
 -- what the quick test says of a row
-quick : (c : tie.After-plain-bytes Inv-loop μ-loop) → Quick (rowActs (c .before .before .before .before .before .args .groups .now) (c .before .before .before .loop .i)) 13 (c .plain-bytes .result)
-quick c = rw (c .before .of-columns .ensures, row-acts) at (c .plain-bytes .ensures)
+quick : (c : tie.After-plain-bytes Inv-loop μ-loop) → Quick (rowActs (c .before .before .before .before .args .groups .now) (c .before .before .loop .i)) 13 (c .plain-bytes .result)
+quick c = rw row-acts at (c .plain-bytes .ensures)
 
 abbrev start : tie.Else1 Inv-loop μ-loop → tie.Start Inv-loop μ-loop
-start c = c .before .before .before .before .before .before
+start c = c .before .before .before .before .before
 
-turn : (c : tie.Else1 Inv-loop μ-loop) → Going (rowActs (start c .args .groups .now)) 13 (start c .args .count) (c .before .before .before .before .loop .i + 1)
-    (c .before .before .before .before .loop .bytes + c .before .plain-bytes .result)
-turn c = let l = c .if1 .left in going-turn (c .before .before .before .before .loop .inv) (quick (c .before)) (c .before .before .before .loop-test .taken) (omega (arith, l))
+turn : (c : tie.Else1 Inv-loop μ-loop) → Going (rowActs (start c .args .groups .now)) 13 (start c .args .count) (c .before .before .before .loop .i + 1)
+    (c .before .before .before .loop .bytes + c .before .plain-bytes .result)
+turn c = let l = c .if1 .left in going-turn (c .before .before .before .loop .inv) (quick (c .before)) (c .before .before .loop-test .taken) (omega (arith, l))
 
 loop-holds : tie.Need-loop-holds Inv-loop μ-loop
 loop-holds c = going-start _ 13 _
 
-mul-of-columns : tie.Need-mul-of-columns Inv-loop μ-loop
-mul-of-columns c = search needs
-
-of-columns-requires : tie.Need-of-columns-requires Inv-loop μ-loop
-of-columns-requires c κs = omega arith
+mul-plain-bytes : tie.Need-mul-plain-bytes Inv-loop μ-loop
+mul-plain-bytes c = search needs
 
 plain-bytes-requires : tie.Need-plain-bytes-requires Inv-loop μ-loop
-plain-bytes-requires c κs = search needs
+plain-bytes-requires c κs = omega arith
 
 returns : tie.Need-returns Inv-loop μ-loop
-returns c = going-odd (c .before .before .before .before .loop .inv) (quick (c .before)) (c .if1 .taken)
+returns c = going-odd (c .before .before .before .loop .inv) (quick (c .before)) (c .if1 .taken)
 
 add-bytes : tie.Need-add-bytes Inv-loop μ-loop
-add-bytes c = omega (arith, turn c .few, c .before .before .before .loop-test .taken, start c .pre .1)
+add-bytes c = omega (arith, turn c .few, c .before .before .loop-test .taken, start c .pre .1)
 
 add-i : tie.Need-add-i Inv-loop μ-loop
 add-i c = search needs
@@ -63,8 +60,7 @@ plain-rows-spec =
     Inv-loop
     μ-loop
     loop-holds
-    mul-of-columns
-    of-columns-requires
+    mul-plain-bytes
     plain-bytes-requires
     returns
     add-bytes

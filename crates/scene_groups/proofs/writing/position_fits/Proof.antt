@@ -1,8 +1,15 @@
 -- `position_fits` tests the bytes of a position that is there.
+use mathlib.Core.Path.{sym, _∙_}
 use Rattle.scene_groups.proofs.Writes.{fits-there, fits-absent}
 use borrow.Author.Needs.{needs}
 use Rattle.scene_groups.proofs.writing.position_fits.Statement.{statement}
 use Rattle.scene_groups.proofs.writing.position_fits.Tie as tie
+
+column-requires : tie.Need-column-requires
+column-requires c κs = search needs
+
+of-columns-requires : tie.Need-of-columns-requires
+of-columns-requires c κs = search needs
 
 position-bytes-requires : tie.Need-position-bytes-requires
 position-bytes-requires c κs = search needs
@@ -14,12 +21,20 @@ fits-all-requires : tie.Need-fits-all-requires
 fits-all-requires c κs = search needs
 
 returns : tie.Need-returns
-returns c = fits-there _ (c .before .before .before .if1 .taken) (c .fits-all .ensures .of _ (c .before .before .position-bytes .ensures))
+returns c =
+    fits-there _ (sym (c .before .before .before .before .before .column .ensures) ∙ c .before .before .before .before .if1 .taken) (c .fits-all .ensures .of _ (rw (c .before .before .before .of-columns .ensures) at (c .before .before .position-bytes .ensures)))
 
 returns-2 : tie.Need-returns-2
-returns-2 c = fits-absent _ (c .if1 .left)
+returns-2 c = fits-absent _ (λ x. c .if1 .left (c .before .column .ensures ∙ x))
 
 pub position-fits-spec : {M : Type 1} → statement M
 position-fits-spec =
     tie.close
-    (tie.spec position-bytes-requires slice-aggregate-fits-all fits-all-requires returns returns-2)
+    (tie.spec
+    column-requires
+    of-columns-requires
+    position-bytes-requires
+    slice-aggregate-fits-all
+    fits-all-requires
+    returns
+    returns-2)

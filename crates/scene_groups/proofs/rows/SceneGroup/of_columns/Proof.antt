@@ -13,23 +13,23 @@ mul-t3 c = search needs
 shared-slice-read-t5 : tie.Need-shared-slice-read-t5
 shared-slice-read-t5 c = search needs
 
-column-at-requires : tie.Need-column-at-requires
-column-at-requires c κs = search needs
+column-requires : tie.Need-column-requires
+column-requires c κs = search needs
 
-column-at-requires-2 : tie.Need-column-at-requires-2
-column-at-requires-2 c κs = search needs
+column-requires-2 : tie.Need-column-requires-2
+column-requires-2 c κs = search needs
 
-column-at-requires-3 : tie.Need-column-at-requires-3
-column-at-requires-3 c κs = search needs
+column-requires-3 : tie.Need-column-requires-3
+column-requires-3 c κs = search needs
 
-column-at-requires-4 : tie.Need-column-at-requires-4
-column-at-requires-4 c κs = search needs
+column-requires-4 : tie.Need-column-requires-4
+column-requires-4 c κs = search needs
 
-column-at-requires-5 : tie.Need-column-at-requires-5
-column-at-requires-5 c κs = search needs
+column-requires-5 : tie.Need-column-requires-5
+column-requires-5 c κs = search needs
 
-column-at-requires-6 : tie.Need-column-at-requires-6
-column-at-requires-6 c κs = search needs
+column-requires-6 : tie.Need-column-requires-6
+column-requires-6 c κs = search needs
 
 of-columns-requires : tie.Need-of-columns-requires
 of-columns-requires c κs = search needs
@@ -44,12 +44,12 @@ returns : tie.Need-returns
 returns c =
     λ i. record {
       «reserved_id» = getD (start c .args .t .now) (start c .args .b) 0;
-      «group_id» = record { 0 = c .before .before .before .before .before .before .before .before .column-at .ensures i };
-      «reserved_flags» = c .before .before .before .before .before .before .before .column-at2 .ensures i;
-      «allow_on_off» = c .before .before .before .before .before .before .column-at3 .ensures i;
-      «default_on_off» = c .before .before .before .before .before .column-at4 .ensures i;
-      «reserved_kind» = c .before .before .before .before .column-at5 .ensures i;
-      «content_kind» = c .before .before .before .column-at6 .ensures i;
+      «group_id» = record { 0 = c .before .before .before .before .before .before .before .before .column .ensures i };
+      «reserved_flags» = c .before .before .before .before .before .before .before .column2 .ensures i;
+      «allow_on_off» = c .before .before .before .before .before .before .column3 .ensures i;
+      «default_on_off» = c .before .before .before .before .before .column4 .ensures i;
+      «reserved_kind» = c .before .before .before .before .column5 .ensures i;
+      «content_kind» = c .before .before .before .column6 .ensures i;
       position = c .before .before .of-columns .ensures i;
       gain = c .before .of-columns2 .ensures i;
       «content_language» = c .of-columns3 .ensures i;
@@ -61,12 +61,12 @@ of-columns-spec =
     (tie.spec
     mul-t3
     shared-slice-read-t5
-    column-at-requires
-    column-at-requires-2
-    column-at-requires-3
-    column-at-requires-4
-    column-at-requires-5
-    column-at-requires-6
+    column-requires
+    column-requires-2
+    column-requires-3
+    column-requires-4
+    column-requires-5
+    column-requires-6
     of-columns-requires
     of-columns-requires-2
     of-columns-requires-3
