@@ -1,3 +1,4 @@
 pub mod Taken
 pub mod Tallied
 pub mod Writes
+pub mod Counted

@@ -10,16 +10,16 @@ use lib.Dec.{eqb}
 use borrow.Author.Tests.{eq-eqb, ne-eqb, leb-true, le-ltb, lt-ltb}
 use Rattle.wire.specs.Bits.{Field, isFlag, fit}
 use Rattle.wire.specs.Act.{Act, demand, byte, when, pick}
-use Rattle.wire.specs.Pen.{Quick, clean, bytes}
-use Rattle.wire.specs.Layout.{Columns, at, flatActs, writes, shown, cells, every, counted, flagged}
-use Rattle.wire.specs.Spell.{Spells, fieldsOf, fitAll}
+use Rattle.wire.specs.Pen.{Quick, Ready, Filled, clean, bytes}
+use Rattle.wire.specs.Layout.{Columns, at, flatActs, writes, shown, cells, every, counted, flagged, fieldOf}
+use Rattle.wire.specs.Spell.{Spells, Spelt, none, more, fieldsOf, fitAll, ReadyAll, FillsAll}
 use Rattle.wire.specs.declared.pen.Fault.the-variants as F
 use Rattle.wire.proofs.Acts.{and-both, both-and, clean-append}
 use Rattle.wire.proofs.Cells.{fit-flags}
-use Rattle.wire.proofs.Passes.{quick-clean, quick-odd, Filling}
-use Rattle.wire.proofs.Plain.{clean-when, clean-all, absorb, no-quick}
+use Rattle.wire.proofs.Passes.{quick-clean, quick-odd, Filling, fill-start, fill-demand, fill-turn, fill-end}
+use Rattle.wire.proofs.Plain.{clean-when, clean-all, absorb, no-quick, filled-long, fill-part}
 use Rattle.conditions.specs.Layout.{condition}
-use Rattle.conditions.specs.Write.{flagsOf, detailActs, detailFits, detailLong, conditionActs, rowActs}
+use Rattle.conditions.specs.Write.{flagsOf, detailActs, detailFits, detailLong, conditionActs, colsAt, rowActs}
 use Rattle.conditions.specs.Rows.{conditionCols, conditionOf, idCells, flagCells, gainCells, positionCells}
 
 -- ---- flags
@@ -154,6 +154,10 @@ module _ (g : Columns) where
             go′ true q e = e
             go′ false q e = absurd (let z : _≡_ {A = ℕ} 0 1 = cc q in omega arith)
 
+-- what the tests of its parts say of a detail
+pub long-so : (g : Columns) {x y z : Bool} → fitAll (fieldsOf g (flagCells ∷ [])) ≡ x → pick (eqb (g 5) 1) (fitAll (fieldsOf g gainCells)) true ≡ y → pick (eqb (g 7) 1) (fitAll (fieldsOf g positionCells)) true ≡ z → pick (x && (y && z)) (2 + (g 5 + g 7 * 3)) 0 ≡ detailLong g
+long-so g e₁ e₂ e₃ = sym (λ i. pick (e₁ i && (e₂ i && e₃ i)) (2 + (g 5 + g 7 * 3)) 0)
+
 -- the byte as a number tells
 pub spelt-odd : {fs : List Field} {v : ℕ} → Spells fs v → 65536 ≤ v → fitAll (fs ∷ []) ≡ false
 unfolding fitAll
@@ -170,3 +174,44 @@ row-acts t i = condition-acts (conditionCols (conditionOf t (i * 13))) ∙ same 
   where
     same : plainActs (conditionCols (conditionOf t (i * 13))) ≡ plainActs (at 13 t i)
     same = rw add-zero
+
+pub row-at : (t : List ℕ) (b i : ℕ) → b ≡ i * 13 → flatActs condition (colsAt t b) ≡ rowActs t i
+row-at t b i e = ap (λ (b : ℕ). flatActs condition (colsAt t b)) e ∙ row-acts t i
+
+-- ---- filling a part whose flag was tested, a detail and a row
+
+module _ (fss : List (List Field)) {there : Bool} {n : ℕ} {l : List ℕ} (w : Ready (when there (map byte fss)) n l) where
+  module _ {vs : List ℕ} (s : Spelt fss vs) (t : there ≡ true) where
+    sure : Ready (map byte fss) n l
+    sure = subst (λ (x : Bool). Ready (when x (map byte fss)) n l) t w
+
+    pub part-ready : ReadyAll true vs n l
+    part-ready = record { fss = fss; spelt = s; ready = sure }
+
+    pub part-filled : {r : ℕ} {o : List ℕ} → FillsAll true vs n l r o → Filled (when there (map byte fss)) n l r o
+    part-filled {r} {o} f = subst (λ (x : Bool). Filled (when x (map byte fss)) n l r o) (sym t) (f .of fss s (sure .sound))
+
+  pub part-absent : there ≡ false → Filled (when there (map byte fss)) n l n l
+  part-absent t = fill-end (fill-start w) (ap (λ (x : Bool). when x (map byte fss)) t)
+
+abbrev gainActs : Columns → List Act
+gainActs g = when (eqb (g 5) 1) (map byte (fieldsOf g gainCells))
+
+abbrev positionActs : Columns → List Act
+positionActs g = when (eqb (g 7) 1) (map byte (fieldsOf g positionCells))
+
+pub row-begun : (g : Columns) {n₀ : ℕ} {l : List ℕ} → Ready (flatActs condition g) n₀ l → Filling (plainActs g) (map byte (idBytes g) ++ (when (eqb (g 1) 1) (detailActs g) ++ [])) n₀ l n₀ l
+row-begun g w = fill-demand (fill-demand (fill-start (rw (condition-acts g) at w)))
+
+module _ (g : Columns) {n₀ n : ℕ} {l o : List ℕ} where
+  pub flags-filled : {v : ℕ} → Spells (map (fieldOf g) flagCells) v → Ready (detailActs g) n₀ l → FillsAll true (v ∷ []) n₀ l n o → Filling (detailActs g) (gainActs g ++ (positionActs g ++ [])) n₀ l n o
+  flags-filled s w f = fill-part _ (more s none) (fill-start w) f
+
+  pub gain-filled : {r : ℕ} {o′ : List ℕ} → Filling (detailActs g) (gainActs g ++ (positionActs g ++ [])) n₀ l n o → Filled (gainActs g) n o r o′ → Filling (detailActs g) (positionActs g ++ []) n₀ l r o′
+  gain-filled w f = fill-turn w refl (filled-long f) f
+
+  pub position-filled : {r : ℕ} {o′ : List ℕ} → Filling (detailActs g) (positionActs g ++ []) n₀ l n o → Filled (positionActs g) n o r o′ → Filled (detailActs g) n₀ l r o′
+  position-filled w f = fill-end (fill-turn w refl (filled-long f) f) refl
+
+  pub id-filled : {v : ℕ} → Spells (map (fieldOf g) idCells) v → Ready (flatActs condition g) n₀ l → FillsAll true (v ∷ []) n₀ l n o → Filling (plainActs g) (when (eqb (g 1) 1) (detailActs g) ++ []) n₀ l n o
+  id-filled s w f = fill-part _ (more s none) (row-begun g w) f

@@ -8,7 +8,7 @@ use Rattle.wire.specs.Act.{Act, byte, when, pick}
 use Rattle.wire.specs.Layout.{Columns, at, flatActs}
 use Rattle.wire.specs.Spell.{fieldsOf, fitAll}
 use Rattle.conditions.specs.Layout.{condition}
-use Rattle.conditions.specs.Rows.{conditionCols, detailRow, positionRow, from, flagCells, gainCells, positionCells}
+use Rattle.conditions.specs.Rows.{conditionCols, conditionOf, detailRow, positionRow, from, flagCells, gainCells, positionCells}
 use Rattle.conditions.specs.declared.rows.PresetPosition.{PresetPosition}
 use Rattle.conditions.specs.declared.rows.PresetConditionDetail.{PresetConditionDetail}
 use Rattle.conditions.specs.declared.rows.PresetCondition.{PresetCondition}
@@ -37,6 +37,10 @@ detailLong g = pick (detailFits g) (2 + (g 5 + g 7 * 3)) 0
 
 abbrev pub conditionActs : PresetCondition → List Act
 conditionActs c = flatActs condition (conditionCols c)
+
+-- the columns of the row that begins at column b of a table
+abbrev pub colsAt : List ℕ → ℕ → Columns
+colsAt t b = conditionCols (conditionOf t b)
 
 abbrev pub rowActs : List ℕ → ℕ → List Act
 rowActs t i = flatActs condition (at 13 t i)

@@ -1,15 +1,17 @@
 // Writing conditions: their bytes as numbers, the check pass with a quick test of a plain row, and the fill pass.
 ghost use mathlib.Core.Path.{_≡_};
+ghost use mathlib.Core.Bool.{true};
 ghost use mathlib.Core.List.{map};
 ghost use Prim.Native.Nat.{_+_, _*_, _<_, _≤_, _^_};
 ghost use lib.ListN.{length};
-ghost use Rattle.wire.specs.Act.{rows};
-ghost use Rattle.wire.specs.Layout.{fieldOf};
+ghost use Rattle.wire.specs.Act.{byte, rows, when, pick};
+ghost use Rattle.wire.specs.Layout.{fieldOf, flatActs};
 ghost use Rattle.wire.specs.Pen.{reach, Checked, Quick, Ready, Filled};
-ghost use Rattle.wire.specs.Spell.{Spells, Spelt, PlainRows};
+ghost use Rattle.wire.specs.Spell.{Spells, Spelt, PlainRows, fieldsOf, fitAll};
 ghost use Rattle.wire.specs.declared.pen.Pen.the-variants.{At};
-ghost use Rattle.conditions.specs.Rows.{flagCells};
-ghost use Rattle.conditions.specs.Write.{detailCols, positionFields, flagsOf, detailActs, detailLong, conditionActs, rowActs};
+ghost use Rattle.conditions.specs.Layout.{condition};
+ghost use Rattle.conditions.specs.Rows.{flagCells, gainCells, positionCells};
+ghost use Rattle.conditions.specs.Write.{detailCols, positionFields, flagsOf, detailActs, detailLong, conditionActs, colsAt, rowActs};
 use super::rows::CONDITION_COLUMNS;
 use super::rows::PresetCondition;
 use super::rows::PresetConditionDetail;
@@ -22,7 +24,6 @@ use wire::spell::Joined;
 use wire::spell::check_all;
 use wire::spell::fill_all;
 use wire::spell::fits_all;
-use wire::spell::fits_part;
 use wire::spell::one;
 use wire::spell::two;
 
@@ -89,28 +90,64 @@ fn check_condition(n: usize, c: PresetCondition) -> Pen
     }
 }
 
-// The bytes of a condition whose detail is this one and is there, or 0 if a field does not fit.
-fn plain_detail(d: PresetConditionDetail) -> usize
-    ensures { λ r. ⌜ r ≡ detailLong (detailCols d) ⌝ }
+// Whether the gain of the row whose first column is `b` fits, if it is there. A part's columns are loaded only behind its flag, here and in the fill pass.
+fn plain_gain(conditions: &[u16], b: usize, there: bool) -> bool
+    requires { ⌜ b + 13 ≤ length (now conditions) ⌝ }
+    ensures { λ r. ⌜ r ≡ pick there (fitAll (fieldsOf (colsAt (now (conditions .entry)) b) gainCells)) true ⌝ }
 {
-    let gain = fits_part(d.gain.present == 1, &[one(d.gain.gain)]);
-    let position = fits_part(d.position.present == 1, &position_bytes(d.position));
-    if fits_all(&[flags_byte(d)]) & (gain & position) {
-        2 + ((d.gain.present as usize) + (d.position.present as usize) * 3)
+    if there {
+        let c = PresetCondition::of_columns(conditions, b);
+        fits_all(&[one(c.detail.gain.gain)])
+    } else {
+        true
+    }
+}
+
+// Whether its position fits, if it is there.
+fn plain_position(conditions: &[u16], b: usize, there: bool) -> bool
+    requires { ⌜ b + 13 ≤ length (now conditions) ⌝ }
+    ensures { λ r. ⌜ r ≡ pick there (fitAll (fieldsOf (colsAt (now (conditions .entry)) b) positionCells)) true ⌝ }
+{
+    if there {
+        let c = PresetCondition::of_columns(conditions, b);
+        fits_all(&position_bytes(c.detail.position))
+    } else {
+        true
+    }
+}
+
+// The bytes of a condition whose detail is there, or 0 if a field of it does not fit.
+fn plain_detail(conditions: &[u16], b: usize) -> usize
+    requires { ⌜ b + 13 ≤ length (now conditions) ⌝ }
+    ensures { λ r. ⌜ r ≡ detailLong (colsAt (now (conditions .entry)) b) ⌝ }
+{
+    let c = PresetCondition::of_columns(conditions, b);
+    let d = c.detail;
+    if 65536 <= flags_byte(d) {
+        return 0;
+    }
+    if plain_gain(conditions, b, d.gain.present == 1) {
+        if plain_position(conditions, b, d.position.present == 1) {
+            2 + ((d.gain.present as usize) + (d.position.present as usize) * 3)
+        } else {
+            0
+        }
     } else {
         0
     }
 }
 
 // Its bytes, or 0 if it has a fault: in almost every row nothing is wrong, and this is seen at once. A flag is a field of one bit, so the bytes tell.
-fn plain_bytes(c: PresetCondition) -> usize
-    ensures { λ r. ⌜ Quick (conditionActs c) 6 r ⌝ }
+fn plain_bytes(conditions: &[u16], b: usize) -> usize
+    requires { ⌜ b + 13 ≤ length (now conditions) ⌝ }
+    ensures { λ r. ⌜ Quick (flatActs condition (colsAt (now (conditions .entry)) b)) 6 r ⌝ }
 {
+    let c = PresetCondition::of_columns(conditions, b);
     if 65536 <= two(c.group_id.0, 7, c.detail.present, 1) {
         return 0;
     }
     if c.detail.present == 1 {
-        plain_detail(c.detail)
+        plain_detail(conditions, b)
     } else {
         1
     }
@@ -128,17 +165,21 @@ pub fn plain_rows(conditions: &[u16], first: usize, count: usize) -> Passed
     ensures { λ r. ⌜ PlainRows (λ j. rowActs (now (conditions .entry)) (first + j)) 6 count (r .rows) (r .bytes) ⌝ }
 {
     let mut bytes: usize = 0;
-    let mut i: usize = 0;
-    while i < count {
-        let row = (first + i) * CONDITION_COLUMNS;
-        let k = plain_bytes(PresetCondition::of_columns(conditions, row));
+    let mut left = count;
+    let mut b = first * CONDITION_COLUMNS;
+    while 0 < left {
+        let k = plain_bytes(conditions, b);
         if k == 0 {
-            return Passed { rows: i, bytes };
+            return Passed {
+                rows: count - left,
+                bytes,
+            };
         }
         bytes += k;
-        i += 1;
+        left -= 1;
+        b += CONDITION_COLUMNS;
     }
-    Passed { rows: i, bytes }
+    Passed { rows: count, bytes }
 }
 
 // `count` rows from the row `first` on; the row that is not plain is looked at again to name its fault.
@@ -159,28 +200,54 @@ pub fn check_conditions(n: usize, conditions: &[u16], first: usize, count: usize
 
 // ---- the fill pass
 
-// A detail that is there.
-fn fill_detail(d: PresetConditionDetail, out: &mut [u8], n: usize) -> usize
-    requires { ⌜ Ready (detailActs (detailCols d)) n (now out) ⌝ }
-    ensures { λ r. ⌜ Filled (detailActs (detailCols d)) n (now (out .entry)) r (now (out .exit)) ⌝ }
+// The gain of the row whose first column is `b`, if it is there.
+fn fill_gain(conditions: &[u16], b: usize, there: bool, out: &mut [u8], n: usize) -> usize
+    requires { ⌜ (b + 13 ≤ length (now conditions)) × Ready (when there (map byte (fieldsOf (colsAt (now conditions) b) gainCells))) n (now out) ⌝ }
+    ensures { λ r. ⌜ Filled (when there (map byte (fieldsOf (colsAt (now (conditions .entry)) b) gainCells))) n (now (out .entry)) r (now (out .exit)) ⌝ }
 {
-    let n1 = fill_all(out, n, true, &[flags_byte(d)]);
-    let n2 = fill_all(out, n1, d.gain.present == 1, &[one(d.gain.gain)]);
-    fill_all(
-        out,
-        n2,
-        d.position.present == 1,
-        &position_bytes(d.position),
-    )
+    if there {
+        let c = PresetCondition::of_columns(conditions, b);
+        fill_all(out, n, true, &[one(c.detail.gain.gain)])
+    } else {
+        n
+    }
 }
 
-fn fill_condition(c: PresetCondition, out: &mut [u8], n: usize) -> usize
-    requires { ⌜ Ready (conditionActs c) n (now out) ⌝ }
-    ensures { λ r. ⌜ Filled (conditionActs c) n (now (out .entry)) r (now (out .exit)) ⌝ }
+// Its position, if it is there.
+fn fill_position(conditions: &[u16], b: usize, there: bool, out: &mut [u8], n: usize) -> usize
+    requires { ⌜ (b + 13 ≤ length (now conditions)) × Ready (when there (map byte (fieldsOf (colsAt (now conditions) b) positionCells))) n (now out) ⌝ }
+    ensures { λ r. ⌜ Filled (when there (map byte (fieldsOf (colsAt (now (conditions .entry)) b) positionCells))) n (now (out .entry)) r (now (out .exit)) ⌝ }
 {
-    let n1 = fill_all(out, n, true, &[two(c.group_id.0, 7, c.detail.present, 1)]);
-    if c.detail.present == 1 {
-        fill_detail(c.detail, out, n1)
+    if there {
+        let c = PresetCondition::of_columns(conditions, b);
+        fill_all(out, n, true, &position_bytes(c.detail.position))
+    } else {
+        n
+    }
+}
+
+// Its detail, which is there.
+fn fill_detail(conditions: &[u16], b: usize, out: &mut [u8], n: usize) -> usize
+    requires { ⌜ (b + 13 ≤ length (now conditions)) × Ready (detailActs (colsAt (now conditions) b)) n (now out) ⌝ }
+    ensures { λ r. ⌜ Filled (detailActs (colsAt (now (conditions .entry)) b)) n (now (out .entry)) r (now (out .exit)) ⌝ }
+{
+    let c = PresetCondition::of_columns(conditions, b);
+    let d = c.detail;
+    let n1 = fill_all(out, n, true, &[flags_byte(d)]);
+    let n2 = fill_gain(conditions, b, d.gain.present == 1, out, n1);
+    fill_position(conditions, b, d.position.present == 1, out, n2)
+}
+
+// The row.
+fn fill_condition(conditions: &[u16], b: usize, out: &mut [u8], n: usize) -> usize
+    requires { ⌜ (b + 13 ≤ length (now conditions)) × Ready (flatActs condition (colsAt (now conditions) b)) n (now out) ⌝ }
+    ensures { λ r. ⌜ Filled (flatActs condition (colsAt (now (conditions .entry)) b)) n (now (out .entry)) r (now (out .exit)) ⌝ }
+{
+    let c = PresetCondition::of_columns(conditions, b);
+    let there = c.detail.present;
+    let n1 = fill_all(out, n, true, &[two(c.group_id.0, 7, there, 1)]);
+    if there == 1 {
+        fill_detail(conditions, b, out, n1)
     } else {
         n1
     }
@@ -197,13 +264,13 @@ pub fn fill_conditions(
     requires { ⌜ ((first + count) * 13 ≤ length (now conditions)) × (first + count < 2 ^ 20) × Ready (rows (rowActs (now conditions)) first count) n (now out) ⌝ }
     ensures { λ r. ⌜ Filled (rows (rowActs (now (conditions .entry))) first count) n (now (out .entry)) r (now (out .exit)) ⌝ }
 {
-    let end = first + count;
     let mut at = n;
-    let mut i = first;
-    while i < end {
-        let c = PresetCondition::of_columns(conditions, i * CONDITION_COLUMNS);
-        at = fill_condition(c, out, at);
-        i += 1;
+    let mut left = count;
+    let mut b = first * CONDITION_COLUMNS;
+    while 0 < left {
+        at = fill_condition(conditions, b, out, at);
+        left -= 1;
+        b += CONDITION_COLUMNS;
     }
     at
 }

@@ -1,6 +1,6 @@
 -- The actions of a preset: its demands and three bytes, and its conditions.
 use Prim.Native.Nat.{ℕ, _+_, _-_, _*_, _/_, _<_, _≤_, _^_}
-use mathlib.Core.Path.{_≡_, sym, _∙_}
+use mathlib.Core.Path.{_≡_, sym, ap, _∙_}
 use mathlib.Core.List.{List, [], _∷_, _++_, map, flatten}
 use mathlib.Core.Bool.{Bool, true, false, _&&_, and-true}
 use native.Mathlib.Omega.{arith}
@@ -47,6 +47,9 @@ row-acts t u i = preset-acts _ _ (presetCols (presetOf t (i * 7))) ∙ same ∙ 
   where
     same : plainActs (length u / 13) (rowActs u) (presetCols (presetOf t (i * 7))) ≡ plainActs (length u / 13) (rowActs u) (at 7 t i)
     same = rw add-zero
+
+pub row-at : (t u : List ℕ) (b i : ℕ) → b ≡ i * 7 → presetActs (presetOf t b) u ≡ familyActs preset 13 condition t u i
+row-at t u b i e = ap (λ (b : ℕ). presetActs (presetOf t b) u) e ∙ row-acts t u i
 
 -- ---- its conditions stand in their table, and are at most 16 if the third byte fits
 

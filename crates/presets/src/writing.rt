@@ -77,17 +77,21 @@ fn plain_presets(presets: &[u16], conditions: &[u16], count: usize) -> Passed
     ensures { λ r. ⌜ PlainRows (familyActs preset 13 condition (now (presets .entry)) (now (conditions .entry))) 99 count (r .rows) (r .bytes) ⌝ }
 {
     let mut bytes: usize = 0;
-    let mut i: usize = 0;
-    while i < count {
-        let p = GroupPreset::of_columns(presets, i * PRESET_COLUMNS);
-        let k = plain_bytes(p, conditions);
+    let mut left = count;
+    let mut b: usize = 0;
+    while 0 < left {
+        let k = plain_bytes(GroupPreset::of_columns(presets, b), conditions);
         if k == 0 {
-            return Passed { rows: i, bytes };
+            return Passed {
+                rows: count - left,
+                bytes,
+            };
         }
         bytes += k;
-        i += 1;
+        left -= 1;
+        b += PRESET_COLUMNS;
     }
-    Passed { rows: i, bytes }
+    Passed { rows: count, bytes }
 }
 
 // The rows of table 4 from the first; the row that is not plain is looked at again to name its fault.
@@ -129,11 +133,13 @@ pub fn fill_presets(
     ensures { λ r. ⌜ Filled (rows (familyActs preset 13 condition (now (presets .entry)) (now (conditions .entry))) 0 count) n (now (out .entry)) r (now (out .exit)) ⌝ }
 {
     let mut at = n;
-    let mut i: usize = 0;
-    while i < count {
-        let p = GroupPreset::of_columns(presets, i * PRESET_COLUMNS);
+    let mut left = count;
+    let mut b: usize = 0;
+    while 0 < left {
+        let p = GroupPreset::of_columns(presets, b);
         at = fill_preset(p, conditions, out, at);
-        i += 1;
+        left -= 1;
+        b += PRESET_COLUMNS;
     }
     at
 }

@@ -1,49 +1,47 @@
 -- `writing::fill_conditions` meets its contract.
-use Prim.Native.Nat.{_-_, _≤_}
+use Prim.Native.Nat.{_+_, _-_, _*_, _≤_}
+use mathlib.Core.Path.{_≡_}
 use native.Mathlib.Omega.{arith}
-use native.Mathlib.Nat.{add-sub-cancel-left}
-use Rattle.wire.specs.Act.{rows}
-use Rattle.wire.proofs.Passes.{Filling, rows-turn, rows-end, fill-start, fill-row, fill-turn, fill-end, all-filled}
 use Rattle.conditions.specs.Write.{rowActs}
-use Rattle.conditions.proofs.Writes.{row-acts}
+use Rattle.conditions.proofs.Counted.{Left, start-left, turn-ready, turn-left, end-left}
+use Rattle.conditions.proofs.Writes.{row-at}
 use borrow.Author.Needs.{needs}
 use Rattle.conditions.proofs.writing.fill_conditions.Statement.{statement}
 use Rattle.conditions.proofs.writing.fill_conditions.Tie as tie
 
 abbrev Inv-loop : tie.InvT-loop
-Inv-loop conditions first count out₀ n end at₀ i₀ out at i = (i₀ ≤ i) × (i ≤ end) × Filling (rows (rowActs conditions) i₀ (end - i₀)) (rows (rowActs conditions) i (end - i)) at₀ out₀ at out
+Inv-loop conditions first count out₀ n at₀ left₀ b₀ out at left b = (left ≤ count) × (b ≡ (first + (count - left)) * 13) × Left (rowActs conditions) first count left n out₀ at out
 
 abbrev μ-loop : tie.MeasureT-loop
-μ-loop conditions first count out₀ n end at₀ i₀ out at i = end - i
+μ-loop conditions first count out₀ n at₀ left₀ b₀ out at left b = left
 
-add-end : tie.Need-add-end Inv-loop μ-loop
-add-end c = search needs
+mul-b : tie.Need-mul-b Inv-loop μ-loop
+mul-b c =
+    search needs
 
 loop-holds : tie.Need-loop-holds Inv-loop μ-loop
 loop-holds c =
-    (omega arith, omega arith, rw add-sub-cancel-left (fill-start (c .before .before .pre .2)))
-
-mul-of-columns : tie.Need-mul-of-columns Inv-loop μ-loop
-mul-of-columns c = search needs
-
-of-columns-requires : tie.Need-of-columns-requires Inv-loop μ-loop
-of-columns-requires c κs =
-    omega arith
+    (omega arith, omega arith, start-left _ _ _ (c .before .before .pre .2))
 
 fill-condition-requires : tie.Need-fill-condition-requires Inv-loop μ-loop
 fill-condition-requires c κs =
-    rw (c .before .of-columns .ensures, row-acts) (fill-row _ _ (c .before .before .before .loop .inv .2) (rows-turn _ _ _ (c .before .before .loop-test .taken)))
+    (omega (arith, c .before .before .loop .inv .0, c .before .before .loop .inv .1, c .before .before .before .before .before .pre .0, c .before .loop-test .taken), turn-ready (rowActs (c .before .before .before .before .before .args .conditions .now)) (c .before .before .before .before .before .args .first) (c .before .before .before .before .before .args .count) (c .before .before .loop .left) (c .before .before .loop .inv .2) (c .before .loop-test .taken) _ (row-at (c .before .before .before .before .before .args .conditions .now) (c .before .before .loop .b) _ (c .before .before .loop .inv .1)))
 
-add-i : tie.Need-add-i Inv-loop μ-loop
-add-i c = search needs
+sub-left : tie.Need-sub-left Inv-loop μ-loop
+sub-left c =
+    search needs
+
+add-b : tie.Need-add-b Inv-loop μ-loop
+add-b c =
+    omega (arith, c .before .before .before .before .before .loop .inv .0, c .before .before .before .before .before .loop .inv .1, c .before .before .before .before .before .before .before .before .pre .1, c .before .before .before .before .loop-test .taken)
 
 loop-less : tie.Need-loop-less Inv-loop μ-loop
-loop-less c = search needs
+loop-less c =
+    search needs
 
 loop-again : tie.Need-loop-again Inv-loop μ-loop
 loop-again c =
-    let w = rw (c .before .before .before .before .of-columns .ensures, row-acts) at (c .before .before .fill-condition .ensures) in
-    (omega arith, omega arith, fill-turn (c .before .before .before .before .before .before .loop .inv .2) (rows-turn _ _ _ (c .before .before .before .before .before .loop-test .taken)) (c .before .before .fill-condition .kept .1 .0) w)
+    (omega arith, omega (arith, c .before .before .before .before .before .loop .inv .0, c .before .before .before .before .before .loop .inv .1, c .before .before .before .before .loop-test .taken), turn-left (rowActs (c .before .before .before .before .before .before .before .before .args .conditions .now)) (c .before .before .before .before .before .before .before .before .args .first) (c .before .before .before .before .before .before .before .before .args .count) (c .before .before .before .before .before .loop .left) (c .before .before .before .before .before .loop .inv .2) (c .before .before .before .before .loop-test .taken) _ (row-at (c .before .before .before .before .before .before .before .before .args .conditions .now) (c .before .before .before .before .before .loop .b) _ (c .before .before .before .before .before .loop .inv .1)) (c .before .before .before .before .before .loop .inv .0) (c .before .before .fill-condition .ensures))
 
 same-length : tie.Need-same-length Inv-loop μ-loop
 same-length c =
@@ -51,7 +49,7 @@ same-length c =
 
 returns : tie.Need-returns Inv-loop μ-loop
 returns c =
-    all-filled _ _ _ (fill-end (c .before .loop .inv .2) (rows-end _ _ _ (c .loop-test .left)))
+    end-left (rowActs (c .before .before .before .before .args .conditions .now)) (c .before .before .before .before .args .first) (c .before .before .before .before .args .count) (c .before .loop .left) (c .before .loop .inv .2) (c .loop-test .left)
 
 pub fill-conditions-spec : {M : Type 1} → statement M
 fill-conditions-spec =
@@ -59,12 +57,11 @@ fill-conditions-spec =
     (tie.spec
     Inv-loop
     μ-loop
-    add-end
+    mul-b
     loop-holds
-    mul-of-columns
-    of-columns-requires
     fill-condition-requires
-    add-i
+    sub-left
+    add-b
     loop-less
     loop-again
     same-length

@@ -1,61 +1,64 @@
 -- `writing::plain_rows` meets its contract.
-use Prim.Native.Nat.{_+_, _-_}
+use Prim.Native.Nat.{_+_, _-_, _*_, _≤_}
+use mathlib.Core.Path.{_≡_}
 use native.Mathlib.Omega.{arith}
-use Rattle.wire.specs.Pen.{Quick}
-use Rattle.wire.proofs.Plain.{Going, going-start, going-turn, going-odd, going-end}
+use Rattle.wire.proofs.Plain.{Going}
 use Rattle.conditions.specs.Write.{rowActs}
-use Rattle.conditions.proofs.Writes.{row-acts}
+use Rattle.conditions.proofs.Counted.{start-going, turn-going, odd-going, end-going}
+use Rattle.conditions.proofs.Writes.{row-at}
 use borrow.Author.Needs.{needs}
 use Rattle.conditions.proofs.writing.plain_rows.Statement.{statement}
 use Rattle.conditions.proofs.writing.plain_rows.Tie as tie
 
 abbrev Inv-loop : tie.InvT-loop
-Inv-loop conditions first count bytes₀ i₀ bytes i = Going (λ j. rowActs conditions (first + j)) 6 count i bytes
+Inv-loop conditions first count bytes₀ left₀ b₀ bytes left b = (left ≤ count) × (b ≡ (first + (count - left)) * 13) × Going (λ j. rowActs conditions (first + j)) 6 count (count - left) bytes
 
 abbrev μ-loop : tie.MeasureT-loop
-μ-loop conditions first count bytes₀ i₀ bytes i = count - i
+μ-loop conditions first count bytes₀ left₀ b₀ bytes left b = left
 
-quick : (c : tie.After-plain-bytes Inv-loop μ-loop) → Quick (rowActs (c .before .before .before .before .before .args .conditions .now) (c .before .before .before .before .before .args .first + c .before .before .before .loop .i)) 6 (c .plain-bytes .result)
-quick c = rw (c .before .of-columns .ensures, row-acts) at (c .plain-bytes .ensures)
+mul-b : tie.Need-mul-b Inv-loop μ-loop
+mul-b c =
+    search needs
 
 loop-holds : tie.Need-loop-holds Inv-loop μ-loop
 loop-holds c =
-    going-start _ 6 _
-
-add-row : tie.Need-add-row Inv-loop μ-loop
-add-row c = search needs
-
-mul-row : tie.Need-mul-row Inv-loop μ-loop
-mul-row c = search needs
-
-of-columns-requires : tie.Need-of-columns-requires Inv-loop μ-loop
-of-columns-requires c κs =
-    omega arith
+    (omega arith, omega arith, start-going _ 6 _)
 
 plain-bytes-requires : tie.Need-plain-bytes-requires Inv-loop μ-loop
-plain-bytes-requires c κs = search needs
+plain-bytes-requires c κs =
+    omega (arith, c .before .loop .inv .0, c .before .loop .inv .1, c .before .before .before .pre .0, c .loop-test .taken)
+
+sub-t9 : tie.Need-sub-t9 Inv-loop μ-loop
+sub-t9 c =
+    omega (arith, c .before .before .before .loop .inv .0)
 
 returns : tie.Need-returns Inv-loop μ-loop
 returns c =
-    going-odd (c .before .before .before .before .loop .inv) (quick (c .before)) (c .if1 .taken)
+    odd-going (c .before .before .before .loop .left) (c .before .before .before .loop .inv .2) _ (row-at (c .before .before .before .before .before .args .conditions .now) (c .before .before .before .loop .b) _ (c .before .before .before .loop .inv .1)) (c .before .plain-bytes .ensures) (c .if1 .taken)
 
 add-bytes : tie.Need-add-bytes Inv-loop μ-loop
 add-bytes c =
-    let l = c .if1 .left in omega (arith, going-turn (c .before .before .before .before .loop .inv) (quick (c .before)) (c .before .before .before .loop-test .taken) (omega (arith, l)) .few, c .before .before .before .loop-test .taken, c .before .before .before .before .before .before .pre .1)
+    let l = c .if1 .left in omega (arith, turn-going (c .before .before .before .loop .left) (c .before .before .before .loop .inv .2) _ (row-at (c .before .before .before .before .before .args .conditions .now) (c .before .before .before .loop .b) _ (c .before .before .before .loop .inv .1)) (c .before .plain-bytes .ensures) (c .before .before .before .loop .inv .0) (c .before .before .loop-test .taken) (omega (arith, l)) .few, c .before .before .before .loop .inv .0, c .before .before .loop-test .taken, c .before .before .before .before .before .pre .1)
 
-add-i : tie.Need-add-i Inv-loop μ-loop
-add-i c = search needs
+sub-left : tie.Need-sub-left Inv-loop μ-loop
+sub-left c =
+    search needs
+
+add-b : tie.Need-add-b Inv-loop μ-loop
+add-b c =
+    omega (arith, c .before .before .before .loop .inv .0, c .before .before .before .loop .inv .1, c .before .before .before .before .before .pre .1, c .before .before .loop-test .taken)
 
 loop-less : tie.Need-loop-less Inv-loop μ-loop
-loop-less c = search needs
+loop-less c =
+    search needs
 
 loop-again : tie.Need-loop-again Inv-loop μ-loop
 loop-again c =
-    going-turn (c .before .before .before .before .loop .inv) (quick (c .before)) (c .before .before .before .loop-test .taken) (let l = c .if1 .left in omega (arith, l))
+    let l = c .if1 .left in (omega arith, omega (arith, c .before .before .before .loop .inv .0, c .before .before .before .loop .inv .1, c .before .before .loop-test .taken), turn-going (c .before .before .before .loop .left) (c .before .before .before .loop .inv .2) _ (row-at (c .before .before .before .before .before .args .conditions .now) (c .before .before .before .loop .b) _ (c .before .before .before .loop .inv .1)) (c .before .plain-bytes .ensures) (c .before .before .before .loop .inv .0) (c .before .before .loop-test .taken) (omega (arith, l)))
 
 returns-2 : tie.Need-returns-2 Inv-loop μ-loop
 returns-2 c =
-    going-end (c .before .loop .inv) (c .loop-test .left)
+    end-going (c .before .loop .left) (c .before .loop .inv .2) (c .loop-test .left)
 
 pub plain-rows-spec : {M : Type 1} → statement M
 plain-rows-spec =
@@ -63,14 +66,14 @@ plain-rows-spec =
     (tie.spec
     Inv-loop
     μ-loop
+    mul-b
     loop-holds
-    add-row
-    mul-row
-    of-columns-requires
     plain-bytes-requires
+    sub-t9
     returns
     add-bytes
-    add-i
+    sub-left
+    add-b
     loop-less
     loop-again
     returns-2)

@@ -1,56 +1,57 @@
 -- `writing::fill_presets` meets its contract.
-use Prim.Native.Nat.{_-_, _≤_}
+use Prim.Native.Nat.{_+_, _-_, _*_, _≤_}
+use mathlib.Core.Path.{_≡_}
 use native.Mathlib.Omega.{arith}
-use native.Mathlib.Nat.{sub-zero}
-use Rattle.wire.specs.Act.{rows}
 use Rattle.wire.specs.Layout.{familyActs}
-use Rattle.wire.proofs.Passes.{Filling, rows-turn, rows-end, fill-start, fill-row, fill-turn, fill-end}
 use Rattle.conditions.specs.Layout.{condition}
+use Rattle.conditions.proofs.Counted.{Left, start-left, turn-ready, turn-left, end-left}
 use Rattle.presets.specs.Layout.{preset}
-use Rattle.presets.proofs.Writes.{row-acts}
+use Rattle.presets.proofs.Writes.{row-at}
 use borrow.Author.Needs.{needs}
 use Rattle.presets.proofs.writing.fill_presets.Statement.{statement}
 use Rattle.presets.proofs.writing.fill_presets.Tie as tie
 
 abbrev Inv-loop : tie.InvT-loop
-Inv-loop presets conditions count out₀ n at₀ i₀ out at i = (i ≤ count) × Filling (rows (familyActs preset 13 condition presets conditions) 0 count) (rows (familyActs preset 13 condition presets conditions) i (count - i)) at₀ out₀ at out
+Inv-loop presets conditions count out₀ n at₀ left₀ b₀ out at left b = (left ≤ count) × (b ≡ (0 + (count - left)) * 7) × Left (familyActs preset 13 condition presets conditions) 0 count left n out₀ at out
 
 abbrev μ-loop : tie.MeasureT-loop
-μ-loop presets conditions count out₀ n at₀ i₀ out at i = count - i
+μ-loop presets conditions count out₀ n at₀ left₀ b₀ out at left b = left
 
 loop-holds : tie.Need-loop-holds Inv-loop μ-loop
 loop-holds c =
-    (omega arith, rw sub-zero (fill-start (c .before .before .before .pre .2)))
-
-mul-of-columns : tie.Need-mul-of-columns Inv-loop μ-loop
-mul-of-columns c = search needs
+    (omega arith, omega arith, start-left _ _ _ (c .before .before .before .pre .2))
 
 of-columns-requires : tie.Need-of-columns-requires Inv-loop μ-loop
 of-columns-requires c κs =
-    omega arith
+    omega (arith, c .before .loop .inv .0, c .before .loop .inv .1, c .before .before .before .before .before .pre .0, c .loop-test .taken)
 
 fill-preset-requires : tie.Need-fill-preset-requires Inv-loop μ-loop
 fill-preset-requires c κs =
-    rw (c .before .of-columns .ensures, row-acts) (fill-row _ _ (c .before .before .before .loop .inv .1) (rows-turn _ _ _ (c .before .before .loop-test .taken)))
+    rw (c .before .of-columns .ensures) (turn-ready (familyActs preset 13 condition (c .before .before .before .before .before .before .before .args .presets .now) (c .before .before .before .before .before .before .before .args .conditions .now)) 0 (c .before .before .before .before .before .before .before .args .count) (c .before .before .before .loop .left) (c .before .before .before .loop .inv .2) (c .before .before .loop-test .taken) _ (row-at (c .before .before .before .before .before .before .before .args .presets .now) (c .before .before .before .before .before .before .before .args .conditions .now) (c .before .before .before .loop .b) _ (c .before .before .before .loop .inv .1)))
 
-add-i : tie.Need-add-i Inv-loop μ-loop
-add-i c = search needs
+sub-left : tie.Need-sub-left Inv-loop μ-loop
+sub-left c =
+    search needs
+
+add-b : tie.Need-add-b Inv-loop μ-loop
+add-b c =
+    omega (arith, c .before .before .before .before .before .before .loop .inv .0, c .before .before .before .before .before .before .loop .inv .1, c .before .before .before .before .before .before .before .before .before .before .pre .1, c .before .before .before .before .before .loop-test .taken)
 
 loop-less : tie.Need-loop-less Inv-loop μ-loop
-loop-less c = search needs
+loop-less c =
+    search needs
 
 loop-again : tie.Need-loop-again Inv-loop μ-loop
 loop-again c =
-    let w = rw (c .before .before .before .before .of-columns .ensures, row-acts) at (c .before .before .fill-preset .ensures) in
-    (omega arith, fill-turn (c .before .before .before .before .before .before .loop .inv .1) (rows-turn _ _ _ (c .before .before .before .before .before .loop-test .taken)) (c .before .before .fill-preset .kept .1 .1 .0) w)
+    (omega arith, omega (arith, c .before .before .before .before .before .before .loop .inv .0, c .before .before .before .before .before .before .loop .inv .1, c .before .before .before .before .before .loop-test .taken), turn-left (familyActs preset 13 condition (c .before .before .before .before .before .before .before .before .before .before .args .presets .now) (c .before .before .before .before .before .before .before .before .before .before .args .conditions .now)) 0 (c .before .before .before .before .before .before .before .before .before .before .args .count) (c .before .before .before .before .before .before .loop .left) (c .before .before .before .before .before .before .loop .inv .2) (c .before .before .before .before .before .loop-test .taken) _ (row-at (c .before .before .before .before .before .before .before .before .before .before .args .presets .now) (c .before .before .before .before .before .before .before .before .before .before .args .conditions .now) (c .before .before .before .before .before .before .loop .b) _ (c .before .before .before .before .before .before .loop .inv .1)) (c .before .before .before .before .before .before .loop .inv .0) (rw (c .before .before .before .before .of-columns .ensures) at (c .before .before .fill-preset .ensures)))
 
 same-length : tie.Need-same-length Inv-loop μ-loop
 same-length c =
-    c .before .loop .inv .1 .size
+    c .before .loop .inv .2 .size
 
 returns : tie.Need-returns Inv-loop μ-loop
 returns c =
-    fill-end (c .before .loop .inv .1) (rows-end _ _ _ (c .loop-test .left))
+    end-left (familyActs preset 13 condition (c .before .before .before .before .before .args .presets .now) (c .before .before .before .before .before .args .conditions .now)) 0 (c .before .before .before .before .before .args .count) (c .before .loop .left) (c .before .loop .inv .2) (c .loop-test .left)
 
 pub fill-presets-spec : {M : Type 1} → statement M
 fill-presets-spec =
@@ -59,10 +60,10 @@ fill-presets-spec =
     Inv-loop
     μ-loop
     loop-holds
-    mul-of-columns
     of-columns-requires
     fill-preset-requires
-    add-i
+    sub-left
+    add-b
     loop-less
     loop-again
     same-length

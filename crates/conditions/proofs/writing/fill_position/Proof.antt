@@ -1,0 +1,44 @@
+-- `writing::fill_position` meets its contract.
+use Rattle.wire.specs.Spell.{fieldsOf}
+use Rattle.conditions.specs.Rows.{positionCells}
+use Rattle.conditions.specs.Write.{colsAt}
+use Rattle.conditions.proofs.Writes.{part-ready, part-filled, part-absent}
+use borrow.Author.Needs.{needs}
+use Rattle.conditions.proofs.writing.fill_position.Statement.{statement}
+use Rattle.conditions.proofs.writing.fill_position.Tie as tie
+
+of-columns-requires : tie.Need-of-columns-requires
+of-columns-requires c κs = search needs
+
+position-bytes-requires : tie.Need-position-bytes-requires
+position-bytes-requires c κs = search needs
+
+slice-aggregate-fill-all : tie.Need-slice-aggregate-fill-all
+slice-aggregate-fill-all c = search needs
+
+fill-all-requires : tie.Need-fill-all-requires
+fill-all-requires c κs =
+    part-ready _ (c .before .before .before .before .before .before .before .pre .1) (rw (c .before .before .before .of-columns .ensures) at (c .before .position-bytes .ensures)) (c .before .before .before .before .if1 .taken)
+
+same-length : tie.Need-same-length
+same-length c = search needs
+
+returns : tie.Need-returns
+returns c =
+    part-filled _ (c .before .before .before .before .before .before .before .before .before .before .pre .1) (rw (c .before .before .before .before .before .before .of-columns .ensures) at (c .before .before .before .before .position-bytes .ensures)) (c .before .before .before .before .before .before .before .if1 .taken) (c .before .before .fill-all .ensures)
+
+returns-2 : tie.Need-returns-2
+returns-2 c =
+    part-absent (fieldsOf (colsAt (c .before .before .before .args .conditions .now) (c .before .before .before .args .b)) positionCells) (c .before .before .before .pre .1) (c .if1 .left)
+
+pub fill-position-spec : {M : Type 1} → statement M
+fill-position-spec =
+    tie.close
+    (tie.spec
+    of-columns-requires
+    position-bytes-requires
+    slice-aggregate-fill-all
+    fill-all-requires
+    same-length
+    returns
+    returns-2)
