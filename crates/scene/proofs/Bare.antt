@@ -5,7 +5,6 @@ use mathlib.Core.List.{List, [], _∷_, flatten, flatMap}
 use mathlib.Core.Bool.{Bool, true, false, _&&_, _||_}
 use mathlib.Core.Option.{none}
 use native.Mathlib.Omega.{arith}
-use native.Mathlib.Nat.{add-zero}
 use lib.ListN.{length, getD}
 use lib.Dec.{eqb, leb}
 use borrow.Author.Tests.{eqb-true, ne-eqb, eq-eqb, le-leb, leb-true}
@@ -31,7 +30,7 @@ use Rattle.scene_kind.specs.Read.{Section, section}
 use Rattle.scene_kind.specs.Rows.{Scene, tables}
 use Rattle.scene_kind.specs.Kind.{parse, kind}
 use Rattle.scene.specs.declared.parsing.Places.{Places}
-use Rattle.scene.specs.Walk.{Flags, rowsAt, countAt, groupsFlag, switchesFlag, presetsFlag, Found, tree, Recorded, Bare}
+use Rattle.scene.specs.Walk.{Flags, rowsAt, countAt, groupsFlag, switchesFlag, presetsFlag, tree, Recorded, Bare}
 use Rattle.scene.proofs.Sections.{sectionOf, section-so, section-cut}
 use Rattle.scene.proofs.Walked.{Two, behind-groups, head-there}
 use Rattle.scene.proofs.Found.{reads-found}
