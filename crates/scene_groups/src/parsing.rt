@@ -73,7 +73,7 @@ pub fn measure_groups(body: &[u8], at: usize, count: usize) -> Ends
     Ends::At(pos)
 }
 
-// ---- taken, once measured: for the tally
+// ---- taken, once measured
 
 // A group, and the next position.
 pub struct Placed {
@@ -211,54 +211,35 @@ pub fn group_at(body: &[u8], at: usize) -> Placed
 
 // ---- stored part by part, so that a row is built in its table and a part that is not there costs its columns alone
 
-// The columns of the position that begins here and is there.
-fn position_row(body: &[u8], at: usize) -> [u16; 11]
-    requires { ⌜ at + 5 ≤ length (now body) ⌝ }
-    ensures { λ r. ⌜ r ≡ positionRow (positionFrom (now (body .entry)) at) ⌝ }
-{
-    let p = position_from(body, at);
-    [
-        p.present,
-        p.reserved_min_az,
-        p.min_az_offset,
-        p.reserved_max_az,
-        p.max_az_offset,
-        p.reserved_min_el,
-        p.min_el_offset,
-        p.reserved_max_el,
-        p.max_el_offset,
-        p.min_dist_offset,
-        p.max_dist_offset,
-    ]
-}
-
 // Stores the position that begins here, if its flag is 1, and answers the next position.
 fn fill_position(body: &[u8], at: usize, present: u16, groups: &mut [u16], to: usize) -> usize
     requires { ⌜ (at + pick (eqb present 1) 5 0 ≤ length (now body)) × (present ≤ 1) × (to + 11 ≤ length (now groups)) ⌝ }
     ensures { λ r. ⌜ PartPut 7 11 position present (blanks 10) 5 (now (body .entry)) at (now (groups .entry)) to r (now (groups .exit)) ⌝ }
 {
     if present == 1 {
-        put_row(groups, to, &position_row(body, at));
+        let p = position_from(body, at);
+        put_row(
+            groups,
+            to,
+            &[
+                p.present,
+                p.reserved_min_az,
+                p.min_az_offset,
+                p.reserved_max_az,
+                p.max_az_offset,
+                p.reserved_min_el,
+                p.min_el_offset,
+                p.reserved_max_el,
+                p.max_el_offset,
+                p.min_dist_offset,
+                p.max_dist_offset,
+            ],
+        );
         at + 5
     } else {
         put_row(groups, to, &[0, 0, 0, 0, 0, 0, 0, 0, 0, 0, 0]);
         at
     }
-}
-
-// The columns of the gain that begins here and is there.
-fn gain_row(body: &[u8], at: usize) -> [u16; 5]
-    requires { ⌜ at + 2 ≤ length (now body) ⌝ }
-    ensures { λ r. ⌜ r ≡ gainRow (gainFrom (now (body .entry)) at) ⌝ }
-{
-    let g = gain_from(body, at);
-    [
-        g.present,
-        g.reserved_min,
-        g.min_gain,
-        g.reserved_max,
-        g.max_gain,
-    ]
 }
 
 // Stores the gain that begins here, if its flag is 1, and answers the next position.
@@ -267,21 +248,23 @@ fn fill_gain(body: &[u8], at: usize, present: u16, groups: &mut [u16], to: usize
     ensures { λ r. ⌜ PartPut 18 5 gain present (blanks 4) 2 (now (body .entry)) at (now (groups .entry)) to r (now (groups .exit)) ⌝ }
 {
     if present == 1 {
-        put_row(groups, to, &gain_row(body, at));
+        let g = gain_from(body, at);
+        put_row(
+            groups,
+            to,
+            &[
+                g.present,
+                g.reserved_min,
+                g.min_gain,
+                g.reserved_max,
+                g.max_gain,
+            ],
+        );
         at + 2
     } else {
         put_row(groups, to, &[0, 0, 0, 0, 0]);
         at
     }
-}
-
-// The columns of the language that begins here and is there.
-fn language_row(body: &[u8], at: usize) -> [u16; 4]
-    requires { ⌜ at + 3 ≤ length (now body) ⌝ }
-    ensures { λ r. ⌜ r ≡ languageRow (languageFrom (now (body .entry)) at) ⌝ }
-{
-    let l = language_from(body, at);
-    [l.present, l.first, l.second, l.third]
 }
 
 // Stores the language that begins here, if its flag is 1, and answers the next position.
@@ -290,7 +273,8 @@ fn fill_language(body: &[u8], at: usize, present: u16, groups: &mut [u16], to: u
     ensures { λ r. ⌜ PartPut 23 4 language present (blanks 3) 3 (now (body .entry)) at (now (groups .entry)) to r (now (groups .exit)) ⌝ }
 {
     if present == 1 {
-        put_row(groups, to, &language_row(body, at));
+        let l = language_from(body, at);
+        put_row(groups, to, &[l.present, l.first, l.second, l.third]);
         at + 3
     } else {
         put_row(groups, to, &[0, 0, 0, 0]);

@@ -1,15 +1,15 @@
 -- `fill_gain` stores the columns of a gain that is there; of one that is not, it stores zeros.
-use mathlib.Core.Path.{refl}
+use mathlib.Core.Path.{refl, ap}
 use Rattle.wire.proofs.Straight.{size-there}
 use Rattle.scene_groups.specs.Layout.{gain}
-use Rattle.scene_groups.specs.Rows.{blanks}
+use Rattle.scene_groups.specs.Rows.{gainRow, blanks}
 use Rattle.scene_groups.proofs.Groups.{gain-there, put-there, put-none}
 use borrow.Author.Needs.{needs}
 use Rattle.scene_groups.proofs.parsing.fill_gain.Statement.{statement}
 use Rattle.scene_groups.proofs.parsing.fill_gain.Tie as tie
 
-gain-row-requires : tie.Need-gain-row-requires
-gain-row-requires c κs = size-there 2 _ _ _ (c .before .if1 .taken) (c .before .before .before .before .pre .0)
+gain-from-requires : tie.Need-gain-from-requires
+gain-from-requires c κs = size-there 2 _ _ _ (c .if1 .taken) (c .before .before .before .pre .0)
 
 slice-aggregate-put-row : tie.Need-slice-aggregate-put-row
 slice-aggregate-put-row c = search needs
@@ -30,7 +30,7 @@ same-length : tie.Need-same-length
 same-length c = search needs
 
 returns : tie.Need-returns
-returns c = let h = c .before .before .before .before .before .before .if1 .taken in put-there 18 5 gain 2 h (gain-there _ _ h refl) refl (c .before .before .before .before .gain-row .ensures) (c .before .before .put-row .ensures)
+returns c = let h = c .before .before .before .before .before .before .if1 .taken in put-there 18 5 gain 2 h (gain-there _ _ h refl) refl (ap gainRow (c .before .before .before .before .before .gain-from .ensures)) (c .before .before .put-row .ensures)
 
 same-length-2 : tie.Need-same-length-2
 same-length-2 c = search needs
@@ -43,7 +43,7 @@ pub fill-gain-spec : {M : Type 1} → statement M
 fill-gain-spec =
     tie.close
     (tie.spec
-    gain-row-requires
+    gain-from-requires
     slice-aggregate-put-row
     put-row-requires
     add-result

@@ -1,15 +1,15 @@
 -- `fill_language` stores the columns of a language that is there; of one that is not, it stores zeros.
-use mathlib.Core.Path.{refl}
+use mathlib.Core.Path.{refl, ap}
 use Rattle.wire.proofs.Straight.{size-there}
 use Rattle.scene_groups.specs.Layout.{language}
-use Rattle.scene_groups.specs.Rows.{blanks}
+use Rattle.scene_groups.specs.Rows.{languageRow, blanks}
 use Rattle.scene_groups.proofs.Groups.{language-there, put-there, put-none}
 use borrow.Author.Needs.{needs}
 use Rattle.scene_groups.proofs.parsing.fill_language.Statement.{statement}
 use Rattle.scene_groups.proofs.parsing.fill_language.Tie as tie
 
-language-row-requires : tie.Need-language-row-requires
-language-row-requires c κs = size-there 3 _ _ _ (c .before .if1 .taken) (c .before .before .before .before .pre .0)
+language-from-requires : tie.Need-language-from-requires
+language-from-requires c κs = size-there 3 _ _ _ (c .if1 .taken) (c .before .before .before .pre .0)
 
 slice-aggregate-put-row : tie.Need-slice-aggregate-put-row
 slice-aggregate-put-row c = search needs
@@ -30,7 +30,7 @@ same-length : tie.Need-same-length
 same-length c = search needs
 
 returns : tie.Need-returns
-returns c = let h = c .before .before .before .before .before .before .if1 .taken in put-there 23 4 language 3 h (language-there _ _ h refl) refl (c .before .before .before .before .language-row .ensures) (c .before .before .put-row .ensures)
+returns c = let h = c .before .before .before .before .before .before .if1 .taken in put-there 23 4 language 3 h (language-there _ _ h refl) refl (ap languageRow (c .before .before .before .before .before .language-from .ensures)) (c .before .before .put-row .ensures)
 
 same-length-2 : tie.Need-same-length-2
 same-length-2 c = search needs
@@ -43,7 +43,7 @@ pub fill-language-spec : {M : Type 1} → statement M
 fill-language-spec =
     tie.close
     (tie.spec
-    language-row-requires
+    language-from-requires
     slice-aggregate-put-row
     put-row-requires
     add-result

@@ -1,15 +1,15 @@
 -- `fill_position` stores the columns of a position that is there; of one that is not, it stores zeros.
-use mathlib.Core.Path.{refl}
+use mathlib.Core.Path.{refl, ap}
 use Rattle.wire.proofs.Straight.{size-there}
 use Rattle.scene_groups.specs.Layout.{position}
-use Rattle.scene_groups.specs.Rows.{blanks}
+use Rattle.scene_groups.specs.Rows.{positionRow, blanks}
 use Rattle.scene_groups.proofs.Groups.{position-there, put-there, put-none}
 use borrow.Author.Needs.{needs}
 use Rattle.scene_groups.proofs.parsing.fill_position.Statement.{statement}
 use Rattle.scene_groups.proofs.parsing.fill_position.Tie as tie
 
-position-row-requires : tie.Need-position-row-requires
-position-row-requires c κs = size-there 5 _ _ _ (c .before .if1 .taken) (c .before .before .before .before .pre .0)
+position-from-requires : tie.Need-position-from-requires
+position-from-requires c κs = size-there 5 _ _ _ (c .if1 .taken) (c .before .before .before .pre .0)
 
 slice-aggregate-put-row : tie.Need-slice-aggregate-put-row
 slice-aggregate-put-row c = search needs
@@ -30,7 +30,7 @@ same-length : tie.Need-same-length
 same-length c = search needs
 
 returns : tie.Need-returns
-returns c = let h = c .before .before .before .before .before .before .if1 .taken in put-there 7 11 position 5 h (position-there _ _ h refl) refl (c .before .before .before .before .position-row .ensures) (c .before .before .put-row .ensures)
+returns c = let h = c .before .before .before .before .before .before .if1 .taken in put-there 7 11 position 5 h (position-there _ _ h refl) refl (ap positionRow (c .before .before .before .before .before .position-from .ensures)) (c .before .before .put-row .ensures)
 
 same-length-2 : tie.Need-same-length-2
 same-length-2 c = search needs
@@ -43,7 +43,7 @@ pub fill-position-spec : {M : Type 1} → statement M
 fill-position-spec =
     tie.close
     (tie.spec
-    position-row-requires
+    position-from-requires
     slice-aggregate-put-row
     put-row-requires
     add-result
