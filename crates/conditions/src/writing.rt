@@ -1,9 +1,10 @@
 // Writing conditions: their bytes as numbers, the check pass with a quick test of a plain row, and the fill pass.
 ghost use mathlib.Core.Path.{_≡_};
 ghost use mathlib.Core.Bool.{true};
-ghost use mathlib.Core.List.{map};
+ghost use mathlib.Core.List.{[], _∷_, map};
 ghost use Prim.Native.Nat.{_+_, _*_, _<_, _≤_, _^_};
 ghost use lib.ListN.{length};
+ghost use Rattle.wire.specs.Bits.{field};
 ghost use Rattle.wire.specs.Act.{byte, rows, when, pick};
 ghost use Rattle.wire.specs.Layout.{fieldOf, flatActs};
 ghost use Rattle.wire.specs.Pen.{reach, Checked, Quick, Ready, Filled};
@@ -29,15 +30,29 @@ use wire::spell::two;
 
 // ---- the bytes
 
-fn flags_byte(d: PresetConditionDetail) -> u32
+// The flags of a detail, each a column of its own.
+fn flags_byte(reserved: u16, no_gain: u16, gain: u16, no_position: u16, position: u16) -> u32
+    ensures { λ r. ⌜ Spells (field 4 reserved ∷ field 1 «no_gain» ∷ field 1 gain ∷ field 1 «no_position» ∷ field 1 position ∷ []) r ⌝ }
+{
+    let a = Joined::none().field(reserved, 4);
+    let b = a.field(no_gain, 1);
+    b.field(gain, 1)
+        .field(no_position, 1)
+        .field(position, 1)
+        .spelt()
+}
+
+// Those of a detail that was loaded.
+fn flags_of(d: PresetConditionDetail) -> u32
     ensures { λ r. ⌜ Spells (map (fieldOf (detailCols d)) flagCells) r ⌝ }
 {
-    let a = Joined::none().field(d.reserved, 4);
-    let b = a.field(d.disable_gain_interactivity, 1);
-    b.field(d.gain.present, 1)
-        .field(d.disable_position_interactivity, 1)
-        .field(d.position.present, 1)
-        .spelt()
+    flags_byte(
+        d.reserved,
+        d.disable_gain_interactivity,
+        d.gain.present,
+        d.disable_position_interactivity,
+        d.position.present,
+    )
 }
 
 fn position_bytes(p: PresetPosition) -> [u32; 3]
@@ -70,7 +85,7 @@ fn check_detail(p: Pen, d: PresetConditionDetail) -> Pen
     requires { ⌜ reach p < 2 ^ 31 ⌝ }
     ensures { λ r. ⌜ Checked (detailActs (detailCols d)) 5 p r ⌝ }
 {
-    let p1 = check_all(p, true, &[flags_byte(d)]);
+    let p1 = check_all(p, true, &[flags_of(d)]);
     let p2 = check_all(p1, d.gain.present == 1, &[one(d.gain.gain)]);
     check_all(p2, d.position.present == 1, &position_bytes(d.position))
 }
@@ -116,19 +131,33 @@ fn plain_position(conditions: &[u16], b: usize, there: bool) -> bool
     }
 }
 
+// How many bytes a condition with a detail makes, by the detail's flags.
+fn detail_bytes(gain: u16, position: u16) -> usize
+    ensures { λ r. ⌜ r ≡ 2 + (gain + position * 3) ⌝ }
+{
+    2 + ((gain as usize) + (position as usize) * 3)
+}
+
 // The bytes of a condition whose detail is there, or 0 if a field of it does not fit.
 fn plain_detail(conditions: &[u16], b: usize) -> usize
     requires { ⌜ b + 13 ≤ length (now conditions) ⌝ }
     ensures { λ r. ⌜ r ≡ detailLong (colsAt (now (conditions .entry)) b) ⌝ }
 {
-    let c = PresetCondition::of_columns(conditions, b);
-    let d = c.detail;
-    if 65536 <= flags_byte(d) {
+    let gain = conditions[b + 5];
+    let position = conditions[b + 7];
+    let flags = flags_byte(
+        conditions[b + 2],
+        conditions[b + 3],
+        gain,
+        conditions[b + 4],
+        position,
+    );
+    if 65536 <= flags {
         return 0;
     }
-    if plain_gain(conditions, b, d.gain.present == 1) {
-        if plain_position(conditions, b, d.position.present == 1) {
-            2 + ((d.gain.present as usize) + (d.position.present as usize) * 3)
+    if plain_gain(conditions, b, gain == 1) {
+        if plain_position(conditions, b, position == 1) {
+            detail_bytes(gain, position)
         } else {
             0
         }
@@ -233,7 +262,7 @@ fn fill_detail(conditions: &[u16], b: usize, out: &mut [u8], n: usize) -> usize
 {
     let c = PresetCondition::of_columns(conditions, b);
     let d = c.detail;
-    let n1 = fill_all(out, n, true, &[flags_byte(d)]);
+    let n1 = fill_all(out, n, true, &[flags_of(d)]);
     let n2 = fill_gain(conditions, b, d.gain.present == 1, out, n1);
     fill_position(conditions, b, d.position.present == 1, out, n2)
 }

@@ -6,15 +6,57 @@ use borrow.Author.Needs.{needs}
 use Rattle.conditions.proofs.writing.plain_detail.Statement.{statement}
 use Rattle.conditions.proofs.writing.plain_detail.Tie as tie
 
-of-columns-requires : tie.Need-of-columns-requires
-of-columns-requires c κs = search needs
+add-gain : tie.Need-add-gain
+add-gain c = search needs
+
+mul-gain : tie.Need-mul-gain
+mul-gain c = search needs
+
+shared-slice-read-gain : tie.Need-shared-slice-read-gain
+shared-slice-read-gain c = search needs
+
+add-position : tie.Need-add-position
+add-position c = search needs
+
+mul-position : tie.Need-mul-position
+mul-position c = search needs
+
+shared-slice-read-position : tie.Need-shared-slice-read-position
+shared-slice-read-position c = search needs
+
+add-flags-byte : tie.Need-add-flags-byte
+add-flags-byte c = search needs
+
+mul-flags-byte : tie.Need-mul-flags-byte
+mul-flags-byte c = search needs
+
+shared-slice-read-flags-byte : tie.Need-shared-slice-read-flags-byte
+shared-slice-read-flags-byte c = search needs
+
+add-flags-byte-2 : tie.Need-add-flags-byte-2
+add-flags-byte-2 c = search needs
+
+mul-flags-byte-2 : tie.Need-mul-flags-byte-2
+mul-flags-byte-2 c = search needs
+
+shared-slice-read-flags-byte-2 : tie.Need-shared-slice-read-flags-byte-2
+shared-slice-read-flags-byte-2 c = search needs
+
+add-flags-byte-3 : tie.Need-add-flags-byte-3
+add-flags-byte-3 c = search needs
+
+mul-flags-byte-3 : tie.Need-mul-flags-byte-3
+mul-flags-byte-3 c = search needs
+
+shared-slice-read-flags-byte-3 : tie.Need-shared-slice-read-flags-byte-3
+shared-slice-read-flags-byte-3 c = search needs
 
 flags-byte-requires : tie.Need-flags-byte-requires
 flags-byte-requires c κs = search needs
 
 returns : tie.Need-returns
 returns c =
-    long-so (colsAt (c .before .before .before .before .before .args .conditions .now) (c .before .before .before .before .before .args .b)) (spelt-odd (rw (c .before .before .before .of-columns .ensures) at (c .before .flags-byte .ensures)) (c .if1 .taken)) refl refl
+    long-so (colsAt (c .before .before .before .before .before .before .before .before .args .conditions .now) (c .before .before .before .before .before .before .before .before .args .b)) (spelt-odd (c .before .flags-byte .ensures) (c .if1 .taken)) refl refl
 
 plain-gain-requires : tie.Need-plain-gain-requires
 plain-gain-requires c κs = search needs
@@ -22,47 +64,45 @@ plain-gain-requires c κs = search needs
 plain-position-requires : tie.Need-plain-position-requires
 plain-position-requires c κs = search needs
 
-cast-result : tie.Need-cast-result
-cast-result c = search needs
-
-cast-result-2 : tie.Need-cast-result-2
-cast-result-2 c = search needs
-
-mul-result : tie.Need-mul-result
-mul-result c = search needs
-
-add-result : tie.Need-add-result
-add-result c = search needs
-
-add-result-2 : tie.Need-add-result-2
-add-result-2 c = search needs
+detail-bytes-requires : tie.Need-detail-bytes-requires
+detail-bytes-requires c κs = search needs
 
 returns-2 : tie.Need-returns-2
 returns-2 c =
-    rw (c .before .before .before .before .before .before .before .before .before .before .before .of-columns .ensures) (long-so (colsAt (c .before .before .before .before .before .before .before .before .before .before .before .before .before .args .conditions .now) (c .before .before .before .before .before .before .before .before .before .before .before .before .before .args .b)) (spelt-fits (rw (c .before .before .before .before .before .before .before .before .before .before .before .of-columns .ensures) at (c .before .before .before .before .before .before .before .before .before .flags-byte .ensures)) (c .before .before .before .before .before .before .before .before .if1 .left)) (sym (rw (c .before .before .before .before .before .before .before .before .before .before .before .of-columns .ensures) at (c .before .before .before .before .before .before .plain-gain .ensures)) ∙ c .before .before .before .before .before .if2 .taken) (sym (rw (c .before .before .before .before .before .before .before .before .before .before .before .of-columns .ensures) at (c .before .before .before .plain-position .ensures)) ∙ c .before .before .if3 .taken))
+    c .detail-bytes .ensures ∙ long-so (colsAt (c .before .before .before .before .before .before .before .before .before .before .before .before .before .args .conditions .now) (c .before .before .before .before .before .before .before .before .before .before .before .before .before .args .b)) (spelt-fits (c .before .before .before .before .before .before .flags-byte .ensures) (c .before .before .before .before .before .if1 .left)) (sym (c .before .before .before .before .plain-gain .ensures) ∙ c .before .before .before .if2 .taken) (sym (c .before .before .plain-position .ensures) ∙ c .before .if3 .taken)
 
 returns-3 : tie.Need-returns-3
 returns-3 c =
-    long-so (colsAt (c .before .before .before .before .before .before .before .before .before .before .before .args .conditions .now) (c .before .before .before .before .before .before .before .before .before .before .before .args .b)) (spelt-fits (rw (c .before .before .before .before .before .before .before .before .before .of-columns .ensures) at (c .before .before .before .before .before .before .before .flags-byte .ensures)) (c .before .before .before .before .before .before .if1 .left)) (sym (rw (c .before .before .before .before .before .before .before .before .before .of-columns .ensures) at (c .before .before .before .before .plain-gain .ensures)) ∙ c .before .before .before .if2 .taken) (sym (rw (c .before .before .before .before .before .before .before .before .before .of-columns .ensures) at (c .before .plain-position .ensures)) ∙ c .if3 .left)
+    long-so (colsAt (c .before .before .before .before .before .before .before .before .before .before .before .before .args .conditions .now) (c .before .before .before .before .before .before .before .before .before .before .before .before .args .b)) (spelt-fits (c .before .before .before .before .before .flags-byte .ensures) (c .before .before .before .before .if1 .left)) (sym (c .before .before .before .plain-gain .ensures) ∙ c .before .before .if2 .taken) (sym (c .before .plain-position .ensures) ∙ c .if3 .left)
 
 returns-4 : tie.Need-returns-4
 returns-4 c =
-    long-so (colsAt (c .before .before .before .before .before .before .before .before .args .conditions .now) (c .before .before .before .before .before .before .before .before .args .b)) (spelt-fits (rw (c .before .before .before .before .before .before .of-columns .ensures) at (c .before .before .before .before .flags-byte .ensures)) (c .before .before .before .if1 .left)) (sym (rw (c .before .before .before .before .before .before .of-columns .ensures) at (c .before .plain-gain .ensures)) ∙ c .if2 .left) refl
+    long-so (colsAt (c .before .before .before .before .before .before .before .before .before .before .args .conditions .now) (c .before .before .before .before .before .before .before .before .before .before .args .b)) (spelt-fits (c .before .before .before .flags-byte .ensures) (c .before .before .if1 .left)) (sym (c .before .plain-gain .ensures) ∙ c .if2 .left) refl
 
 pub plain-detail-spec : {M : Type 1} → statement M
 plain-detail-spec =
     tie.close
     (tie.spec
-    of-columns-requires
+    add-gain
+    mul-gain
+    shared-slice-read-gain
+    add-position
+    mul-position
+    shared-slice-read-position
+    add-flags-byte
+    mul-flags-byte
+    shared-slice-read-flags-byte
+    add-flags-byte-2
+    mul-flags-byte-2
+    shared-slice-read-flags-byte-2
+    add-flags-byte-3
+    mul-flags-byte-3
+    shared-slice-read-flags-byte-3
     flags-byte-requires
     returns
     plain-gain-requires
     plain-position-requires
-    cast-result
-    cast-result-2
-    mul-result
-    add-result
-    add-result-2
+    detail-bytes-requires
     returns-2
     returns-3
     returns-4)
