@@ -4,6 +4,5 @@ pub mod Walked
 pub mod Found
 pub mod Stored
 pub mod Answers
-pub mod Writes
 pub mod Bare
 pub mod Claims

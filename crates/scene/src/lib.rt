@@ -2,7 +2,6 @@
 mod parsing;
 pub mod rows;
 mod tallying;
-mod writing;
 
 ghost use mathlib.Core.Path.{_≡_};
 ghost use mathlib.Core.List.{[], _∷_};
@@ -27,6 +26,7 @@ use parsing::Walk;
 use presets::rows::PRESET_COLUMNS;
 use rows::MpegH3dAudioScene;
 use scene_groups::rows::GROUP_COLUMNS;
+use scene_writing::writing;
 use switch_groups::rows::MEMBER_COLUMNS;
 use switch_groups::rows::SWITCH_GROUP_COLUMNS;
 

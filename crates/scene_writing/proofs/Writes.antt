@@ -1,0 +1,129 @@
+-- The layouts write the scene body section after section.
+use Prim.Native.Nat.{ℕ, _+_, _*_, _/_, _^_, _≤_, _<_}
+use mathlib.Core.List.{List, [], _∷_, _++_, map, flatten}
+use mathlib.Core.Bool.{Bool, true, false}
+use mathlib.Core.Path.{_≡_, refl, sym, subst}
+use native.Mathlib.Omega.{arith}
+use native.Mathlib.Nat.{le-div-iff-mul-le}
+use lib.ListN.{length}
+use lib.Dec.{leb, ltb}
+use borrow.Author.Tests.{ltb-true, leb-true, le-leb}
+use Rattle.wire.specs.Lists.{each}
+use Rattle.wire.specs.Bits.{Field, fit}
+use Rattle.wire.specs.Act.{Act, byte, when, pick, rows}
+use Rattle.wire.specs.Pen.{Checked, Ready, Filled}
+use Rattle.wire.specs.declared.pen.Fault.{Fault}
+use Rattle.wire.specs.declared.pen.Pen.{Pen}
+use Rattle.wire.specs.declared.pen.Pen.the-variants.{At, Stop}
+use Rattle.wire.proofs.Acts.{and-both}
+use Rattle.wire.proofs.Passes.{then, more, here, nothing, stopped, byte-fits, Filling, fill-start, fill-none}
+use Rattle.wire.specs.Layout.{of, cells, shown, writes, every, has}
+use Rattle.frame.specs.Kind.{Lent}
+use Rattle.scene_kind.specs.declared.rows.Section.{Section}
+use Rattle.scene_kind.specs.declared.rows.MpegH3dAudioScene.{MpegH3dAudioScene}
+use Rattle.scene_kind.specs.Layout as T
+use Rattle.scene_kind.specs.Rows.{fields}
+use Rattle.scene_kind.specs.Kind.{actsOf, acts}
+use Rattle.scene_writing.specs.Write.{countByte, sectionActs, within, allWithin, sceneActs}
+
+pub scene-acts : (m : MpegH3dAudioScene) (lent : Lent) (store : List ℕ) → acts m lent store ≡ sceneActs m lent
+unfolding acts actsOf sceneActs sectionActs within T.groups T.switchGroups T.presets cells shown writes every has flatten rows each
+scene-acts m lent store = go m (m .groups .present) (m .«switch_groups» .present) (m .presets .present)
+  where
+    with : MpegH3dAudioScene → Bool → Bool → Bool → MpegH3dAudioScene
+    with m a b c = record {
+      «reserved_flags» = m .«reserved_flags»;
+      «scene_info_id» = m .«scene_info_id»;
+      groups = record { present = a; count = m .groups .count };
+      «reserved_switch_groups» = m .«reserved_switch_groups»;
+      «switch_groups» = record { present = b; count = m .«switch_groups» .count };
+      «reserved_presets» = m .«reserved_presets»;
+      presets = record { present = c; count = m .presets .count };
+      «reserved_groups» = m .«reserved_groups»;
+      trailing = m .trailing;
+    }
+
+    go : (m : MpegH3dAudioScene) (a b c : Bool) → actsOf (of (fields (with m a b c))) lent ≡ sceneActs (with m a b c) lent
+    go m true true true = refl
+    go m true true false = refl
+    go m true false true = refl
+    go m true false false = refl
+    go m false true true = refl
+    go m false true false = refl
+    go m false false true = refl
+    go m false false false = refl
+
+-- ---- a section in the check pass
+
+module _ (s : Section) (fs : List Field) (row : ℕ → List Act) where
+  -- its byte stops the pen
+  pub section-stops : (k : ℕ) {p r : Pen} {f : Fault} {n : ℕ} → s .present ≡ true → Checked (byte fs ∷ []) 1 p r → r ≡ Stop f n → 1 ≤ k → Checked (sectionActs s fs row) k p r
+  unfolding sectionActs
+  section-stops k t w e l = rw t (more k (then w (stopped (rows row 0 (s .count)) 0 e)) (omega arith))
+
+  -- its byte fits, and its rows were looked at
+  pub section-goes : (k : ℕ) {p q r : Pen} {n j : ℕ} → s .present ≡ true → Checked (byte fs ∷ []) 1 p q → q ≡ At n → Checked (rows row 0 (s .count)) j (At n) r → 1 + j ≤ k → Checked (sectionActs s fs row) k p r
+  unfolding sectionActs
+  section-goes k t w e v l = rw t (more k (then w (here e v)) l)
+
+  pub section-absent : (k : ℕ) (p : Pen) → s .present ≡ false → Checked (sectionActs s fs row) k p p
+  unfolding sectionActs
+  section-absent k p t = rw t (nothing k p)
+
+-- a count that fits its byte
+pub count-fits : (r w v : ℕ) (s : Section) {p q : Pen} {n : ℕ} → Checked (byte (countByte r w v s) ∷ []) 1 p q → q ≡ At n → s .count < 2 ^ w
+unfolding fit
+count-fits r w v s {p} c e =
+    let f = byte-fits p c e in
+    let (_, g) = and-both (ltb v (2 ^ r)) _ f in
+    let (h, _) = and-both (ltb (s .count) (2 ^ w)) _ g in
+    ltb-true _ _ h
+
+-- the three of them
+pub record Inside (m : MpegH3dAudioScene) (g x p : List ℕ) : Type 0 where
+  pub groups : within (m .groups) 27 g ≡ true
+  pub switches : within (m .«switch_groups») 9 x ≡ true
+  pub presets : within (m .presets) 7 p ≡ true
+
+pub insides : (m : MpegH3dAudioScene) (g x p : List ℕ) → allWithin m g x p ≡ true → Inside m g x p
+insides m g x p e =
+    let (a, r) = and-both (within (m .groups) 27 g) _ e in
+    let (b, c) = and-both (within (m .«switch_groups») 9 x) _ r in
+    record { groups = a; switches = b; presets = c }
+
+-- ---- its rows stand in the table
+
+module _ (s : Section) (columns : ℕ) (t : List ℕ) where
+  pub within-there : {r : Bool} → s .present ≡ true → r ≡ leb (s .count) (length t / columns) → r ≡ within s columns t
+  unfolding within
+  within-there p e = rw p e
+
+  pub within-absent : s .present ≡ false → true ≡ within s columns t
+  unfolding within
+  within-absent p = rw p (sym (le-leb 0 (length t / columns) (omega arith)))
+
+  pub rows-there : 0 < columns → within s columns t ≡ true → s .present ≡ true → s .count * columns ≤ length t
+  unfolding within
+  rows-there z e p = let h : leb (s .count) (length t / columns) ≡ true = subst (λ (b : Bool). leb (pick b (s .count) 0) (length t / columns) ≡ true) p e in le-div-iff-mul-le z .0 (leb-true _ _ h)
+
+-- ---- a section in the fill pass
+
+module _ (s : Section) (fs : List Field) (row : ℕ → List Act) {n : ℕ} {l : List ℕ} where
+  pub section-begins : s .present ≡ true → Ready (sectionActs s fs row) n l → Filling (sectionActs s fs row) (when true (map byte (fs ∷ [])) ++ rows row 0 (s .count)) n l n l
+  unfolding sectionActs
+  section-begins t r = subst (λ (b : Bool). Filling (when b (byte fs ∷ rows row 0 (s .count))) (byte fs ∷ rows row 0 (s .count)) n l n l) (sym t) (fill-start (subst (λ (b : Bool). Ready (when b (byte fs ∷ rows row 0 (s .count))) n l) t r))
+
+  pub section-empty : s .present ≡ false → Filled (sectionActs s fs row) n l n l
+  unfolding sectionActs
+  section-empty t = rw t (fill-none n l)
+
+-- ---- the actions of the layouts, checked as those of the sections
+
+pub written-as : (m : MpegH3dAudioScene) (lent : Lent) (store : List ℕ) {k : ℕ} {p r : Pen} → Checked (sceneActs m lent) k p r → Checked (acts m lent store) k p r
+written-as m lent store {k} {p} {r} w = subst (λ (q : List Act). Checked q k p r) (sym (scene-acts m lent store)) w
+
+pub ready-as : (m : MpegH3dAudioScene) (lent : Lent) (store : List ℕ) {n : ℕ} {l : List ℕ} → Ready (acts m lent store) n l → Ready (sceneActs m lent) n l
+ready-as m lent store {n} {l} w = subst (λ (q : List Act). Ready q n l) (scene-acts m lent store) w
+
+pub filled-as : (m : MpegH3dAudioScene) (lent : Lent) (store : List ℕ) {n r : ℕ} {l o : List ℕ} → Filled (sceneActs m lent) n l r o → Filled (acts m lent store) n l r o
+filled-as m lent store {n} {r} {l} {o} w = subst (λ (q : List Act). Filled q n l r o) (sym (scene-acts m lent store)) w

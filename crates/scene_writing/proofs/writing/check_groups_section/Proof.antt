@@ -1,0 +1,56 @@
+-- `scene::writing::check_groups_section` meets its contract: the byte of the section, then its rows.
+use native.Mathlib.Omega.{arith}
+use Rattle.wire.proofs.Plain.{all-checked}
+use Rattle.scene_writing.proofs.Writes.{section-stops, section-goes, section-absent, count-fits, rows-there}
+use borrow.Author.Needs.{needs}
+use Rattle.scene_writing.proofs.writing.check_groups_section.Statement.{statement}
+use Rattle.scene_writing.proofs.writing.check_groups_section.Tie as tie
+
+count-byte-requires : tie.Need-count-byte-requires
+count-byte-requires c κs = search needs
+
+slice-aggregate-check-all : tie.Need-slice-aggregate-check-all
+slice-aggregate-check-all c = search needs
+
+check-all-requires : tie.Need-check-all-requires
+check-all-requires c κs = search needs
+
+enum-known-p1 : tie.Need-enum-known-p1
+enum-known-p1 c = search needs
+
+enum-told : tie.Need-enum-told
+enum-told c = search needs
+
+returns : tie.Need-returns
+returns c =
+    section-stops _ _ _ 1652 (c .before .before .before .before .before .if1 .taken) (all-checked (c .before .before .before .before .count-byte .ensures) (c .before .before .check-all .ensures)) (c .enum-told .given .1) (omega arith)
+
+cast-check-groups : tie.Need-cast-check-groups
+cast-check-groups c = search needs
+
+check-groups-requires : tie.Need-check-groups-requires
+check-groups-requires c κs =
+    let w = all-checked (c .before .before .before .before .before .count-byte .ensures) (c .before .before .before .check-all .ensures) in let n = rw (c .before .p1 .given .1) at (w .near) in (rows-there (c .before .before .before .before .before .before .before .before .before .args .m .groups) 27 _ (omega arith) (c .before .before .before .before .before .before .before .before .before .pre .0) (c .before .before .before .before .before .before .if1 .taken), omega (arith, c .before .before .before .before .before .before .before .before .before .good), omega (arith, n, c .before .before .before .before .before .before .before .before .before .pre .1))
+
+returns-2 : tie.Need-returns-2
+returns-2 c =
+    let w = all-checked (c .before .before .before .before .before .before .count-byte .ensures) (c .before .before .before .before .check-all .ensures) in section-goes _ _ _ 1652 (c .before .before .before .before .before .before .before .if1 .taken) w (c .before .before .p1 .given .1) (c .check-groups .ensures) (omega (arith, count-fits 1 7 _ (c .before .before .before .before .before .before .before .before .before .before .args .m .groups) w (c .before .before .p1 .given .1)))
+
+returns-3 : tie.Need-returns-3
+returns-3 c =
+    section-absent _ _ _ 1652 _ (c .if1 .left)
+
+pub check-groups-section-spec : {M : Type 1} → statement M
+check-groups-section-spec =
+    tie.close
+    (tie.spec
+    count-byte-requires
+    slice-aggregate-check-all
+    check-all-requires
+    enum-known-p1
+    enum-told
+    returns
+    cast-check-groups
+    check-groups-requires
+    returns-2
+    returns-3)

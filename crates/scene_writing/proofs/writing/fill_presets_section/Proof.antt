@@ -1,0 +1,64 @@
+-- `scene::writing::fill_presets_section` meets its contract: the byte of the section, then its rows.
+use Prim.Native.Nat.{ℕ}
+use mathlib.Core.List.{List}
+use native.Mathlib.Omega.{arith}
+use Rattle.wire.specs.Act.{Act, rows}
+use Rattle.wire.specs.Layout.{familyActs}
+use Rattle.wire.proofs.Passes.{Filling, fill-last}
+use Rattle.wire.proofs.Plain.{ready-part, fill-part}
+use Rattle.conditions.specs.Layout.{condition}
+use Rattle.presets.specs.Layout.{preset}
+use Rattle.scene_writing.specs.Write.{presetsActs}
+use Rattle.scene_writing.proofs.Writes.{rows-there, section-begins, section-empty}
+use borrow.Author.Needs.{needs}
+use Rattle.scene_writing.proofs.writing.fill_presets_section.Statement.{statement}
+use Rattle.scene_writing.proofs.writing.fill_presets_section.Tie as tie
+
+abbrev start : tie.After-fill-all → tie.Start
+start c = c .before .before .before .before .before .before .before .before .before
+
+abbrev row : tie.Start → ℕ → List Act
+row c = familyActs preset 13 condition (c .args .presets .now) (c .args .conditions .now)
+
+behind : (c : tie.After-fill-all) → Filling (presetsActs (start c .args .m) (row (start c))) (rows (row (start c)) 0 (start c .args .m .presets .count)) (start c .args .n) (start c .args .out .now) (c .fill-all .result) (c .fill-all .last .0)
+behind c = fill-part _ (c .before .before .count-byte .ensures) (section-begins _ _ _ (c .before .before .before .before .if1 .taken) (start c .pre .1)) (c .fill-all .ensures)
+
+count-byte-requires : tie.Need-count-byte-requires
+count-byte-requires c κs = search needs
+
+slice-aggregate-fill-all : tie.Need-slice-aggregate-fill-all
+slice-aggregate-fill-all c = search needs
+
+fill-all-requires : tie.Need-fill-all-requires
+fill-all-requires c κs = ready-part _ (c .before .count-byte .ensures) (section-begins _ _ _ (c .before .before .before .if1 .taken) (c .before .before .before .before .before .before .before .before .pre .1))
+
+cast-fill-presets : tie.Need-cast-fill-presets
+cast-fill-presets c = search needs
+
+fill-presets-requires : tie.Need-fill-presets-requires
+fill-presets-requires c κs =
+    let w = behind (c .before .before .before) in
+    let z = start (c .before .before .before) in
+    (rows-there (z .args .m .presets) 7 _ (omega arith) (z .pre .0) (c .before .before .before .before .before .before .before .if1 .taken), omega (arith, z .good), w .ready)
+
+same-length : tie.Need-same-length
+same-length c = search needs
+
+returns : tie.Need-returns
+returns c = fill-last (behind (c .before .before .before .before .before .before)) (c .before .before .fill-presets .ensures)
+
+returns-2 : tie.Need-returns-2
+returns-2 c = section-empty _ _ _ (c .if1 .left)
+
+pub fill-presets-section-spec : {M : Type 1} → statement M
+fill-presets-section-spec =
+    tie.close
+    (tie.spec
+    count-byte-requires
+    slice-aggregate-fill-all
+    fill-all-requires
+    cast-fill-presets
+    fill-presets-requires
+    same-length
+    returns
+    returns-2)
