@@ -4,10 +4,6 @@ use lib.Dec.{eqb}
 use Rattle.wire.specs.Bits.{zeros}
 use Rattle.wire.specs.Act.{pick}
 use Rattle.conditions.specs.declared.rows.PresetPosition.{PresetPosition}
-use Rattle.conditions.specs.declared.rows.PresetConditionDetail.{PresetConditionDetail}
 
 abbrev pub positionZeros : PresetPosition → ℕ
 positionZeros p = pick (eqb (p .present) 1) (zeros 2 (p .«reserved_el») + zeros 4 (p .«reserved_dist»)) 0
-
-abbrev pub detailZeros : PresetConditionDetail → ℕ
-detailZeros d = pick (eqb (d .present) 1) (zeros 4 (d .reserved) + positionZeros (d .position)) 0

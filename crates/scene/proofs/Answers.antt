@@ -18,7 +18,7 @@ use Rattle.frame.specs.declared.Room.the-variants as M
 use Rattle.frame.specs.Kind.{Lent}
 use Rattle.frame.specs.Numbers.{accepted, refused, refusal}
 use Rattle.frame.specs.Entry as E
-use Rattle.frame.specs.Entry.{needs, lacking, onto, sizes, Reads, Measures, Tallies}
+use Rattle.frame.specs.Entry.{lacking, onto, sizes, Reads, Measures, Tallies}
 use Rattle.frame.specs.Sight.{andTables}
 use Rattle.frame.proofs.Entries.{judges, tallies, reads-lacking}
 use Rattle.frame.proofs.Tables.{enough, lowest}
@@ -44,10 +44,6 @@ use Rattle.scene.proofs.Found.{groups-stand, switches-stand, presets-st
 module _ {s : List ℕ} {p : Places} (f : Found s p) (h : length s < 65536) {z : Sizes} (c : Counted s p z) where
   pub measures-so : Measures kind s (accepted (sized z))
   measures-so = subst (λ (y : E.Sizes). Measures kind s (accepted y)) (sym (c .is f)) (measures-found f (omega arith))
-
-  needs-so : sized z .tables ≡ needs (tables (tree f))
-  unfolding sizes kind
-  needs-so = ap (λ (y : E.Sizes). y .tables) (c .is f)
 
   module _ (lent : Lent) {r : Room} (e : r ≡ andTables M.Enough (sized z .tables) lent) where
     pub lacks-so : {t n : ℕ} → r ≡ M.Lacks t n → Reads kind s lent (refused (refusal (R.NoRoom t n))) lent
