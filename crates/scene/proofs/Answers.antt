@@ -27,15 +27,15 @@ use Rattle.switch_groups.specs.Layout.{member, switchGroup, switchGroups}
 use Rattle.conditions.specs.Layout.{condition}
 use Rattle.presets.specs.Layout.{preset, presets}
 use Rattle.scene.specs.declared.parsing.Places.{Places}
+use Rattle.scene.specs.declared.Opening.the-variants as O
 use Rattle.scene.specs.declared.Sizes.{Sizes}
-use Rattle.scene_kind.specs.declared.rows.MpegH3dAudioScene.{MpegH3dAudioScene}
 use Rattle.scene_kind.specs.Layout as T
 use Rattle.scene_kind.specs.Layout.{layouts}
 use Rattle.scene_kind.specs.Rows.{tables}
 use Rattle.scene_kind.specs.Kind as K
 use Rattle.scene_kind.specs.Kind.{kind}
 use Rattle.scene.specs.Contract.{sized}
-use Rattle.scene.specs.Walk.{Flags, rowsAt, countAt, reservedAt, reservedZeros, groupsFlag, switchesFlag, presetsFlag, Found, tree, Recorded, Counted, Zeros, Rooms, Stored}
+use Rattle.scene.specs.Walk.{Flags, rowsAt, countAt, reservedAt, reservedZeros, groupsFlag, switchesFlag, presetsFlag, Found, tree, Counted, Zeros, Rooms, Stored, Opens}
 use Rattle.scene.proofs.Walked.{found-reads}
 use Rattle.scene.proofs.Found.{groups-stand, switches-stand, presets-stand, measures-found, reads-found}
 
@@ -46,20 +46,20 @@ module _ {s : List ℕ} {p : Places} (f : Found s p) (h : length s < 65536) {z :
   measures-so = subst (λ (y : E.Sizes). Measures kind s (accepted y)) (sym (c .is f)) (measures-found f (omega arith))
 
   module _ (lent : Lent) {r : Room} (e : r ≡ andTables M.Enough (sized z .tables) lent) where
-    pub lacks-so : {t n : ℕ} → r ≡ M.Lacks t n → Reads kind s lent (refused (refusal (R.NoRoom t n))) lent
+    pub lacks-so : {t n : ℕ} → r ≡ M.Lacks t n → Opens s lent (O.Refused (R.NoRoom t n)) lent
     lacks-so {t} {n} d =
         let l = lowest (sized z .tables) lent (sym e ∙ d) in
         let w = reads-lacking kind s measures-so lent (l .need) (l .is) in
-        subst (λ (n : ℕ). Reads kind s lent (refused (refusal (R.NoRoom t n))) lent) (l .rows) (subst (λ (t : ℕ). Reads kind s lent (refused (refusal (R.NoRoom t (l .need .rows)))) lent) (l .number) w)
+        record { gives = subst (λ (n : ℕ). Reads kind s lent (refused (refusal (R.NoRoom t n))) lent) (l .rows) (subst (λ (t : ℕ). Reads kind s lent (refused (refusal (R.NoRoom t (l .need .rows)))) lent) (l .number) w) }
 
 -- the same of any two finds
 pub rooms-so : {s : List ℕ} {p : Places} {z : Sizes} → Counted s p z → (lent : Lent) {r : Room} → r ≡ andTables M.Enough (sized z .tables) lent → r ≡ M.Enough → Rooms s p lent
 unfolding sizes kind
 rooms-so {z = z} c lent e d = record { has = λ f. ap (λ (y : E.Sizes). lacking (y .tables) lent) (sym (c .is f)) ∙ enough (sized z .tables) lent (sym e ∙ d) }
 
-pub reads-so : {s : List ℕ} {p : Places} → Found s p → length s < 65536 → {lent after : Lent} {m : MpegH3dAudioScene} → Rooms s p lent → Stored s p lent after → Recorded s p m → Reads kind s lent (accepted m) after
+pub opened-so : {s : List ℕ} {p : Places} → Found s p → length s < 65536 → {lent after : Lent} → Rooms s p lent → Stored s p lent after → Opens s lent (O.At p) after
 unfolding kind
-reads-so {s} {p} f h {lent} r w m = rw (m .is f, w .is f) (reads-found f (omega arith) lent (r .has f))
+opened-so {s} {p} f h {lent} r w = record { gives = record { found = f; few = h; reads = λ m. rw (m .is f, w .is f) (reads-found f (omega arith) lent (r .has f)) } }
 
 -- ---- the tally
 

@@ -1,13 +1,13 @@
 -- A body whose sections have no rows is found at once, and needs no table; one that ends before the byte of its first section is short.
-use Prim.Native.Nat.{ℕ, _+_, _≤_, _<_}
+use Prim.Native.Nat.{ℕ, zero, suc, _+_, _≤_, _<_}
 use mathlib.Core.Path.{_≡_, refl, sym, ap, subst, _∙_}
 use mathlib.Core.List.{List, [], _∷_, flatten, flatMap}
-use mathlib.Core.Bool.{Bool, true, false, _&&_, _||_}
+use mathlib.Core.Bool.{Bool, true, false, _&&_}
 use mathlib.Core.Option.{none}
 use native.Mathlib.Omega.{arith}
 use lib.ListN.{length, getD}
-use lib.Dec.{eqb, leb}
-use borrow.Author.Tests.{eqb-true, ne-eqb, eq-eqb, le-leb, leb-true}
+use lib.Dec.{eqb}
+use borrow.Author.Tests.{eqb-true, ne-eqb, eq-eqb, le-leb}
 use Rattle.wire.specs.Lists.{firsts}
 use Rattle.wire.specs.Bits.{part}
 use Rattle.wire.specs.Prog.{Prog, done, short, needing, run, many, _>>=_}
@@ -21,18 +21,19 @@ use Rattle.wire.proofs.Cells.{clash}
 use Rattle.wire.proofs.Straight.{ones-lacks}
 use Rattle.frame.specs.Kind.{Lent}
 use Rattle.frame.specs.Numbers.{accepted}
-use Rattle.frame.specs.Entry.{Need, needs, lacking, room, first, others, filled, tail, Reads}
+use Rattle.frame.specs.Entry.{Need, needs, lacking, room, first, others, filled, tail, too-short, Reads, Measures}
+use Rattle.frame.proofs.Entries.{measures-short}
 use Rattle.scene_groups.specs.Layout.{group}
 use Rattle.switch_groups.specs.Layout.{switchGroups}
 use Rattle.presets.specs.Layout.{presets}
-use Rattle.scene_kind.specs.declared.rows.MpegH3dAudioScene.{MpegH3dAudioScene}
 use Rattle.scene_kind.specs.Read.{Section, section}
 use Rattle.scene_kind.specs.Rows.{Scene, tables}
 use Rattle.scene_kind.specs.Kind.{parse, kind}
 use Rattle.scene.specs.declared.parsing.Places.{Places}
-use Rattle.scene.specs.Walk.{Flags, rowsAt, countAt, groupsFlag, switchesFlag, presetsFlag, tree, Recorded, Bare}
+use Rattle.scene.specs.declared.Opening.the-variants as O
+use Rattle.scene.specs.Walk.{Flags, rowsAt, countAt, groupsFlag, switchesFlag, presetsFlag, tree, Bare, Opens}
 use Rattle.scene.proofs.Sections.{sectionOf, section-so, section-cut}
-use Rattle.scene.proofs.Walked.{Two, behind-groups, head-there}
+use Rattle.scene.proofs.Walked.{Two, behind-groups, head-there, head-cut}
 use Rattle.scene.proofs.Found.{reads-found}
 
 -- ---- sections without rows
@@ -53,9 +54,9 @@ rows-at-near flag at = go (eqb flag 1)
     go true = omega arith
     go false = omega arith
 
--- the byte of each section is there, if that of the last is
-pub stand : {n : ℕ} (g t q a b k : ℕ) → a ≡ rowsAt g 2 → b ≡ rowsAt t a → k ≡ rowsAt q b → k ≤ n → (rowsAt g 2 ≤ n) × (rowsAt t a ≤ n) × (rowsAt q b ≤ n)
-stand g t q a b k x y z h = let i = rows-at-most q b in let j = rows-at-most t a in (omega arith, omega arith, omega arith)
+-- the byte of a section is there, if that of the next is
+pub stand : {n : ℕ} (t q a b k : ℕ) → b ≡ rowsAt t a → k ≡ rowsAt q b → k ≤ n → rowsAt t a ≤ n
+stand t q a b k y z h = let i = rows-at-most q b in omega arith
 
 bare-found : (s : List ℕ) → 2 ≤ length s → {a b k : ℕ} → a ≡ rowsAt (groupsFlag s) 2 → b ≡ rowsAt (switchesFlag s) a → k ≡ rowsAt (presetsFlag s) b → k ≤ length s → countAt 7 s (groupsFlag s) 2 ≡ 0 → countAt 5 s (switchesFlag s) a ≡ 0 → countAt 5 s (presetsFlag s) b ≡ 0
     → Bare s (record { «switch_groups» = a; presets = b; members = 0; conditions = 0; k = k })
@@ -86,16 +87,29 @@ bare-found s h {a} {b} {k} ea eb ek l x y z =
     }
 
 -- with the flags and the counts as code has them
-pub bare-so : {s : List ℕ} {g t q : ℕ} → 2 ≤ length s → Flags s g t q → {a b k x y z : ℕ} → a ≡ rowsAt g 2 → b ≡ rowsAt t a → k ≡ rowsAt q b → k ≤ length s → x ≡ countAt 7 s g 2 → y ≡ countAt 5 s t a → z ≡ countAt 5 s q b → x + (y + z) ≡ 0
+pub bare-so : {s : List ℕ} {g t q : ℕ} → 2 ≤ length s → Flags s g t q → {a b k y z : ℕ} → a ≡ rowsAt g 2 → b ≡ rowsAt t a → k ≡ rowsAt q b → k ≤ length s → countAt 7 s g 2 ≡ 0 → y ≡ countAt 5 s t a → z ≡ countAt 5 s q b → eqb y 0 && eqb z 0 ≡ true
     → Bare s (record { «switch_groups» = a; presets = b; members = 0; conditions = 0; k = k })
-bare-so {s} h w {a} {b} {k} {x} {y} {z} ea eb ek l ex ey ez n =
-    let x0 : x ≡ 0 = omega arith in
-    let y0 : y ≡ 0 = omega arith in
-    let z0 : z ≡ 0 = omega arith in
+bare-so {s} h w {a} {b} {k} {y} {z} ea eb ek l x0 ey ez n =
+    let (u, v) = and-both (eqb y 0) (eqb z 0) n in
+    let y0 = eqb-true y 0 u in
+    let z0 = eqb-true z 0 v in
     bare-found s h (ea ∙ ap (λ (g : ℕ). rowsAt g 2) (w .of-groups)) (eb ∙ ap (λ (t : ℕ). rowsAt t a) (w .of-switches)) (ek ∙ ap (λ (q : ℕ). rowsAt q b) (w .of-presets)) l
-    (ap (λ (g : ℕ). countAt 7 s g 2) (sym (w .of-groups)) ∙ sym ex ∙ x0)
+    (ap (λ (g : ℕ). countAt 7 s g 2) (sym (w .of-groups)) ∙ x0)
     (ap (λ (t : ℕ). countAt 5 s t a) (sym (w .of-switches)) ∙ sym ey ∙ y0)
     (ap (λ (q : ℕ). countAt 5 s q b) (sym (w .of-presets)) ∙ sym ez ∙ z0)
+
+-- no section at all
+pub none-so : {s : List ℕ} {n v : ℕ} → Two s n → v ≡ getD s 0 0 → v < 32 → Bare s (record { «switch_groups» = n; presets = n; members = 0; conditions = 0; k = n })
+unfolding rowsAt countAt
+none-so {s} {n} {v} h e l =
+    let i = h .inside in
+    let m = h .at-two in
+    let x : groupsFlag s ≡ 0 = omega arith in
+    let y : switchesFlag s ≡ 0 = omega arith in
+    let z : presetsFlag s ≡ 0 = omega arith in
+    let absent : (v : ℕ) → v ≡ 0 → rowsAt v n ≡ n = λ v e. ap (λ (v : ℕ). rowsAt v n) e ∙ omega arith in
+    let uncounted : (m v at : ℕ) → v ≡ 0 → countAt m s v at ≡ 0 = λ m v at e. ap (λ (v : ℕ). countAt m s v at) e in
+    bare-found s i (sym (ap (rowsAt (groupsFlag s)) (sym m) ∙ absent _ x)) (sym (absent _ y)) (sym (absent _ z)) (omega arith) (uncounted 7 _ 2 x) (uncounted 5 _ n y) (uncounted 5 _ n z)
 
 -- ---- they need no table, and none changes
 
@@ -122,13 +136,19 @@ module _ {s : List ℕ} {p : Places} (b : Bare s p) where
   bare-is : tree (b .found) ≡ none-of [] [] []
   bare-is = λ i. none-of (b .no-groups i) (b .no-switches i) (b .no-presets i)
 
-  pub bare-reads : length s < 65536 → (x y z u v : List ℕ) {m : MpegH3dAudioScene} → Recorded s p m → Reads kind s (x ∷ y ∷ z ∷ u ∷ v ∷ []) (accepted m) (x ∷ y ∷ z ∷ u ∷ v ∷ [])
+  pub bare-opens : length s < 65536 → (x y z u v : List ℕ) → Opens s (x ∷ y ∷ z ∷ u ∷ v ∷ []) (O.At p) (x ∷ y ∷ z ∷ u ∷ v ∷ [])
   unfolding kind
-  bare-reads h x y z u v r =
+  bare-opens h x y z u v =
       let lent = x ∷ y ∷ z ∷ u ∷ v ∷ [] in
       let e : lacking (needs (tables (tree (b .found)))) lent ≡ none = ap (λ (t : Scene). lacking (needs (tables t)) lent) bare-is ∙ enough lent in
       let k : filled (tables (tree (b .found))) lent ≡ lent = ap (λ (t : Scene). filled (tables t) lent) bare-is ∙ stays x y z u v in
-      rw (r .is (b .found)) (subst (λ (after : Lent). Reads kind s lent (accepted (kind .top (tree (b .found)) (tail (p .k) s))) after) k (reads-found (b .found) (omega arith) lent e))
+      record {
+        gives = record {
+          found = b .found;
+          few = h;
+          reads = λ r. rw (r .is (b .found)) (subst (λ (after : Lent). Reads kind s lent (accepted (kind .top (tree (b .found)) (tail (p .k) s))) after) k (reads-found (b .found) (omega arith) lent e));
+        };
+      }
 
 -- ---- cut before the byte of its first section
 
@@ -153,8 +173,14 @@ flag-is v e = eqb-true v 1 e
 flag-is-not : (v : ℕ) → eqb v 1 ≡ false → v ≡ 1 → ⊥
 flag-is-not v e q = clash (eq-eqb v 1 q) e
 
-first-cut : (s : List ℕ) → length s ≡ 2 → eqb (groupsFlag s) 1 || (eqb (switchesFlag s) 1 || eqb (presetsFlag s) 1) ≡ true → run parse s 0 ≡ short (needing 3)
-first-cut s l h = go (eqb (groupsFlag s) 1) (eqb (switchesFlag s) 1) (eqb (presetsFlag s) 1) refl refl refl h
+-- a flag that is not 1 is 0
+flag-off : (v : ℕ) → v < 2 → eqb v 1 ≡ false → v ≡ 0
+flag-off zero h e = refl
+flag-off (suc zero) h e = clash refl e
+flag-off (suc (suc v)) h e = absurd (omega arith)
+
+pub cut-so : (s : List ℕ) → length s ≡ 2 → 32 ≤ getD s 0 0 → getD s 0 0 < 256 → run parse s 0 ≡ short (needing 3)
+cut-so s l low high = go (eqb (groupsFlag s) 1) (eqb (switchesFlag s) 1) (eqb (presetsFlag s) 1) refl refl refl
   where
     groups : Prog (Section (List ℕ))
     groups = section (groupsFlag s) 1 7 1 (flat 27 group)
@@ -168,21 +194,19 @@ first-cut s l h = go (eqb (groupsFlag s) 1) (eqb (switchesFlag s) 1) (eqb (prese
     w₁ : (groupsFlag s ≡ 1 → ⊥) → From parse s 0 (behind-groups s (sectionOf (flat 27 group) 1 7 1 s (groupsFlag s) 2 [])) 2
     w₁ a = onward groups (behind-groups s) w₀ refl (section-passed (flat 27 group) 1 7 1 s (groupsFlag s) l a)
 
-    go : (x y z : Bool) → eqb (groupsFlag s) 1 ≡ x → eqb (switchesFlag s) 1 ≡ y → eqb (presetsFlag s) 1 ≡ z → x || (y || z) ≡ true → run parse s 0 ≡ short (needing 3)
-    go true y z a b c h = cut groups (behind-groups s) w₀ (section-missing (flat 27 group) 1 7 1 s (groupsFlag s) l (flag-is _ a))
-    go false true z a b c h = cut switches _ (w₁ (flag-is-not _ a)) (section-missing switchGroups 3 5 7 s (switchesFlag s) l (flag-is _ b))
-    go false false true a b c h =
+    go : (x y z : Bool) → eqb (groupsFlag s) 1 ≡ x → eqb (switchesFlag s) 1 ≡ y → eqb (presetsFlag s) 1 ≡ z → run parse s 0 ≡ short (needing 3)
+    go true y z a b c = cut groups (behind-groups s) w₀ (section-missing (flat 27 group) 1 7 1 s (groupsFlag s) l (flag-is _ a))
+    go false true z a b c = cut switches _ (w₁ (flag-is-not _ a)) (section-missing switchGroups 3 5 7 s (switchesFlag s) l (flag-is _ b))
+    go false false true a b c =
         cut (section (presetsFlag s) 3 5 7 presets) _ (onward switches _ (w₁ (flag-is-not _ a)) refl (section-passed switchGroups 3 5 7 s (switchesFlag s) l (flag-is-not _ b))) (section-missing presets 3 5 7 s (presetsFlag s) l (flag-is _ c))
-    go false false false a b c h = absurd (let z : _≡_ {A = ℕ} 0 1 = cc h in omega arith)
+    go false false false a b c =
+        let x = flag-off (groupsFlag s) (omega arith) a in
+        let below : getD s 0 0 < 128 = omega (arith, x) in
+        let y = flag-off (switchesFlag s) (omega arith) b in
+        let lower : getD s 0 0 < 64 = omega (arith, y, below) in
+        absurd (omega (arith, flag-off (presetsFlag s) (omega arith) c, lower))
 
--- with the flags as code has them
-flags-as : {s : List ℕ} {g t q : ℕ} → Flags s g t q → eqb g 1 || (eqb t 1 || eqb q 1) ≡ true → eqb (groupsFlag s) 1 || (eqb (switchesFlag s) 1 || eqb (presetsFlag s) 1) ≡ true
-flags-as w h = (λ i. eqb (sym (w .of-groups) i) 1 || (eqb (sym (w .of-switches) i) 1 || eqb (sym (w .of-presets) i) 1)) ∙ h
-
-pub cut-so : {s : List ℕ} {g t q n : ℕ} → Two s n → Flags s g t q → (eqb g 1 || (eqb t 1 || eqb q 1)) && leb (length s) n ≡ true → run parse s 0 ≡ short (needing (n + 1))
-cut-so {s} {g} {t} {q} {n} h w e =
-    let (x, y) = and-both (eqb g 1 || (eqb t 1 || eqb q 1)) (leb (length s) n) e in
-    let l : length s ≤ n = leb-true (length s) n y in
-    let m = h .at-two in
-    let i = h .inside in
-    first-cut s (omega arith) (flags-as w x) ∙ ap (λ (n : ℕ). short (needing (n + 1))) (sym m)
+-- without its first two bytes
+pub headless : (s : List ℕ) → length s < 2 → Measures kind s (too-short (needing (length s + 1)))
+unfolding kind
+headless s h = measures-short kind s (omega arith) (head-cut s (ones-lacks 2 s 0 (omega arith) (omega arith)))

@@ -1,5 +1,5 @@
 -- What the walk along a scene body finds: where its sections stand, and how many rows they need of the tables below theirs. The promises of the entry points do not rest on it.
-use Prim.Native.Nat.{ℕ, _+_, _≤_}
+use Prim.Native.Nat.{ℕ, _+_, _<_, _≤_}
 use mathlib.Core.List.{List, [], _∷_}
 use mathlib.Core.Option.{none}
 use mathlib.Core.Path.{_≡_}
@@ -10,7 +10,8 @@ use Rattle.wire.specs.Prog.{done, short, run}
 use Rattle.wire.specs.Act.{pick}
 use Rattle.wire.specs.Layout.{flat, Family, kids}
 use Rattle.frame.specs.Kind.{Lent}
-use Rattle.frame.specs.Entry.{needs, lacking, filled, tail, sizes}
+use Rattle.frame.specs.Numbers.{accepted, refused, refusal}
+use Rattle.frame.specs.Entry.{needs, lacking, filled, tail, sizes, Reads}
 use Rattle.scene_groups.specs.Layout.{group}
 use Rattle.switch_groups.specs.Layout.{switchGroups}
 use Rattle.presets.specs.Layout.{presets}
@@ -20,6 +21,8 @@ use Rattle.scene.specs.declared.parsing.Look.the-variants as L
 use Rattle.scene.specs.declared.parsing.Walk.{Walk}
 use Rattle.scene.specs.declared.parsing.Walk.the-variants as W
 use Rattle.scene_kind.specs.declared.rows.MpegH3dAudioScene.{MpegH3dAudioScene}
+use Rattle.scene.specs.declared.Opening.{Opening}
+use Rattle.scene.specs.declared.Opening.the-variants as O
 use Rattle.scene.specs.declared.Sizes.{Sizes}
 use Rattle.scene_kind.specs.Rows.{Scene, sceneOf, tables}
 use Rattle.scene_kind.specs.Read.{all, Section, section}
@@ -118,3 +121,16 @@ looks s L.Rows = 2 ≤ length s
 
 pub record Looks (s : List ℕ) (r : Look) : Type 0 where
   pub sees : looks s r
+
+-- a body that was opened: its sections were found, and its record, with the tables as they are then, is what reading gives
+pub record Opened (s : List ℕ) (lent : Lent) (p : Places) (after : Lent) : Type 0 where
+  pub found : Found s p
+  pub few : length s < 65536
+  pub reads : {m : MpegH3dAudioScene} → Recorded s p m → Reads kind s lent (accepted m) after
+
+abbrev pub opens : List ℕ → Lent → Opening → Lent → Type 0
+opens s lent (O.At p) after = Opened s lent p after
+opens s lent (O.Refused x) after = Reads kind s lent (refused (refusal x)) after
+
+pub record Opens (s : List ℕ) (lent : Lent) (r : Opening) (after : Lent) : Type 0 where
+  pub gives : opens s lent r after

@@ -1,5 +1,5 @@
 // The scene body (kind 2; H.222.0 2.6.110, Table 2-123): read, measure, tally and write. Its rows are those of tables 1 to 5.
-mod parsing;
+pub mod parsing;
 pub mod rows;
 mod tallying;
 
@@ -13,7 +13,7 @@ ghost use Rattle.frame.specs.Entry.{Reads, Measures, Tallies, Writes};
 ghost use Rattle.frame.specs.Sight.{andTables};
 ghost use Rattle.scene_kind.specs.Kind.{kind};
 ghost use Rattle.scene.specs.Contract.{sized, read, measured};
-ghost use Rattle.scene.specs.Walk.{Found};
+ghost use Rattle.scene.specs.Walk.{Found, Opens};
 use conditions::rows::CONDITION_COLUMNS;
 use frame::Refusal;
 use frame::Room;
@@ -33,6 +33,12 @@ use switch_groups::rows::SWITCH_GROUP_COLUMNS;
 // What reading answers: the top record, its trailing run included.
 pub enum Reading {
     Done(MpegH3dAudioScene),
+    Refused(Refusal),
+}
+
+// What opening a body gives: its places, its rows being in the tables; or why it is refused.
+pub enum Opening {
+    At(Places),
     Refused(Refusal),
 }
 
@@ -65,7 +71,7 @@ pub fn measure(body: &[u8]) -> Measured
     }
 }
 
-// The record of a body, its rows in tables 1 to 5; or 2, or 1, or 3. The tables are touched when all of the body is known to be sound.
+// The record of a body, its rows in tables 1 to 5; or 2, or 1, or 3.
 pub fn read(
     body: &[u8],
     groups: &mut [u16],
@@ -76,38 +82,56 @@ pub fn read(
 ) -> Reading
     ensures { λ r. ⌜ Reads kind (now (body .entry)) (now (groups .entry) ∷ now («switch_groups» .entry) ∷ now (members .entry) ∷ now (presets .entry) ∷ now (conditions .entry) ∷ []) (read r) (now (groups .exit) ∷ now («switch_groups» .exit) ∷ now (members .exit) ∷ now (presets .exit) ∷ now (conditions .exit) ∷ []) ⌝ }
 {
-    if 65535 < body.len() {
-        return Reading::Refused(Refusal::TooLong(body.len()));
-    }
-    let l = parsing::first_look(body);
-    match l {
-        Look::Bare(p) => Reading::Done(parsing::record_at(body, p)),
-        Look::Short(x) => Reading::Refused(Refusal::Short(x)),
-        Look::Rows => read_rows(body, groups, switch_groups, members, presets, conditions),
+    let o = opened(body, groups, switch_groups, members, presets, conditions);
+    match o {
+        Opening::At(p) => Reading::Done(parsing::record_at(body, p)),
+        Opening::Refused(x) => Reading::Refused(x),
     }
 }
 
-// The record of a body that may have rows.
-fn read_rows(
+// All of reading but the record, which the places give. The tables are touched when all of the body is known to be sound.
+pub fn opened(
     body: &[u8],
     groups: &mut [u16],
     switch_groups: &mut [u16],
     members: &mut [u16],
     presets: &mut [u16],
     conditions: &mut [u16],
-) -> Reading
-    requires { ⌜ length (now body) < 2 ^ 16 ⌝ }
-    ensures { λ r. ⌜ Reads kind (now (body .entry)) (now (groups .entry) ∷ now («switch_groups» .entry) ∷ now (members .entry) ∷ now (presets .entry) ∷ now (conditions .entry) ∷ []) (read r) (now (groups .exit) ∷ now («switch_groups» .exit) ∷ now (members .exit) ∷ now (presets .exit) ∷ now (conditions .exit) ∷ []) ⌝ }
+) -> Opening
+    ensures { λ r. ⌜ Opens (now (body .entry)) (now (groups .entry) ∷ now («switch_groups» .entry) ∷ now (members .entry) ∷ now (presets .entry) ∷ now (conditions .entry) ∷ []) r (now (groups .exit) ∷ now («switch_groups» .exit) ∷ now (members .exit) ∷ now (presets .exit) ∷ now (conditions .exit) ∷ []) ⌝ }
 {
-    let w = parsing::find_sections(body);
-    match w {
-        Walk::Done(p) => read_found(body, p, groups, switch_groups, members, presets, conditions),
-        Walk::Short(x) => Reading::Refused(Refusal::Short(x)),
+    if 65535 < body.len() {
+        return Opening::Refused(Refusal::TooLong(body.len()));
+    }
+    let l = parsing::first_look(body);
+    match l {
+        Look::Bare(p) => Opening::At(p),
+        Look::Short(x) => Opening::Refused(Refusal::Short(x)),
+        Look::Rows => opened_rows(body, groups, switch_groups, members, presets, conditions),
     }
 }
 
-// The lowest table that is short, else the rows and the record.
-fn read_found(
+// A body that may have rows.
+fn opened_rows(
+    body: &[u8],
+    groups: &mut [u16],
+    switch_groups: &mut [u16],
+    members: &mut [u16],
+    presets: &mut [u16],
+    conditions: &mut [u16],
+) -> Opening
+    requires { ⌜ length (now body) < 2 ^ 16 ⌝ }
+    ensures { λ r. ⌜ Opens (now (body .entry)) (now (groups .entry) ∷ now («switch_groups» .entry) ∷ now (members .entry) ∷ now (presets .entry) ∷ now (conditions .entry) ∷ []) r (now (groups .exit) ∷ now («switch_groups» .exit) ∷ now (members .exit) ∷ now (presets .exit) ∷ now (conditions .exit) ∷ []) ⌝ }
+{
+    let w = parsing::find_sections(body);
+    match w {
+        Walk::Done(p) => opened_found(body, p, groups, switch_groups, members, presets, conditions),
+        Walk::Short(x) => Opening::Refused(Refusal::Short(x)),
+    }
+}
+
+// The lowest table that is short, else the rows.
+fn opened_found(
     body: &[u8],
     p: Places,
     groups: &mut [u16],
@@ -115,17 +139,17 @@ fn read_found(
     members: &mut [u16],
     presets: &mut [u16],
     conditions: &mut [u16],
-) -> Reading
+) -> Opening
     requires { ⌜ Found (now body) p × (length (now body) < 2 ^ 16) ⌝ }
-    ensures { λ r. ⌜ Reads kind (now (body .entry)) (now (groups .entry) ∷ now («switch_groups» .entry) ∷ now (members .entry) ∷ now (presets .entry) ∷ now (conditions .entry) ∷ []) (read r) (now (groups .exit) ∷ now («switch_groups» .exit) ∷ now (members .exit) ∷ now (presets .exit) ∷ now (conditions .exit) ∷ []) ⌝ }
+    ensures { λ r. ⌜ Opens (now (body .entry)) (now (groups .entry) ∷ now («switch_groups» .entry) ∷ now (members .entry) ∷ now (presets .entry) ∷ now (conditions .entry) ∷ []) r (now (groups .exit) ∷ now («switch_groups» .exit) ∷ now (members .exit) ∷ now (presets .exit) ∷ now (conditions .exit) ∷ []) ⌝ }
 {
     let s = parsing::sizes_at(body, p);
     let r = room(s, groups, switch_groups, members, presets, conditions);
     match r {
-        Room::Lacks(table, rows) => Reading::Refused(Refusal::NoRoom(table, rows)),
+        Room::Lacks(table, rows) => Opening::Refused(Refusal::NoRoom(table, rows)),
         Room::Enough => {
             parsing::fill(body, p, groups, switch_groups, members, presets, conditions);
-            Reading::Done(parsing::record_at(body, p))
+            Opening::At(p)
         }
     }
 }

@@ -3,7 +3,7 @@ ghost use mathlib.Core.Path.{_≡_};
 ghost use mathlib.Core.Bool.{true};
 ghost use mathlib.Core.List.{[], _∷_, flatten, flatMap};
 ghost use Prim.Native.Nat.{_+_, _*_, _-_, _<_, _≤_, _^_};
-ghost use lib.ListN.{length};
+ghost use lib.ListN.{length, getD};
 ghost use Rattle.wire.specs.Bits.{part};
 ghost use lib.Seq.{sets};
 ghost use Rattle.wire.specs.Prog.{run, many};
@@ -105,7 +105,7 @@ pub enum Look {
 
 // The places of sections that have no rows, which stand one behind the other: they need no table.
 fn bare(body: &[u8], g: u16, s: u16, q: u16) -> Look
-    requires { ⌜ (2 ≤ length (now body)) × Flags (now body) g s q ⌝ }
+    requires { ⌜ (2 ≤ length (now body)) × Flags (now body) g s q × (countAt 7 (now body) g 2 ≡ 0) ⌝ }
     ensures { λ r. ⌜ Looks (now (body .entry)) r ⌝ }
 {
     let switch_groups = rows_at(2, g);
@@ -114,8 +114,7 @@ fn bare(body: &[u8], g: u16, s: u16, q: u16) -> Look
     if body.len() < k {
         return Look::Rows;
     }
-    let below = count_at(body, switch_groups, s, 5) + count_at(body, presets, q, 5);
-    if count_at(body, 2, g, 7) + below == 0 {
+    if (count_at(body, switch_groups, s, 5) == 0) & (count_at(body, presets, q, 5) == 0) {
         Look::Bare(Places {
             switch_groups,
             presets,
@@ -128,6 +127,20 @@ fn bare(body: &[u8], g: u16, s: u16, q: u16) -> Look
     }
 }
 
+// A body that has a section, whose byte stands behind the first two. Groups are seen there at once.
+fn first_section(body: &[u8], g: u16, s: u16, q: u16) -> Look
+    requires { ⌜ (2 ≤ length (now body)) × Flags (now body) g s q × (32 ≤ getD (now body) 0 0) × (getD (now body) 0 0 < 256) ⌝ }
+    ensures { λ r. ⌜ Looks (now (body .entry)) r ⌝ }
+{
+    if body.len() < 3 {
+        return Look::Short(Short { need: 3 });
+    }
+    if count_at(body, 2, g, 7) != 0 {
+        return Look::Rows;
+    }
+    bare(body, g, s, q)
+}
+
 // A body that is cut in its first bytes or has no rows is seen at once.
 pub fn first_look(body: &[u8]) -> Look
     ensures { λ r. ⌜ Looks (now (body .entry)) r ⌝ }
@@ -137,13 +150,21 @@ pub fn first_look(body: &[u8]) -> Look
         return Look::Short(a.short());
     };
     let flags = wide(body[0]);
-    let g = part(flags, 7, 1);
-    let s = part(flags, 6, 1);
-    let q = part(flags, 5, 1);
-    if ((g == 1) | ((s == 1) | (q == 1))) & (body.len() <= n) {
-        return Look::Short(Short { need: n + 1 });
+    if flags < 32 {
+        return Look::Bare(Places {
+            switch_groups: n,
+            presets: n,
+            members: 0,
+            conditions: 0,
+            k: n,
+        });
     }
-    bare(body, g, s, q)
+    first_section(
+        body,
+        part(flags, 7, 1),
+        part(flags, 6, 1),
+        part(flags, 5, 1),
+    )
 }
 
 // The sections one after the other.

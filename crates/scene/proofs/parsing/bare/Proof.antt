@@ -21,25 +21,14 @@ returns c = search needs
 
 count-at-requires : tie.Need-count-at-requires
 count-at-requires c κs =
-    (stand (c .before .before .before .before .before .args .g) (c .before .before .before .before .before .args .s) (c .before .before .before .before .before .args .q) _ _ _ (c .before .before .before .rows-at .ensures) (c .before .before .rows-at2 .ensures) (c .before .rows-at3 .ensures) (c .if1 .left) .1, omega arith)
+    (stand (c .before .before .before .before .before .args .s) (c .before .before .before .before .before .args .q) _ _ _ (c .before .before .rows-at2 .ensures) (c .before .rows-at3 .ensures) (c .if1 .left), omega arith)
 
 count-at-requires-2 : tie.Need-count-at-requires-2
-count-at-requires-2 c κs =
-    (stand (c .before .before .before .before .before .before .args .g) (c .before .before .before .before .before .before .args .s) (c .before .before .before .before .before .before .args .q) _ _ _ (c .before .before .before .before .rows-at .ensures) (c .before .before .before .rows-at2 .ensures) (c .before .before .rows-at3 .ensures) (c .before .if1 .left) .2, omega arith)
-
-add-below : tie.Need-add-below
-add-below c = search needs
-
-count-at-requires-3 : tie.Need-count-at-requires-3
-count-at-requires-3 c κs =
-    (stand (c .before .before .before .before .before .before .before .args .g) (c .before .before .before .before .before .before .before .args .s) (c .before .before .before .before .before .before .before .args .q) _ _ _ (c .before .before .before .before .before .rows-at .ensures) (c .before .before .before .before .rows-at2 .ensures) (c .before .before .before .rows-at3 .ensures) (c .before .before .if1 .left) .0, omega arith)
-
-add-if2 : tie.Need-add-if2
-add-if2 c = search needs
+count-at-requires-2 c κs = search needs
 
 returns-2 : tie.Need-returns-2
 returns-2 c =
-    record { sees = bare-so (c .before .before .before .before .before .before .before .before .before .pre .0) (c .before .before .before .before .before .before .before .before .before .pre .1) (c .before .before .before .before .before .before .before .rows-at .ensures) (c .before .before .before .before .before .before .rows-at2 .ensures) (c .before .before .before .before .before .rows-at3 .ensures) (c .before .before .before .before .if1 .left) (c .before .count-at3 .ensures .0) (c .before .before .before .count-at .ensures .0) (c .before .before .count-at2 .ensures .0) (c .if2 .taken) }
+    record { sees = bare-so (c .before .before .before .before .before .before .before .before .pre .0) (c .before .before .before .before .before .before .before .before .pre .1) (c .before .before .before .before .before .before .rows-at .ensures) (c .before .before .before .before .before .rows-at2 .ensures) (c .before .before .before .before .rows-at3 .ensures) (c .before .before .before .if1 .left) (c .before .before .before .before .before .before .before .before .pre .2) (c .before .before .count-at .ensures .0) (c .before .count-at2 .ensures .0) (c .if2 .taken) }
 
 returns-3 : tie.Need-returns-3
 returns-3 c = search needs
@@ -54,8 +43,5 @@ bare-spec =
     returns
     count-at-requires
     count-at-requires-2
-    add-below
-    count-at-requires-3
-    add-if2
     returns-2
     returns-3)

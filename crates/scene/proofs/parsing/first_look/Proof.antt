@@ -5,7 +5,7 @@ use Rattle.wire.specs.Prog.{short}
 use Rattle.wire.specs.Reads.{endsOut, shortOf}
 use Rattle.scene.proofs.Walked.{two-there, head-cut}
 use Rattle.scene.proofs.Found.{flags-so}
-use Rattle.scene.proofs.Bare.{cut-so}
+use Rattle.scene.proofs.Bare.{none-so}
 use borrow.Author.Needs.{needs}
 use Rattle.scene.proofs.parsing.first_look.Statement.{statement}
 use Rattle.scene.proofs.parsing.first_look.Tie as tie
@@ -33,6 +33,10 @@ shared-slice-read-wide c =
 wide-requires : tie.Need-wide-requires
 wide-requires c κs = search needs
 
+returns-2 : tie.Need-returns-2
+returns-2 c =
+    record { sees = none-so (two-there _ (c .before .before .before .before .before .before .head .ensures) (ap endsOut (c .before .before .before .before .a .given .1))) (c .before .wide .ensures) (c .if1 .taken) }
+
 part-requires : tie.Need-part-requires
 part-requires c κs = search needs
 
@@ -42,21 +46,12 @@ part-requires-2 c κs = search needs
 part-requires-3 : tie.Need-part-requires-3
 part-requires-3 c κs = search needs
 
-add-t19 : tie.Need-add-t19
-add-t19 c =
-    let h = two-there _ (c .before .before .before .before .before .before .before .before .before .head .ensures) (ap endsOut (c .before .before .before .before .before .before .before .a .given .1)) .at-two in omega arith
-
-returns-2 : tie.Need-returns-2
-returns-2 c =
-    let h = two-there _ (c .before .before .before .before .before .before .before .before .before .head .ensures) (ap endsOut (c .before .before .before .before .before .before .before .a .given .1)) in let w = flags-so (c .before .before .before .before .wide .ensures) (c .before .before .before .part .ensures) (c .before .before .part2 .ensures) (c .before .part3 .ensures) in record { sees = cut-so h w (c .if1 .taken) }
-
-bare-requires : tie.Need-bare-requires
-bare-requires c κs =
-    (two-there _ (c .before .before .before .before .before .before .before .before .before .head .ensures) (ap endsOut (c .before .before .before .before .before .before .before .a .given .1)) .inside, flags-so (c .before .before .before .before .wide .ensures) (c .before .before .before .part .ensures) (c .before .before .part2 .ensures) (c .before .part3 .ensures))
+first-section-requires : tie.Need-first-section-requires
+first-section-requires c κs =
+    let i = two-there _ (c .before .before .before .before .before .before .before .before .before .head .ensures) (ap endsOut (c .before .before .before .before .before .before .before .a .given .1)) .inside in (i, flags-so (c .before .before .before .before .wide .ensures) (c .before .before .part .ensures) (c .before .part2 .ensures) (c .part3 .ensures), omega (arith, c .before .before .before .before .wide .ensures, c .before .before .before .if1 .left), omega (arith, c .before .before .before .before .before .shared-slice-known2 .given 0))
 
 returns-3 : tie.Need-returns-3
-returns-3 c =
-    c .bare .ensures
+returns-3 c = search needs
 
 pub first-look-spec : {M : Type 1} → statement M
 first-look-spec =
@@ -69,10 +64,9 @@ first-look-spec =
     returns
     shared-slice-read-wide
     wide-requires
+    returns-2
     part-requires
     part-requires-2
     part-requires-3
-    add-t19
-    returns-2
-    bare-requires
+    first-section-requires
     returns-3)

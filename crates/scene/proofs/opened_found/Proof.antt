@@ -1,8 +1,8 @@
--- `scene::read_found` meets its contract: the lowest table that is short, else the rows and the record.
-use Rattle.scene.proofs.Answers.{lacks-so, rooms-so, reads-so}
+-- `scene::opened_found` meets its contract: the lowest table that is short, else the rows.
+use Rattle.scene.proofs.Answers.{lacks-so, rooms-so, opened-so}
 use borrow.Author.Needs.{needs}
-use Rattle.scene.proofs.read_found.Statement.{statement}
-use Rattle.scene.proofs.read_found.Tie as tie
+use Rattle.scene.proofs.opened_found.Statement.{statement}
+use Rattle.scene.proofs.opened_found.Tie as tie
 
 sizes-at-requires : tie.Need-sizes-at-requires
 sizes-at-requires c κs = search needs
@@ -19,9 +19,6 @@ enum-told c = search needs
 fill-requires : tie.Need-fill-requires
 fill-requires c κs =
     (c .before .before .before .before .before .before .before .before .before .before .before .before .before .before .before .before .before .before .before .before .pre .0, c .before .before .before .before .before .before .before .before .before .before .before .before .before .before .before .before .before .before .before .before .pre .1, rooms-so (c .before .before .before .before .before .before .before .before .before .before .before .before .before .sizes-at .ensures) _ (c .before .before .before .before .before .before .before .room .ensures) (c .before .before .before .before .before .enum-told .given .1))
-
-record-at-requires : tie.Need-record-at-requires
-record-at-requires c κs = search needs
 
 same-length : tie.Need-same-length
 same-length c = search needs
@@ -59,10 +56,10 @@ same-length-10 c = search needs
 
 returns-2 : tie.Need-returns-2
 returns-2 c =
-    reads-so (c .before .before .before .before .before .before .before .before .before .before .before .before .before .before .before .before .before .before .before .before .before .before .before .before .before .before .before .before .before .before .before .before .pre .0) (c .before .before .before .before .before .before .before .before .before .before .before .before .before .before .before .before .before .before .before .before .before .before .before .before .before .before .before .before .before .before .before .before .pre .1) (rooms-so (c .before .before .before .before .before .before .before .before .before .before .before .before .before .before .before .before .before .before .before .before .before .before .before .before .before .sizes-at .ensures) _ (c .before .before .before .before .before .before .before .before .before .before .before .before .before .before .before .before .before .before .before .room .ensures) (c .before .before .before .before .before .before .before .before .before .before .before .before .before .before .before .before .before .enum-told .given .1)) (c .before .before .before .before .before .before .before .before .before .before .before .fill .ensures) (c .record-at .ensures)
+    opened-so (c .before .before .before .before .before .before .before .before .before .before .before .before .before .before .before .before .before .before .before .before .before .before .before .before .before .before .before .before .before .before .before .pre .0) (c .before .before .before .before .before .before .before .before .before .before .before .before .before .before .before .before .before .before .before .before .before .before .before .before .before .before .before .before .before .before .before .pre .1) (rooms-so (c .before .before .before .before .before .before .before .before .before .before .before .before .before .before .before .before .before .before .before .before .before .before .before .before .sizes-at .ensures) _ (c .before .before .before .before .before .before .before .before .before .before .before .before .before .before .before .before .before .before .room .ensures) (c .before .before .before .before .before .before .before .before .before .before .before .before .before .before .before .before .enum-told .given .1)) (c .before .before .before .before .before .before .before .before .before .before .fill .ensures)
 
-pub read-found-spec : {M : Type 1} → statement M
-read-found-spec =
+pub opened-found-spec : {M : Type 1} → statement M
+opened-found-spec =
     tie.close
     (tie.spec
     sizes-at-requires
@@ -70,7 +67,6 @@ read-found-spec =
     enum-known-r
     enum-told
     fill-requires
-    record-at-requires
     same-length
     same-length-2
     same-length-3
