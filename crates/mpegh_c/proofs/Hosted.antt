@@ -1,14 +1,17 @@
 -- What an entry point for hosts cites at its returns: the promise of its kind's crate, then a code and slices that say the same.
 use Prim.Native.Nat.{ℕ, _≤_, _<_}
 use mathlib.Core.List.{List, []}
+use mathlib.Core.Bool.{Bool, true, false}
 use mathlib.Core.Path.{_≡_, refl, sym, ap, _∙_}
 use lib.ListN.{length}
+use lib.Dec.{leb}
 use lib.Seq.{sets}
-use borrow.Author.Tests.{le-leb, lt-leb}
+use borrow.Author.Tests.{le-leb, lt-leb, leb-true, leb-false}
 use Rattle.wire.proofs.Steps.{front-stored}
 use Rattle.frame.specs.Numbers.{Numbered, Answer, accepted, refused}
 use Rattle.frame.specs.Kind.{Kind, Lent}
 use Rattle.frame.specs.Entry.{Sizes, Output, leaves, onto, no-room, judging, sizes, measuring, Reads, Measures, Tallies, Writes}
+use Rattle.frame.proofs.Entries.{reads-unmeasured}
 use Rattle.mpegh_c.specs.Code.{code, refusedCode, answerCode}
 use Rattle.mpegh_c.specs.Host.{Hosted, hosted, fronted, topped, rowsOf, sized, unread, hostReading, hostMeasuring, HostReads, HostMeasures, HostTallies, HostWrites}
 
@@ -78,3 +81,11 @@ module _ {Tree Top Value : Type 0} (K : Kind Tree Top Value) where
 
       pub reads-done : {t : Top} {front : List ℕ} → Reads K body lent (accepted t) after → length (row t) ≡ columns → front ≡ sets top 0 (row t) → HostReads K columns row body top lent 0 front after
       reads-done {t} w l e = record { promised = ap (λ (front : List ℕ). said 0 front after) (e ∙ front-stored top (row t) (rw l h)) ∙ roomy top h w }
+
+    -- a body that is refused whatever is lent
+    pub reads-neither : {body top : List ℕ} {lent : Lent} {x : Numbered} {n : ℕ} → Measures K body (refused x) → n ≡ refusedCode x → HostReads K columns row body top lent n top lent
+    reads-neither {body} {top} {lent} {n = n} w e = go (leb columns (length top)) refl
+      where
+        go : (b : Bool) → leb columns (length top) ≡ b → HostReads K columns row body top lent n top lent
+        go true h = reads-refused (leb-true _ _ h) (reads-unmeasured K body w lent) e
+        go false h = reads-unroomed (leb-false _ _ h) (unread-so w e)

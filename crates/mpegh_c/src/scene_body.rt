@@ -8,7 +8,8 @@ ghost use Rattle.mpegh_c.specs.Code.{answerCode};
 ghost use Rattle.mpegh_c.specs.Host.{unread, HostReads, HostMeasures, HostTallies, HostWrites};
 use super::codes;
 use scene::Measured;
-use scene::Reading;
+use scene::Opening;
+use scene::parsing::record_at;
 use scene::rows::MpegH3dAudioScene;
 use scene::rows::Section;
 use scene::rows::TOP_COLUMNS;
@@ -28,17 +29,21 @@ pub extern "C" fn mpegh_scene_read(
 ) -> u64
     ensures { λ r. ⌜ HostReads kind topColumns topRow (now (body .entry)) (now (top .entry)) (now (groups .entry) ∷ now («switch_groups» .entry) ∷ now (members .entry) ∷ now (presets .entry) ∷ now (conditions .entry) ∷ []) r (now (top .exit)) (now (groups .exit) ∷ now («switch_groups» .exit) ∷ now (members .exit) ∷ now (presets .exit) ∷ now (conditions .exit) ∷ []) ⌝ }
 {
+    // Refused whatever is lent, and so before anything else.
+    if body.len() < 2 {
+        return codes::code(1, body.len() + 1);
+    }
     if top.len() < TOP_COLUMNS {
         return unread(body);
     }
-    let r = scene::read(body, groups, switch_groups, members, presets, conditions);
-    match r {
-        Reading::Done(m) => {
-            let row = m.columns();
+    let o = scene::opened(body, groups, switch_groups, members, presets, conditions);
+    match o {
+        Opening::At(p) => {
+            let row = record_at(body, p).columns();
             put_row(top, 0, &row);
             0
         }
-        Reading::Refused(x) => codes::refusal_code(x),
+        Opening::Refused(x) => codes::refusal_code(x),
     }
 }
 

@@ -2,23 +2,38 @@
 use mathlib.Core.Path.{refl}
 use Rattle.scene_kind.specs.Rows.{topRow}
 use Rattle.scene_kind.specs.Kind.{kind}
-use Rattle.mpegh_c.proofs.Hosted.{reads-unroomed, reads-refused, reads-done}
+use Rattle.scene.proofs.Bare.{headless}
+use Rattle.mpegh_c.proofs.Hosted.{reads-neither, reads-unroomed, reads-refused, reads-done}
 use borrow.Author.Needs.{needs}
 use Rattle.mpegh_c.proofs.scene_body.mpegh_scene_read.Statement.{statement}
 use Rattle.mpegh_c.proofs.scene_body.mpegh_scene_read.Tie as tie
 
-unread-requires : tie.Need-unread-requires
-unread-requires c κs = search needs
+add-code : tie.Need-add-code
+add-code c = search needs
+
+code-requires : tie.Need-code-requires
+code-requires c κs = search needs
 
 returns : tie.Need-returns
 returns c =
-    reads-unroomed kind _ topRow (c .before .if1 .taken) (c .unread .ensures)
+    reads-neither kind _ topRow (headless _ (c .before .if1 .taken)) (c .code .ensures)
 
-read-requires : tie.Need-read-requires
-read-requires c κs = search needs
+unread-requires : tie.Need-unread-requires
+unread-requires c κs = search needs
 
-enum-known-r : tie.Need-enum-known-r
-enum-known-r c = search needs
+returns-2 : tie.Need-returns-2
+returns-2 c =
+    reads-unroomed kind _ topRow (c .before .if2 .taken) (c .unread .ensures)
+
+opened-requires : tie.Need-opened-requires
+opened-requires c κs = search needs
+
+enum-known-o : tie.Need-enum-known-o
+enum-known-o c = search needs
+
+record-at-requires : tie.Need-record-at-requires
+record-at-requires c κs =
+    ((rw (c .before .o .given .1) at (c .before .before .before .before .before .before .before .before .before .before .before .before .before .opened .ensures) .gives) .found, (rw (c .before .o .given .1) at (c .before .before .before .before .before .before .before .before .before .before .before .before .before .opened .ensures) .gives) .few)
 
 columns-requires : tie.Need-columns-requires
 columns-requires c κs = search needs
@@ -28,10 +43,10 @@ slice-aggregate-put-row c = search needs
 
 put-row-requires : tie.Need-put-row-requires
 put-row-requires c κs =
-    rw (c .before .before .columns .ensures) (c .before .before .before .before .before .before .before .before .before .before .before .before .before .before .before .before .before .before .before .before .before .before .if1 .left)
+    rw (c .before .before .columns .ensures) (c .before .before .before .before .before .before .before .before .before .before .before .before .before .before .before .before .before .before .before .before .before .before .before .if2 .left)
 
-enum-known-r-2 : tie.Need-enum-known-r-2
-enum-known-r-2 c = search needs
+enum-known-o-2 : tie.Need-enum-known-o-2
+enum-known-o-2 c = search needs
 
 refusal-code-requires : tie.Need-refusal-code-requires
 refusal-code-requires c κs = search needs
@@ -40,7 +55,8 @@ same-length : tie.Need-same-length
 same-length c = search needs
 
 same-length-2 : tie.Need-same-length-2
-same-length-2 c = search needs
+same-length-2 c =
+    c .before .before .before .before .before .before .before .before .before .before .before .before .before .before .before .before .before .before .before .groups .given
 
 same-length-3 : tie.Need-same-length-3
 same-length-3 c = search needs
@@ -54,9 +70,9 @@ same-length-5 c = search needs
 same-length-6 : tie.Need-same-length-6
 same-length-6 c = search needs
 
-returns-2 : tie.Need-returns-2
-returns-2 c =
-    reads-done kind _ topRow (c .before .before .before .before .before .before .before .before .before .before .before .before .before .before .before .before .before .before .before .before .before .before .before .before .before .if1 .left) (rw (c .before .before .before .before .before .before .before .r .given .1) at (c .before .before .before .before .before .before .before .before .before .before .before .before .before .before .before .before .before .before .before .read .ensures)) refl (rw (c .before .before .before .before .before .columns .ensures) at (c .before .before .put-row .ensures))
+returns-3 : tie.Need-returns-3
+returns-3 c =
+    reads-done kind _ topRow (c .before .before .before .before .before .before .before .before .before .before .before .before .before .before .before .before .before .before .before .before .before .before .before .before .before .before .if2 .left) ((rw (c .before .before .before .before .before .before .before .before .o .given .1) at (c .before .before .before .before .before .before .before .before .before .before .before .before .before .before .before .before .before .before .before .before .opened .ensures) .gives) .reads (c .before .before .before .before .before .before .record-at .ensures)) refl (rw (c .before .before .before .before .before .columns .ensures) at (c .before .before .put-row .ensures))
 
 same-length-7 : tie.Need-same-length-7
 same-length-7 c = search needs
@@ -73,22 +89,26 @@ same-length-10 c = search needs
 same-length-11 : tie.Need-same-length-11
 same-length-11 c = search needs
 
-returns-3 : tie.Need-returns-3
-returns-3 c =
-    reads-refused kind _ topRow (c .before .before .before .before .before .before .before .before .before .before .before .before .before .before .before .before .before .before .before .before .if1 .left) (rw (c .before .before .r2 .given .1) at (c .before .before .before .before .before .before .before .before .before .before .before .before .before .before .read .ensures)) (c .refusal-code .ensures)
+returns-4 : tie.Need-returns-4
+returns-4 c =
+    reads-refused kind _ topRow (c .before .before .before .before .before .before .before .before .before .before .before .before .before .before .before .before .before .before .before .before .if2 .left) (rw (c .before .before .o2 .given .1) at (c .before .before .before .before .before .before .before .before .before .before .before .before .before .before .opened .ensures) .gives) (c .refusal-code .ensures)
 
 pub mpegh-scene-read-spec : {M : Type 1} → statement M
 mpegh-scene-read-spec =
     tie.close
     (tie.spec
-    unread-requires
+    add-code
+    code-requires
     returns
-    read-requires
-    enum-known-r
+    unread-requires
+    returns-2
+    opened-requires
+    enum-known-o
+    record-at-requires
     columns-requires
     slice-aggregate-put-row
     put-row-requires
-    enum-known-r-2
+    enum-known-o-2
     refusal-code-requires
     same-length
     same-length-2
@@ -96,10 +116,10 @@ mpegh-scene-read-spec =
     same-length-4
     same-length-5
     same-length-6
-    returns-2
+    returns-3
     same-length-7
     same-length-8
     same-length-9
     same-length-10
     same-length-11
-    returns-3)
+    returns-4)
