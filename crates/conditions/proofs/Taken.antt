@@ -12,14 +12,14 @@ use Rattle.wire.specs.Bits.{part, total, split}
 use Rattle.wire.specs.Prog.{Out, done, short, run}
 use Rattle.wire.specs.Reads.{endOf}
 use Rattle.wire.specs.Act.{pick}
-use Rattle.wire.specs.Layout.{Layout, end, optional, _▹_, Columns, flat, put, blank, has, row}
-use Rattle.wire.specs.Straight.{ends, ones, putsAt, took, taken, spans, sizes, PartTaken}
+use Rattle.wire.specs.Layout.{end, optional, _▹_, Columns, flat, put, blank, has, row}
+use Rattle.wire.specs.Straight.{ends, ones, putsAt, took, taken, spans, sizes, PartTaken, blanks}
 use Rattle.wire.proofs.Cells.{all, free}
 use Rattle.wire.proofs.Fields.{part-below}
-use Rattle.wire.proofs.Straight.{Whole, flat-ends, sizes-so, steered, ends-at, ends-on, ends-cut, ends-within, each-off, flag-is, part-there, part-absent}
+use Rattle.wire.proofs.Straight.{Whole, flat-ends, sizes-so, steered, ends-at, ends-on, ends-cut, ends-within, each-off, flag-is, part-there, taken-there, taken-none}
 use Rattle.wire.specs.declared.reads.Short.{Short}
 use Rattle.conditions.specs.Layout.{condition, detail, position}
-use Rattle.conditions.specs.Rows.{gain, idCells, flagCells, behind, none, positionRow, positionFrom}
+use Rattle.conditions.specs.Rows.{gain, idCells, flagCells, behind, positionRow, positionFrom}
 use Rattle.conditions.specs.declared.rows.PresetPosition.{PresetPosition}
 
 -- ---- the sizes
@@ -115,22 +115,13 @@ module _ {s : List ℕ} {at n b v : ℕ} (w : Behind s at n) (e : b ≡ getD s a
 -- ---- taken
 
 -- a gain that is there
-pub gain-there : (s : List ℕ) (at : ℕ) {v : ℕ} → v ≡ 1 → PartTaken 5 2 gain v (none 1) s at (1 ∷ part 0 8 (getD s at 0) ∷ [])
-unfolding took putsAt put split total each none
-gain-there s at t = record { of = λ f e. let z : f 5 ≡ 1 = flag-is 5 1 f e ∙ t in let h : 1 ∷ part 0 8 (getD s at 0) ∷ [] ≡ each (taken gain f s at) 5 2 = rw z in h ∙ part-there 5 1 gain f s at t e }
+pub gain-there : (s : List ℕ) (at : ℕ) {v : ℕ} → v ≡ 1 → PartTaken 5 2 gain v (blanks 1) s at (1 ∷ part 0 8 (getD s at 0) ∷ [])
+unfolding took putsAt put split total each blanks
+gain-there s at t = taken-there 5 1 gain s at t refl (λ f z. rw z)
 
-pub position-there : (s : List ℕ) (at : ℕ) {v : ℕ} → v ≡ 1 → {r : PresetPosition} → r ≡ positionFrom s at → PartTaken 7 6 position v (none 5) s at (positionRow r)
-unfolding took putsAt put split total each none
-position-there s at t q = record { of = λ f e. let z : f 7 ≡ 1 = flag-is 7 5 f e ∙ t in let h : positionRow (positionFrom s at) ≡ each (taken position f s at) 7 6 = rw z in ap positionRow q ∙ h ∙ part-there 7 5 position f s at t e }
-
--- a part that is not there: its flag is 0, and its columns stay 0
-pub part-none : (k n : ℕ) (p : Layout) (s : List ℕ) (at : ℕ) {v : ℕ} → v ≤ 1 → (v ≡ 1 → ⊥) → PartTaken k (suc n) p v (none n) s at (0 ∷ none n)
-part-none k n p s at {v} h t = let z : 0 ≡ v = go v h t in record { of = λ f e. ap (λ (v : ℕ). v ∷ none n) z ∙ part-absent k n p f s at t e }
-  where
-    go : (v : ℕ) → v ≤ 1 → (v ≡ 1 → ⊥) → 0 ≡ v
-    go zero h t = refl
-    go (suc zero) h t = absurd (t refl)
-    go (suc (suc v)) h t = absurd (omega arith)
+pub position-there : (s : List ℕ) (at : ℕ) {v : ℕ} → v ≡ 1 → {r : PresetPosition} → r ≡ positionFrom s at → PartTaken 7 6 position v (blanks 5) s at (positionRow r)
+unfolding took putsAt put split total each blanks
+position-there s at t q = taken-there 7 5 position s at t (ap positionRow q) (λ f z. rw z)
 
 sized : (v : ℕ) → v < 2 → (f : Columns) (s : List ℕ) (at : ℕ) → total (pick (eqb v 1) (took gain f s at 0) (f, []) .1) ≡ v
 unfolding took total
@@ -155,9 +146,9 @@ module _ (s : List ℕ) (at : ℕ) {b m : ℕ} (e : b ≡ getD s at 0) (a : m �
       let q : m ≡ at + 1 + total (pick (eqb (headed f 5) 1) (took gain (headed f) s (at + 1) 0) (headed f, []) .1) = a ∙ ap (λ (b : ℕ). at + 1 + part 2 1 b) e ∙ ap (λ (k : ℕ). at + 1 + k) (sym (sized (headed f 5) (part-below 2 1 (getD s at 0)) (headed f) s (at + 1))) in
       ap (with-all f) (sym q)
 
-  pub detail-taken : {g p : List ℕ} → PartTaken 5 2 gain (part 2 1 b) (none 1) s (at + 1) g → PartTaken 7 6 position (part 0 1 b) (none 5) s m p
-      → PartTaken 1 12 detail 1 (none 11) s at (1 ∷ part 4 4 b ∷ part 3 1 b ∷ part 1 1 b ∷ (g ++ p))
-  unfolding took putsAt put split total all has free flatten each none
+  pub detail-taken : {g p : List ℕ} → PartTaken 5 2 gain (part 2 1 b) (blanks 1) s (at + 1) g → PartTaken 7 6 position (part 0 1 b) (blanks 5) s m p
+      → PartTaken 1 12 detail 1 (blanks 11) s at (1 ∷ part 4 4 b ∷ part 3 1 b ∷ part 1 1 b ∷ (g ++ p))
+  unfolding took putsAt put split total all has free flatten each blanks
   detail-taken {g} {p} x y = record {
     of = λ f z.
         let f₀ = headed f in
@@ -172,12 +163,12 @@ module _ (s : List ℕ) (at : ℕ) {b m : ℕ} (e : b ≡ getD s at 0) (a : m �
         (λ t. h t ++ (i t ++ j t)) ∙ ap (λ (q : Columns). each q 1 12) (sym (parts-taken f)) ∙ part-there 1 11 detail f s at refl z;
   }
 
-pub condition-taken : (s : List ℕ) (at : ℕ) {b v : ℕ} {d : List ℕ} → b ≡ getD s at 0 → v ≡ part 0 1 b → PartTaken 1 12 detail v (none 11) s (at + 1) d → part 1 7 b ∷ d ≡ row 13 (taken condition blank s at)
-unfolding condition took putsAt put split total all has free flatten each none
+pub condition-taken : (s : List ℕ) (at : ℕ) {b v : ℕ} {d : List ℕ} → b ≡ getD s at 0 → v ≡ part 0 1 b → PartTaken 1 12 detail v (blanks 11) s (at + 1) d → part 1 7 b ∷ d ≡ row 13 (taken condition blank s at)
+unfolding condition took putsAt put split total all has free flatten each blanks
 condition-taken s at {b} {v} {d} e q x =
     let f = putsAt (idCells ∷ []) s at 0 blank in
     let h : part 1 7 b ∷ [] ≡ each (taken (optional 1 detail end) f s (at + 1)) 0 1 = rw e (sym (each-off (optional 1 detail end) f s (at + 1) 0 0 1 refl)) in
-    let i : d ≡ each (taken (optional 1 detail end) f s (at + 1)) 1 12 = x .of f (λ t. sym (q ∙ ap (part 0 1) e) t ∷ none 11) in
+    let i : d ≡ each (taken (optional 1 detail end) f s (at + 1)) 1 12 = x .of f (λ t. sym (q ∙ ap (part 0 1) e) t ∷ blanks 11) in
     λ t. h t ++ i t
 
 -- a condition that was measured, with its detail and without
@@ -192,14 +183,14 @@ module _ (s : List ℕ) (at : ℕ) {b v : ℕ} (e : b ≡ getD s at 0) (q : v �
   long-without t = condition-long s at ∙ ap (λ (x : Bool). 1 + pick x (1 + behind (getD s (at + 1) 0)) 0) (ne-eqb _ 1 (λ z. t (sym flag-so ∙ z)))
 
   module _ (w : Whole 13 condition s at) {i : ℕ} (r : i ≡ part 1 7 b) where
-    pub condition-with : v ≡ 1 → {d : List ℕ} {k : ℕ} → PartTaken 1 12 detail 1 (none 11) s (at + 1) d → k ≡ behind (getD s (at + 1) 0) → done (i ∷ d) (at + 2 + k) ≡ run (flat 13 condition) s at
+    pub condition-with : v ≡ 1 → {d : List ℕ} {k : ℕ} → PartTaken 1 12 detail 1 (blanks 11) s (at + 1) d → k ≡ behind (getD s (at + 1) 0) → done (i ∷ d) (at + 2 + k) ≡ run (flat 13 condition) s at
     condition-with t {d} {k} x h =
         let n : at + 2 + k ≡ at + total (spans condition blank s at) = omega (arith, long-with t, h) in
         let z : i ∷ d ≡ row 13 (taken condition blank s at) = ap (λ (i : ℕ). i ∷ d) r ∙ condition-taken s at e q (rw t x) in
         (λ j. done (z j) (n j)) ∙ sym (w .is)
 
-    pub condition-without : (v ≡ 1 → ⊥) → done (i ∷ 0 ∷ none 11) (at + 1) ≡ run (flat 13 condition) s at
+    pub condition-without : (v ≡ 1 → ⊥) → done (i ∷ 0 ∷ blanks 11) (at + 1) ≡ run (flat 13 condition) s at
     condition-without t =
         let n : at + 1 ≡ at + total (spans condition blank s at) = omega (arith, long-without t) in
-        let z : i ∷ 0 ∷ none 11 ≡ row 13 (taken condition blank s at) = ap (λ (i : ℕ). i ∷ 0 ∷ none 11) r ∙ condition-taken s at e q (part-none 1 11 detail s (at + 1) (omega (arith, part-below 0 1 b, q)) t) in
+        let z : i ∷ 0 ∷ blanks 11 ≡ row 13 (taken condition blank s at) = ap (λ (i : ℕ). i ∷ 0 ∷ blanks 11) r ∙ condition-taken s at e q (taken-none 1 11 detail s (at + 1) (omega (arith, part-below 0 1 b, q)) t) in
         (λ j. done (z j) (n j)) ∙ sym (w .is)

@@ -1,5 +1,5 @@
 -- The declared rows of table 5 as columns, the layout of a condition in its parts, and what a detail's flags say of its bytes.
-use Prim.Native.Nat.{ℕ, zero, suc, _+_, _*_, _-_}
+use Prim.Native.Nat.{ℕ, _+_, _*_}
 use mathlib.Core.List.{List, [], _∷_, _++_}
 use lib.ListN.{getD}
 use Rattle.wire.specs.Bits.{part}
@@ -24,15 +24,6 @@ conditionRow c = c .«group_id» .0 ∷ detailRow (c .detail)
 
 abbrev pub conditionCols : PresetCondition → Columns
 conditionCols c = of (conditionRow c)
-
--- the columns of a part, the first of which is k
-abbrev pub from : ℕ → List ℕ → Columns
-from k r j = getD r (j - k) 0
-
--- n columns that stay 0
-unfoldable pub none : ℕ → List ℕ
-none zero = []
-none (suc n) = 0 ∷ none n
 
 -- parts that are not there
 abbrev pub noGain : PresetGain

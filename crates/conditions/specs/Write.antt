@@ -7,17 +7,18 @@ use Rattle.wire.specs.Bits.{Field, isFlag}
 use Rattle.wire.specs.Act.{Act, byte, when, pick}
 use Rattle.wire.specs.Layout.{Columns, at, flatActs}
 use Rattle.wire.specs.Spell.{fieldsOf, fitAll}
+use Rattle.wire.specs.Straight.{partFrom}
 use Rattle.conditions.specs.Layout.{condition}
-use Rattle.conditions.specs.Rows.{conditionCols, conditionOf, detailRow, positionRow, from, flagCells, gainCells, positionCells}
+use Rattle.conditions.specs.Rows.{conditionCols, conditionOf, detailRow, positionRow, flagCells, gainCells, positionCells}
 use Rattle.conditions.specs.declared.rows.PresetPosition.{PresetPosition}
 use Rattle.conditions.specs.declared.rows.PresetConditionDetail.{PresetConditionDetail}
 use Rattle.conditions.specs.declared.rows.PresetCondition.{PresetCondition}
 
 abbrev pub detailCols : PresetConditionDetail → Columns
-detailCols d = from 1 (detailRow d)
+detailCols d = partFrom 1 (detailRow d)
 
 abbrev pub positionFields : PresetPosition → List (List Field)
-positionFields p = fieldsOf (from 7 (positionRow p)) positionCells
+positionFields p = fieldsOf (partFrom 7 (positionRow p)) positionCells
 
 -- all its flags are 0 or 1; of a detail that is not there only its own
 abbrev pub flagsOf : Columns → Bool

@@ -8,9 +8,9 @@ ghost use lib.Seq.{sets};
 ghost use Rattle.wire.specs.Prog.{done, run, many};
 ghost use Rattle.wire.specs.Reads.{endOf, isDone, posOf, rowsOf, endsOut};
 ghost use Rattle.wire.specs.Layout.{flat};
-ghost use Rattle.wire.specs.Straight.{ends, ones, PartTaken};
+ghost use Rattle.wire.specs.Straight.{ends, ones, PartTaken, blanks};
 ghost use Rattle.conditions.specs.Layout.{condition, detail, position};
-ghost use Rattle.conditions.specs.Rows.{gain, conditionRow, detailRow, positionRow, gainRow, positionFrom, behind, none};
+ghost use Rattle.conditions.specs.Rows.{gain, conditionRow, detailRow, positionRow, gainRow, positionFrom, behind};
 use super::rows::CONDITION_COLUMNS;
 use super::rows::PresetCondition;
 use super::rows::PresetConditionDetail;
@@ -81,7 +81,7 @@ pub fn measure_conditions(body: &[u8], at: usize, count: usize) -> Ends
 // The gain that begins here, if its flag is 1.
 fn gain_at(body: &[u8], at: usize, present: u16) -> PresetGain
     requires { ⌜ (at + present ≤ length (now body)) × (present ≤ 1) ⌝ }
-    ensures { λ r. ⌜ PartTaken 5 2 gain present (none 1) (now (body .entry)) at (gainRow r) ⌝ }
+    ensures { λ r. ⌜ PartTaken 5 2 gain present (blanks 1) (now (body .entry)) at (gainRow r) ⌝ }
 {
     if present == 1 {
         PresetGain::new(part(wide(body[at]), 0, 8))
@@ -111,7 +111,7 @@ fn position_from(body: &[u8], at: usize) -> PresetPosition
 // The position that begins here, if its flag is 1.
 fn position_at(body: &[u8], at: usize, present: u16) -> PresetPosition
     requires { ⌜ (at + present * 3 ≤ length (now body)) × (present ≤ 1) ⌝ }
-    ensures { λ r. ⌜ PartTaken 7 6 position present (none 5) (now (body .entry)) at (positionRow r) ⌝ }
+    ensures { λ r. ⌜ PartTaken 7 6 position present (blanks 5) (now (body .entry)) at (positionRow r) ⌝ }
 {
     if present == 1 {
         position_from(body, at)
@@ -123,7 +123,7 @@ fn position_at(body: &[u8], at: usize, present: u16) -> PresetPosition
 // The detail that begins here and is there.
 fn detail_from(body: &[u8], at: usize) -> PresetConditionDetail
     requires { ⌜ at + (1 + behind (getD (now body) at 0)) ≤ length (now body) ⌝ }
-    ensures { λ r. ⌜ PartTaken 1 12 detail 1 (none 11) (now (body .entry)) at (detailRow r) ⌝ }
+    ensures { λ r. ⌜ PartTaken 1 12 detail 1 (blanks 11) (now (body .entry)) at (detailRow r) ⌝ }
 {
     let flags = wide(body[at]);
     let g = part(flags, 2, 1);

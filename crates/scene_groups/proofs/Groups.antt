@@ -15,17 +15,17 @@ use Rattle.wire.specs.Prog.{Out, done, short, run}
 use Rattle.wire.specs.Reads.{endOf}
 use Rattle.wire.specs.Act.{pick}
 use Rattle.wire.specs.Layout.{Layout, end, optional, Columns, flat, put, blank, has, row}
-use Rattle.wire.specs.Straight.{ends, ones, putsAt, took, taken, spans, sizes, PartTaken}
+use Rattle.wire.specs.Straight.{ends, ones, putsAt, took, taken, spans, sizes, PartTaken, blanks}
 use Rattle.wire.proofs.Cells.{all, free}
 use Rattle.wire.proofs.Steps.{sets-append}
 use Rattle.wire.proofs.Fields.{part-below}
-use Rattle.wire.proofs.Straight.{Whole, flat-ends, sizes-so, steered, ends-within, ends-at, ends-on, ends-cut, heads, each-off, flag-is, part-there, part-absent}
+use Rattle.wire.proofs.Straight.{Whole, flat-ends, sizes-so, steered, ends-within, ends-at, ends-on, ends-cut, heads, each-off, taken-none, taken-there}
 use Rattle.wire.specs.declared.reads.Short.{Short}
 use Rattle.scene_groups.specs.Layout.{group, position, gain, language}
 use Rattle.scene_groups.specs.declared.rows.PositionInteractivity.{PositionInteractivity}
 use Rattle.scene_groups.specs.declared.rows.GainInteractivity.{GainInteractivity}
 use Rattle.scene_groups.specs.declared.rows.ContentLanguage.{ContentLanguage}
-use Rattle.scene_groups.specs.Rows.{idCells, flagCells, contentCells, parts, positionRow, gainRow, languageRow, positionFrom, gainFrom, languageFrom, blanks, headOf, PartPut, RowPut}
+use Rattle.scene_groups.specs.Rows.{idCells, flagCells, contentCells, parts, positionRow, gainRow, languageRow, positionFrom, gainFrom, languageFrom, headOf, PartPut, RowPut}
 
 -- the columns after the three bytes
 abbrev headed : List ℕ → ℕ → Columns
@@ -107,30 +107,18 @@ module _ {s : List ℕ} {at m flags v : ℕ} (w : Singly s at m) (b : flags ≡ 
 
 -- ---- taken
 
--- a part that is there: its flag is 1, and its row is what its layout takes
-there : (k n : ℕ) (p : Layout) (s : List ℕ) (at : ℕ) {v : ℕ} {q r : List ℕ} → v ≡ 1 → r ≡ q → ((f : Columns) → f k ≡ 1 → q ≡ each (taken p f s at) k (suc n)) → PartTaken k (suc n) p v (blanks n) s at r
-there k n p s at t e h = record { of = λ f z. e ∙ h f (flag-is k n f z ∙ t) ∙ part-there k n p f s at t z }
-
+-- a part that is there
 pub position-there : (s : List ℕ) (at : ℕ) {v : ℕ} → v ≡ 1 → {r : PositionInteractivity} → r ≡ positionFrom s at → PartTaken 7 11 position v (blanks 10) s at (positionRow r)
 unfolding took putsAt put split total each
-position-there s at t q = there 7 10 position s at t (ap positionRow q) (λ f z. rw z)
+position-there s at t q = taken-there 7 10 position s at t (ap positionRow q) (λ f z. rw z)
 
 pub gain-there : (s : List ℕ) (at : ℕ) {v : ℕ} → v ≡ 1 → {r : GainInteractivity} → r ≡ gainFrom s at → PartTaken 18 5 gain v (blanks 4) s at (gainRow r)
 unfolding took putsAt put split total each
-gain-there s at t q = there 18 4 gain s at t (ap gainRow q) (λ f z. rw z)
+gain-there s at t q = taken-there 18 4 gain s at t (ap gainRow q) (λ f z. rw z)
 
 pub language-there : (s : List ℕ) (at : ℕ) {v : ℕ} → v ≡ 1 → {r : ContentLanguage} → r ≡ languageFrom s at → PartTaken 23 4 language v (blanks 3) s at (languageRow r)
 unfolding took putsAt put split total each
-language-there s at t q = there 23 3 language s at t (ap languageRow q) (λ f z. rw z)
-
--- a part that is not there: its flag is 0, and its columns stay 0
-pub part-none : (k n : ℕ) (p : Layout) (s : List ℕ) (at : ℕ) {v : ℕ} → v ≤ 1 → (v ≡ 1 → ⊥) → PartTaken k (suc n) p v (blanks n) s at (0 ∷ blanks n)
-part-none k n p s at {v} h t = let z : 0 ≡ v = go v h t in record { of = λ f e. ap (λ (v : ℕ). v ∷ blanks n) z ∙ part-absent k n p f s at t e }
-  where
-    go : (v : ℕ) → v ≤ 1 → (v ≡ 1 → ⊥) → 0 ≡ v
-    go zero h t = refl
-    go (suc zero) h t = absurd (t refl)
-    go (suc (suc v)) h t = absurd (omega arith)
+language-there s at t q = taken-there 23 3 language s at t (ap languageRow q) (λ f z. rw z)
 
 -- ---- stored: a part that is there, and the zeros of one that is not
 
@@ -150,7 +138,7 @@ put-none k n p m {v} {at} {to} {s} h l r =
     record {
       row = 0 ∷ blanks n;
       long = ap suc (blanks-long n);
-      takes = part-none k n p s at h l;
+      takes = taken-none k n p s at h l;
       stored = r;
       on = sym (ap (λ (x : Bool). at + pick x m 0) (ne-eqb v 1 l) ∙ add-zero at);
     }

@@ -1,5 +1,5 @@
 -- The declared rows of table 1 as columns, the layout of a group in its parts, and what the functions of a part promise.
-use Prim.Native.Nat.{ℕ, zero, suc, _+_, _-_}
+use Prim.Native.Nat.{ℕ, _+_}
 use mathlib.Core.List.{List, [], _∷_, _++_, flatten}
 use mathlib.Core.Bool.{Bool}
 use mathlib.Core.Path.{_≡_}
@@ -36,15 +36,6 @@ groupRow g = headRow g ++ (positionRow (g .position) ++ (gainRow (g .gain) ++ la
 
 abbrev pub groupCols : SceneGroup → Columns
 groupCols g = of (groupRow g)
-
--- the columns of a part, the first of which is k
-abbrev pub partFrom : ℕ → List ℕ → Columns
-partFrom k r j = getD r (j - k) 0
-
--- n columns that stay 0
-unfoldable pub blanks : ℕ → List ℕ
-blanks zero = []
-blanks (suc n) = 0 ∷ blanks n
 
 -- parts that are not there
 abbrev pub noPosition : PositionInteractivity

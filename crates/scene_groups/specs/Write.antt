@@ -7,8 +7,9 @@ use Rattle.wire.specs.Bits.{Field, isFlag}
 use Rattle.wire.specs.Act.{Act, byte, when, pick}
 use Rattle.wire.specs.Layout.{Columns, at, flatActs}
 use Rattle.wire.specs.Spell.{fieldsOf, fitAll}
+use Rattle.wire.specs.Straight.{partFrom}
 use Rattle.scene_groups.specs.Layout.{group}
-use Rattle.scene_groups.specs.Rows.{groupCols, partFrom, positionRow, gainRow, languageRow, idCells, flagCells, contentCells, positionCells, gainCells, languageCells}
+use Rattle.scene_groups.specs.Rows.{groupCols, positionRow, gainRow, languageRow, idCells, flagCells, contentCells, positionCells, gainCells, languageCells}
 use Rattle.scene_groups.specs.declared.rows.PositionInteractivity.{PositionInteractivity}
 use Rattle.scene_groups.specs.declared.rows.GainInteractivity.{GainInteractivity}
 use Rattle.scene_groups.specs.declared.rows.ContentLanguage.{ContentLanguage}

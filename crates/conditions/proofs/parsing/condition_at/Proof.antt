@@ -2,8 +2,9 @@
 use mathlib.Core.Path.{_∙_, ap}
 use native.Mathlib.Omega.{arith}
 use Rattle.wire.proofs.Straight.{Whole, flat-done}
+use Rattle.wire.specs.Straight.{blanks}
 use Rattle.conditions.specs.Layout.{condition}
-use Rattle.conditions.specs.Rows.{behind, none}
+use Rattle.conditions.specs.Rows.{behind}
 use Rattle.conditions.proofs.Taken.{condition-long, long-with, condition-with, condition-without}
 use borrow.Author.Needs.{needs}
 use Rattle.conditions.proofs.parsing.condition_at.Statement.{statement}
@@ -62,7 +63,7 @@ returns c =
     condition-with _ _ (c .before .before .before .before .before .before .before .wide .ensures) (c .before .before .before .before .before .part2 .ensures) (whole (c .before .before .before .before .before .before .before .before .before .before)) (c .before .before .before .before .before .before .part .ensures) (c .before .before .before .before .if1 .taken) (c .before .before .before .detail-from .ensures) (c .behind .ensures .0 ∙ ap behind (c .before .wide2 .ensures))
 
 returns-2 : tie.Need-returns-2
-unfolding none
+unfolding blanks
 returns-2 c =
     rw (c .absent .ensures) (condition-without _ _ (c .before .before .before .before .wide .ensures) (c .before .before .part2 .ensures) (whole (c .before .before .before .before .before .before .before)) (c .before .before .before .part .ensures) (c .before .if1 .left))
 

@@ -1,6 +1,8 @@
 -- `parsing::gain_at` meets its contract.
-use Rattle.conditions.specs.Rows.{gain, none}
-use Rattle.conditions.proofs.Taken.{gain-there, part-none}
+use Rattle.wire.specs.Straight.{blanks}
+use Rattle.wire.proofs.Straight.{taken-none}
+use Rattle.conditions.specs.Rows.{gain}
+use Rattle.conditions.proofs.Taken.{gain-there}
 use borrow.Author.Needs.{needs}
 use Rattle.conditions.proofs.parsing.gain_at.Statement.{statement}
 use Rattle.conditions.proofs.parsing.gain_at.Tie as tie
@@ -25,9 +27,9 @@ returns c =
     rw (c .new .ensures, c .before .part .ensures, c .before .before .wide .ensures) (gain-there _ _ (c .before .before .before .before .if1 .taken))
 
 returns-2 : tie.Need-returns-2
-unfolding none
+unfolding blanks
 returns-2 c =
-    rw (c .absent .ensures) (part-none 5 1 gain _ _ (c .before .before .before .pre .1) (c .before .if1 .left))
+    rw (c .absent .ensures) (taken-none 5 1 gain _ _ (c .before .before .before .pre .1) (c .before .if1 .left))
 
 pub gain-at-spec : {M : Type 1} → statement M
 gain-at-spec =

@@ -1,7 +1,8 @@
 -- `parsing::position_at` meets its contract.
+use Rattle.wire.specs.Straight.{blanks}
+use Rattle.wire.proofs.Straight.{taken-none}
 use Rattle.conditions.specs.Layout.{position}
-use Rattle.conditions.specs.Rows.{none}
-use Rattle.conditions.proofs.Taken.{position-there, part-none}
+use Rattle.conditions.proofs.Taken.{position-there}
 use borrow.Author.Needs.{needs}
 use Rattle.conditions.proofs.parsing.position_at.Statement.{statement}
 use Rattle.conditions.proofs.parsing.position_at.Tie as tie
@@ -17,9 +18,9 @@ returns c =
     position-there _ _ (c .before .if1 .taken) (c .position-from .ensures)
 
 returns-2 : tie.Need-returns-2
-unfolding none
+unfolding blanks
 returns-2 c =
-    rw (c .absent .ensures) (part-none 7 5 position _ _ (c .before .before .before .pre .1) (c .before .if1 .left))
+    rw (c .absent .ensures) (taken-none 7 5 position _ _ (c .before .before .before .pre .1) (c .before .if1 .left))
 
 pub position-at-spec : {M : Type 1} → statement M
 position-at-spec = tie.close (tie.spec position-from-requires absent-requires returns returns-2)

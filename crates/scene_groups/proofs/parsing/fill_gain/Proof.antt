@@ -1,8 +1,9 @@
 -- `fill_gain` stores the columns of a gain that is there; of one that is not, it stores zeros.
 use mathlib.Core.Path.{refl, ap}
 use Rattle.wire.proofs.Straight.{size-there}
+use Rattle.wire.specs.Straight.{blanks}
 use Rattle.scene_groups.specs.Layout.{gain}
-use Rattle.scene_groups.specs.Rows.{gainRow, blanks}
+use Rattle.scene_groups.specs.Rows.{gainRow}
 use Rattle.scene_groups.proofs.Groups.{gain-there, put-there, put-none}
 use borrow.Author.Needs.{needs}
 use Rattle.scene_groups.proofs.parsing.fill_gain.Statement.{statement}

@@ -1,8 +1,9 @@
 -- `fill_language` stores the columns of a language that is there; of one that is not, it stores zeros.
 use mathlib.Core.Path.{refl, ap}
 use Rattle.wire.proofs.Straight.{size-there}
+use Rattle.wire.specs.Straight.{blanks}
 use Rattle.scene_groups.specs.Layout.{language}
-use Rattle.scene_groups.specs.Rows.{languageRow, blanks}
+use Rattle.scene_groups.specs.Rows.{languageRow}
 use Rattle.scene_groups.proofs.Groups.{language-there, put-there, put-none}
 use borrow.Author.Needs.{needs}
 use Rattle.scene_groups.proofs.parsing.fill_language.Statement.{statement}

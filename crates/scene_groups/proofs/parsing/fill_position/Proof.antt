@@ -1,8 +1,9 @@
 -- `fill_position` stores the columns of a position that is there; of one that is not, it stores zeros.
 use mathlib.Core.Path.{refl, ap}
 use Rattle.wire.proofs.Straight.{size-there}
+use Rattle.wire.specs.Straight.{blanks}
 use Rattle.scene_groups.specs.Layout.{position}
-use Rattle.scene_groups.specs.Rows.{positionRow, blanks}
+use Rattle.scene_groups.specs.Rows.{positionRow}
 use Rattle.scene_groups.proofs.Groups.{position-there, put-there, put-none}
 use borrow.Author.Needs.{needs}
 use Rattle.scene_groups.proofs.parsing.fill_position.Statement.{statement}

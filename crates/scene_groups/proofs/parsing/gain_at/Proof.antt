@@ -1,8 +1,8 @@
 -- `gain_at` takes the gain that is there; of one that is not, the columns stay 0.
-use Rattle.wire.proofs.Straight.{size-there}
+use Rattle.wire.proofs.Straight.{size-there, taken-none}
+use Rattle.wire.specs.Straight.{blanks}
 use Rattle.scene_groups.specs.Layout.{gain}
-use Rattle.scene_groups.proofs.Groups.{gain-there, part-none}
-use Rattle.scene_groups.specs.Rows.{blanks}
+use Rattle.scene_groups.proofs.Groups.{gain-there}
 use borrow.Author.Needs.{needs}
 use Rattle.scene_groups.proofs.parsing.gain_at.Statement.{statement}
 use Rattle.scene_groups.proofs.parsing.gain_at.Tie as tie
@@ -18,7 +18,7 @@ returns c = gain-there _ _ (c .before .if1 .taken) (c .gain-from .ensures)
 
 returns-2 : tie.Need-returns-2
 unfolding blanks
-returns-2 c = rw (c .absent .ensures) (part-none 18 4 gain _ _ (c .before .before .before .pre .1) (c .before .if1 .left))
+returns-2 c = rw (c .absent .ensures) (taken-none 18 4 gain _ _ (c .before .before .before .pre .1) (c .before .if1 .left))
 
 pub gain-at-spec : {M : Type 1} → statement M
 gain-at-spec = tie.close (tie.spec gain-from-requires absent-requires returns returns-2)

@@ -1,8 +1,8 @@
 -- `language_at` takes the language that is there; of one that is not, the columns stay 0.
-use Rattle.wire.proofs.Straight.{size-there}
+use Rattle.wire.proofs.Straight.{size-there, taken-none}
+use Rattle.wire.specs.Straight.{blanks}
 use Rattle.scene_groups.specs.Layout.{language}
-use Rattle.scene_groups.proofs.Groups.{language-there, part-none}
-use Rattle.scene_groups.specs.Rows.{blanks}
+use Rattle.scene_groups.proofs.Groups.{language-there}
 use borrow.Author.Needs.{needs}
 use Rattle.scene_groups.proofs.parsing.language_at.Statement.{statement}
 use Rattle.scene_groups.proofs.parsing.language_at.Tie as tie
@@ -18,7 +18,7 @@ returns c = language-there _ _ (c .before .if1 .taken) (c .language-from .ensure
 
 returns-2 : tie.Need-returns-2
 unfolding blanks
-returns-2 c = rw (c .absent .ensures) (part-none 23 3 language _ _ (c .before .before .before .pre .1) (c .before .if1 .left))
+returns-2 c = rw (c .absent .ensures) (taken-none 23 3 language _ _ (c .before .before .before .pre .1) (c .before .if1 .left))
 
 pub language-at-spec : {M : Type 1} → statement M
 language-at-spec = tie.close (tie.spec language-from-requires absent-requires returns returns-2)
