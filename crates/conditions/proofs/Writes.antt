@@ -11,12 +11,13 @@ use borrow.Author.Tests.{eq-eqb, ne-eqb, leb-true, le-ltb, lt-ltb}
 use Rattle.wire.specs.Bits.{Field, isFlag, fit}
 use Rattle.wire.specs.Act.{Act, demand, byte, when, pick}
 use Rattle.wire.specs.Pen.{Quick, Ready, Filled, clean, bytes}
-use Rattle.wire.specs.Layout.{Columns, at, flatActs, writes, shown, cells, every, counted, flagged, fieldOf}
+use Rattle.wire.specs.Layout.{Columns, at, flatActs, writes, shown, cells, matched, every, counted, flagged, fieldOf}
 use Rattle.wire.specs.Spell.{Spells, Spelt, none, more, fieldsOf, fitAll, ReadyAll, FillsAll}
 use Rattle.wire.specs.declared.pen.Fault.the-variants as F
 use Rattle.wire.proofs.Acts.{and-both, both-and, clean-append}
 use Rattle.wire.proofs.Cells.{fit-flags}
 use Rattle.wire.proofs.Passes.{quick-clean, quick-odd, Filling, fill-start, fill-demand, fill-turn, fill-end}
+use Rattle.wire.proofs.Rowed.{loose, matches-loose}
 use Rattle.wire.proofs.Plain.{clean-when, clean-all, absorb, no-quick, filled-long, fill-part}
 use Rattle.conditions.specs.Layout.{condition}
 use Rattle.conditions.specs.Write.{flagsOf, detailActs, detailFits, detailLong, conditionActs, colsAt, rowActs}
@@ -39,8 +40,10 @@ abbrev pub plainActs : Columns → List Act
 plainActs g = demand F.Field (flagsOf g) ∷ demand F.Empty true ∷ (map byte (idBytes g) ++ (when (eqb (g 1) 1) (detailActs g) ++ []))
 
 pub condition-acts : (g : Columns) → flatActs condition g ≡ plainActs g
-unfolding condition writes shown cells every flatten
-condition-acts g = λ i. demand F.Field (flags (eqb (g 1) 1) (eqb (g 5) 1) (eqb (g 7) 1) i) ∷ demand F.Empty (counts (eqb (g 1) 1) (eqb (g 5) 1) (eqb (g 7) 1) i) ∷ (map byte (idBytes g) ++ (when (eqb (g 1) 1) (detailActs g) ++ []))
+unfolding condition writes shown cells matched every flatten
+condition-acts g =
+    λ i. demand F.Field (flags (eqb (g 1) 1) (eqb (g 5) 1) (eqb (g 7) 1) i) ∷ demand F.Empty (counts (eqb (g 1) 1) (eqb (g 5) 1) (eqb (g 7) 1) i)
+    ∷ (matches-loose condition g (unfold loose in refl) i ++ (map byte (idBytes g) ++ (when (eqb (g 1) 1) (detailActs g) ++ [])))
   where
     flags : (x y z : Bool) → isFlag (g 1) && every flagged g (pick x (flagCells ++ (pick y (flatten gainCells) [] ++ (pick z (flatten positionCells) [] ++ []))) [] ++ []) ≡ isFlag (g 1) && pick x (isFlag (g 3) && (isFlag (g 5) && (isFlag (g 4) && isFlag (g 7)))) true
     flags true true true = rw (and-true (isFlag (g 7)))

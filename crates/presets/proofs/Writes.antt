@@ -1,6 +1,6 @@
 -- The actions of a preset: its demands and three bytes, and its conditions.
 use Prim.Native.Nat.{ℕ, _+_, _-_, _*_, _/_, _<_, _≤_, _^_}
-use mathlib.Core.Path.{_≡_, sym, ap, _∙_}
+use mathlib.Core.Path.{_≡_, refl, sym, ap, _∙_}
 use mathlib.Core.List.{List, [], _∷_, _++_, map, flatten}
 use mathlib.Core.Bool.{Bool, true, false, _&&_, and-true}
 use native.Mathlib.Omega.{arith}
@@ -8,15 +8,18 @@ use native.Mathlib.Nat.{add-zero, le-div-iff-mul-le}
 use lib.ListN.{length}
 use lib.Dec.{leb, ltb}
 use borrow.Author.Tests.{leb-true, ltb-true}
-use Rattle.wire.specs.Bits.{Field, field, fit}
+use Rattle.wire.specs.Bits.{Field, field, fit, total}
 use Rattle.wire.specs.Act.{Act, demand, byte, rows}
 use Rattle.wire.specs.Pen.{Checked, Quick, Ready, clean, bytes}
-use Rattle.wire.specs.Layout.{num, reserved, Columns, at, fieldOf, writes, shown, cells, every, familyActs, brokenActs}
+use Rattle.wire.specs.Layout.{num, reserved, Columns, at, fieldOf, writes, shown, cells, matches, matched, every, has, familyActs, brokenActs}
 use Rattle.wire.specs.Spell.{PlainRows, fieldsOf, fitAll}
 use Rattle.wire.specs.declared.pen.Fault.the-variants as F
 use Rattle.wire.proofs.Acts.{and-both}
 use Rattle.wire.proofs.Plain.{clean-all}
 use Rattle.wire.proofs.Passes.{here, nothing, Filling}
+use Rattle.wire.proofs.Cells.{all, distinct, free, eights, proper}
+use Rattle.wire.proofs.Forms.{sure, below}
+use Rattle.wire.proofs.Rowed.{nest-test, weight}
 use Rattle.wire.proofs.Families.{Front, frontActs, front-passed, plainRow, kids-passed, kids-odd, broken-stopped, broken-checked, broken-quick, broken-odd, broken-odd-kid, broken-ready, broken-filling}
 use Rattle.wire.specs.declared.pen.Fault.{Fault}
 use Rattle.wire.specs.declared.pen.Pen.{Pen}
@@ -29,16 +32,20 @@ use Rattle.presets.specs.Write.{presetActs}
 
 -- ---- a preset
 
+pub preset-passes : nest-test preset ≡ true
+unfolding nest-test weight below proper all has distinct free eights total sure flatten
+preset-passes = refl
+
 abbrev pub plainActs : ℕ → (ℕ → List Act) → Columns → List Act
 plainActs room kid g = demand F.Range (leb (g 5 + g 6) room) ∷ demand F.Field true ∷ demand F.Empty (leb 1 (g 6)) ∷ (map byte (fieldsOf g headCells) ++ (rows kid (g 5) (g 6) ++ []))
 
 pub preset-acts : (room : ℕ) (kid : ℕ → List Act) (g : Columns) → brokenActs preset room kid g ≡ plainActs room kid g
-unfolding writes shown cells every flatten
+unfolding writes shown cells matches matched every flatten
 preset-acts room kid g = rw (and-true (leb 1 (g 6)))
 
 -- what stands before its conditions
 pub front-acts : (room : ℕ) (g : Columns) → frontActs preset room g ≡ demand F.Range (leb (g 5 + g 6) room) ∷ demand F.Field true ∷ demand F.Empty (leb 1 (g 6)) ∷ map byte (fieldsOf g headCells)
-unfolding writes shown cells every flatten
+unfolding writes shown cells matches matched every flatten
 front-acts room g = rw (and-true (leb 1 (g 6)))
 
 -- a row of the table
@@ -120,7 +127,7 @@ module _ (u : List ℕ) (g : Columns) where
     kids-plain e h =
         let (c, l) = kids-passed (rowActs u) (g 5) (g 6) v h in
         let f = test-few e .few in
-        broken-quick preset room (rowActs u) g 99 (plain-row ∙ e) c (omega (arith, l)) (omega arith) (omega (arith, v .few, v .within, f))
+        broken-quick preset room (rowActs u) g 99 preset-passes (plain-row ∙ e) (unfold matches matched clean in refl) c (omega (arith, l)) (omega arith) (omega (arith, v .few, v .within, f))
 
     pub kid-odd : i < g 6 → Quick (brokenActs preset room (rowActs u) g) 99 0
     kid-odd h = broken-odd-kid preset room (rowActs u) g 99 (kids-odd (rowActs u) (g 5) (g 6) v h)

@@ -11,12 +11,13 @@ use borrow.Author.Tests.{eq-eqb, ne-eqb, eqb-true}
 use Rattle.wire.specs.Bits.{Field, isFlag, fit}
 use Rattle.wire.specs.Act.{Act, demand, byte, when, pick}
 use Rattle.wire.specs.Pen.{Quick, Ready, Filled, clean, bytes}
-use Rattle.wire.specs.Layout.{Columns, at, flatActs, writes, shown, cells, every, counted, flagged}
+use Rattle.wire.specs.Layout.{Columns, at, flatActs, writes, shown, cells, matched, every, counted, flagged}
 use Rattle.wire.specs.Spell.{fieldsOf, fitAll, Spelt, ReadyAll, FillsAll}
 use Rattle.wire.specs.declared.pen.Fault.the-variants as F
 use Rattle.wire.proofs.Acts.{and-both, clean-append}
 use Rattle.wire.proofs.Cells.{fit-flags}
 use Rattle.wire.proofs.Passes.{quick-clean, quick-odd}
+use Rattle.wire.proofs.Rowed.{loose, matches-loose}
 use Rattle.wire.proofs.Plain.{clean-when, clean-all, absorb, no-quick}
 use Rattle.scene_groups.specs.Layout.{group}
 use Rattle.scene_groups.specs.Write.{partFits, plainFits, noParts, groupActs, rowActs}
@@ -68,12 +69,12 @@ no-counts g false false true = refl
 no-counts g false false false = refl
 
 pub group-acts : (g : Columns) → flatActs group g ≡ plainActs g
-unfolding group writes shown cells every flatten
+unfolding group writes shown cells matched every flatten
 group-acts g =
     let f = ap (λ (b : Bool). isFlag (g 23) && b) (no-flags g (eqb (g 7) 1) (eqb (g 18) 1) (eqb (g 23) 1)) ∙ and-true (isFlag (g 23)) in
     let c = no-counts g (eqb (g 7) 1) (eqb (g 18) 1) (eqb (g 23) 1) in
     λ i. demand F.Field (isFlag (g 3) && (isFlag (g 4) && (isFlag (g 7) && (isFlag (g 18) && f i)))) ∷ demand F.Empty (c i)
-    ∷ (map byte (headBytes g) ++ partActs g)
+    ∷ (matches-loose group g (unfold loose in refl) i ++ (map byte (headBytes g) ++ partActs g))
 
 -- ---- the quick test
 

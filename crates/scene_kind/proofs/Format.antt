@@ -14,12 +14,14 @@ use Rattle.wire.proofs.Acts.{clean-both}
 use Rattle.wire.proofs.Codec.{Codec, list, Counted, seen-as, As-fits}
 use Rattle.wire.proofs.Cells.{all, distinct, free, eights, proper}
 use Rattle.wire.proofs.Forms.{Form, last, hole, form-go, form-means, form-acts, Form-fits, Row-fits, form-spans, form-all, form-proper, sure, below, rows-of, rows-goes}
-use Rattle.wire.proofs.Rowed.{Flat, Nest, flat-test, nest-test, weight, flats, breaks, families, Good, good-list}
+use Rattle.wire.proofs.Rowed.{Flat, Nest, flat-test, weight, flats, breaks, families, Good, good-list}
 use Rattle.wire.specs.Layout.{Family}
 use Rattle.scene_groups.specs.Layout.{group}
 use Rattle.switch_groups.specs.Layout.{member, switchGroup}
 use Rattle.conditions.specs.Layout.{condition}
 use Rattle.presets.specs.Layout.{preset}
+use Rattle.switch_groups.proofs.Writes.{switch-passes}
+use Rattle.presets.proofs.Writes.{preset-passes}
 use Rattle.scene_kind.specs.Layout.{groups, switchGroups, presets, absent}
 use Rattle.scene_kind.specs.Rows.{Scene}
 use Rattle.scene_kind.specs.Kind.{parse}
@@ -37,14 +39,6 @@ member-passes = refl
 pub condition-passes : flat-test 13 condition ≡ true
 unfolding flat-test weight form-proper form-all below proper all has distinct free eights total flatten condition
 condition-passes = refl
-
-pub switch-passes : nest-test switchGroup ≡ true
-unfolding nest-test weight below proper all has distinct free eights total sure flatten
-switch-passes = refl
-
-pub preset-passes : nest-test preset ≡ true
-unfolding nest-test weight below proper all has distinct free eights total sure flatten
-preset-passes = refl
 
 abbrev pub groupRows : Flat
 groupRows = record { columns = 27; layout = group; passes = group-passes }

@@ -9,9 +9,9 @@ use Rattle.wire.specs.Bits.{bit}
 use Rattle.wire.specs.Act.{Act, demand, rows}
 use Rattle.wire.specs.declared.pen.Fault.the-variants as F
 use Rattle.wire.specs.Lists.{each}
-use Rattle.wire.specs.Layout.{Columns, of, at, row, shown, cells, every, flagged, counted, columns, has, kept, blank, demands, writes, flatActs, brokenActs, familyActs}
+use Rattle.wire.specs.Layout.{Columns, of, at, row, shown, cells, matched, every, flagged, counted, columns, has, kept, blank, demands, writes, flatActs, brokenActs, familyActs}
 use Rattle.wire.proofs.Cells.{On, every-same}
-use Rattle.wire.proofs.Forms.{form-shown, woven, alike, means-same}
+use Rattle.wire.proofs.Forms.{form-shown, form-matches, woven, alike, means-same}
 use Rattle.wire.proofs.Rowed.{Nest}
 use Rattle.wire.proofs.Heeds.{kept-on, flat-heeds, broken-heeds}
 use Rattle.frame.specs.Kind.{Lent}
@@ -31,7 +31,7 @@ abbrev kept-top : Columns → List ℕ
 kept-top g = row 11 (kept layouts g blank)
 
 acts-kept : (g : Columns) (lent : Lent) → actsOf g lent ≡ actsOf (of (kept-top g)) lent
-unfolding cells form-shown
+unfolding cells matched form-shown form-matches
 acts-kept g lent =
     let h = of (kept-top g) in
     let o : On (columns (form-shown form g)) g h = kept-on 11 form top-below g blank in
@@ -40,7 +40,7 @@ acts-kept g lent =
     let fl = every-same flagged (form-shown form g) o ∙ ap (every flagged h) (s .cells) in
     let em = every-same counted (form-shown form g) o ∙ ap (every counted h) (s .cells) in
     let w : woven form g (sections g lent) ≡ woven form h (sections h lent) = (λ i. woven form g (rows (groupActs lent) 0 (m i 3), (rows (switchActs lent) 0 (m i 6), (rows (presetActs lent) 0 (m i 9), tt)))) ∙ s .acts (sections h lent) in
-    acts-woven g lent ∙ (λ i. demand F.Range (inside (m i) lent) ∷ demand F.Field (fl i) ∷ demand F.Empty (em i) ∷ w i) ∙ sym (acts-woven h lent)
+    acts-woven g lent ∙ (λ i. demand F.Range (inside (m i) lent) ∷ demand F.Field (fl i) ∷ demand F.Empty (em i) ∷ (s .matched i ++ w i)) ∙ sym (acts-woven h lent)
 
 fields-kept : (m : MpegH3dAudioScene) → fields (heeded m) ≡ kept-top (of (fields m))
 unfolding heeded cells shown T.groups T.switchGroups T.presets flatten has each

@@ -8,21 +8,21 @@ use lib.ListN.{length, getD, drop, length-append}
 use lib.Dec.{eqb}
 use borrow.Author.Tests.{le-leb, leb-true}
 use Rattle.wire.specs.Lists.{Every, all-nil, all-cons, each, sum, Column}
-use Rattle.wire.specs.Bits.{bit, isFlag, fit}
+use Rattle.wire.specs.Bits.{bit, isFlag, fit, total}
 use Rattle.wire.specs.Prog.{span, many}
 use Rattle.wire.specs.declared.rows.Payload.{Payload}
 use Rattle.wire.specs.Act.{Act, demand, pick, rows}
 use Rattle.wire.specs.declared.pen.Fault.the-variants as F
 use Rattle.wire.specs.Pen.{clean, bytes}
-use Rattle.wire.specs.Layout.{Cell, end, num, reserved, flag, fieldOf, has, Columns, of, at, row, reads, writes, shown, cells, every, flagged, counted, columns, demands, flat, flatMeans, Family, parents, kids, familyMeans}
+use Rattle.wire.specs.Layout.{Cell, Layout, end, num, reserved, flag, fieldOf, has, Columns, of, at, row, reads, writes, shown, cells, matched, every, flagged, counted, columns, demands, flat, flatMeans, Family, parents, kids, familyMeans}
 use Rattle.wire.proofs.Lists.{every-as, every-flat}
-use Rattle.wire.proofs.Acts.{and-both, both-and, clean-both}
+use Rattle.wire.proofs.Acts.{and-both, both-and, clean-append, clean-both}
 use Rattle.wire.proofs.Takes.{Takes, takes-split, map-takes, many-takes, listed-every, listed-bound}
 use Rattle.wire.proofs.Nest.{flat-length, sum-suc}
 use Rattle.wire.proofs.Codec.{list, Spells, spells-rows, seen-as, As-fits}
-use Rattle.wire.proofs.Cells.{mix-all, all-fit, fit-both, narrow, uncounted, cells-byte}
-use Rattle.wire.proofs.Forms.{form-shown, form-acts, Row-fits, Breaks, woven, Holes, Cleans, Faultless, rows-of, row-spells, row-ready, row-of}
-use Rattle.wire.proofs.Rowed.{families, Wide, Good, found, room-for, flats, flat-wide, flat-spells, flat-columns, broken-spells, rows-again, rows-ready, weight, flat-weighs, listed-sum, flat-grows, Grown, family-grows, families-again, families-ready, parents-room, parents-columns, kids-columns}
+use Rattle.wire.proofs.Cells.{all, distinct, free, eights, proper, mix-all, sound-both, both-sound, all-fit, fit-both, bytewide, cells-byte}
+use Rattle.wire.proofs.Forms.{form-shown, form-matches, form-acts, Row-fits, Breaks, woven, Holes, Cleans, Faultless, rows-of, row-spells, row-ready, row-of}
+use Rattle.wire.proofs.Rowed.{loose, matches-loose, after-demands, families, Wide, Good, found, room-for, flats, flat-wide, flat-spells, flat-columns, broken-spells, rows-again, rows-ready, weight, flat-weighs, listed-sum, flat-grows, Grown, family-grows, families-again, families-ready, parents-room, parents-columns, kids-columns}
 use Rattle.frame.specs.Kind.{Lent, Held, Rows}
 use Rattle.frame.specs.Entry.{first, others, filled}
 use Rattle.scene_groups.specs.Layout.{group}
@@ -36,7 +36,9 @@ use Rattle.scene_kind.specs.Layout as T
 use Rattle.scene_kind.specs.Layout.{layouts, absent}
 use Rattle.scene_kind.specs.Rows.{fields, sceneOf, bounds, Scene, tables}
 use Rattle.scene_kind.specs.Kind.{parse, table, counts, groupActs, switchActs, presetActs, inside, actsOf, acts, valueOf, value, kind}
-use Rattle.scene_kind.proofs.Format.{groupRows, memberRows, conditionRows, switchRows, presetRows, switch-passes, preset-passes, form, top-proper, top-below, top-absent, scene, parts, format, Parted}
+use Rattle.switch_groups.proofs.Writes.{switch-passes}
+use Rattle.presets.proofs.Writes.{preset-passes}
+use Rattle.scene_kind.proofs.Format.{groupRows, memberRows, conditionRows, switchRows, presetRows, form, top-proper, top-below, top-absent, scene, parts, format, Parted}
 
 -- ---- the actions, section by section
 
@@ -55,12 +57,13 @@ acts-woven g lent =
 
 spells-of : (g : Columns) (lent : Lent) → clean (demand F.Range (inside (counts g) lent) ∷ demands layouts g ++ woven form g (sections g lent)) ≡ true
     → Spells format (demand F.Range (inside (counts g) lent) ∷ demands layouts g ++ woven form g (sections g lent)) (valueOf g lent)
-unfolding valueOf clean bytes format seen-as As-fits cells form-shown woven Holes rows-of
+unfolding valueOf clean bytes format seen-as As-fits cells matched form-shown form-matches woven Holes rows-of
 spells-of g lent e =
     let m = counts g in
     let (_, e₀) = and-both (inside m lent) _ e in
-    let (_, e₁) = and-both (every flagged g (cells layouts g)) _ e₀ in
-    let (f, e₂) = and-both (every counted g (cells layouts g)) _ e₁ in
+    let (d, e₁) = and-both (every flagged g (cells layouts g)) _ e₀ in
+    let (f, w₀) = and-both (every counted g (cells layouts g)) _ e₁ in
+    let (w, e₂) = clean-both (matched layouts g) _ w₀ in
     let (_, a₀) = clean-both (writes T.groups g) _ e₂ in
     let (a, a₁) = clean-both (rows (groupActs lent) 0 (m 3)) _ a₀ in
     let (_, b₀) = clean-both (writes T.switchGroups g) _ a₁ in
@@ -72,8 +75,8 @@ spells-of g lent e =
     (λ i. broken-spells switchGroup (flats memberRows) switch-passes _ _ _ (λ i. flat-spells memberRows (at 2 (table 2 lent) i)) (at 9 (table 1 lent) i)) 0 (m 6) b in
     let z = spells-rows (families presetRows) (presetActs lent) (familyMeans preset 13 condition (table 3 lent) (table 4 lent))
     (λ i. broken-spells preset (flats conditionRows) preset-passes _ _ _ (λ i. flat-spells conditionRows (at 13 (table 4 lent) i)) (at 7 (table 3 lent) i)) 0 (m 9) c in
-    let s = row-spells 11 form absent top-proper top-below top-absent g (sections g lent) _ f e₂ (x, (y, (z, tt))) in
-    record { fits = (s .fits, refl); sound = s .sound; same = s .same }
+    let s = row-spells 11 form absent top-proper top-below top-absent g (sections g lent) _ (both-sound (cells layouts g) g d f, w) e₂ (x, (y, (z, tt))) in
+    record { fits = (s .fits, refl); sound = s .sound; same = after-demands layouts g (woven form g (sections g lent)) ∙ s .same }
 
 pub spells : (m : MpegH3dAudioScene) (lent : Lent) (store : List ℕ) → clean (acts m lent store) ≡ true → Spells format (acts m lent store) (value m lent store)
 unfolding acts value
@@ -116,7 +119,7 @@ pub fields-again : (t : Scene) (run : Payload) → Parted t → fields (sceneOf 
 unfolding each
 fields-again t run h =
     let g = of (t .top) in
-    let f = flags-of g (faultless t h .flags) in
+    let f = flags-of g (sound-both _ g (faultless t h .fit .0) .0) in
     (λ i. g 0 ∷ g 1 ∷ bit-back (g 2) (f .two) i ∷ g 3 ∷ g 4 ∷ bit-back (g 5) (f .five) i ∷ g 6 ∷ g 7 ∷ bit-back (g 8) (f .eight) i ∷ g 9 ∷ g 10 ∷ []) ∙ row-of 11 (t .top) (top-wide t h)
 
 -- ---- the tables mean the tree
@@ -165,7 +168,7 @@ inside-so t lent h =
     both-and (le-leb _ _ x) (both-and (le-leb _ _ y) (le-leb _ _ z))
 
 ready-of : (t : Scene) (lent : Lent) → Parted t → clean (demand F.Range (inside (counts (of (t .top))) (filled (tables t) lent)) ∷ demands layouts (of (t .top)) ++ woven form (of (t .top)) (sections (of (t .top)) (filled (tables t) lent))) ≡ true
-unfolding clean filled tables first others cells form-shown Cleans
+unfolding clean filled tables first others cells matched form-shown form-matches Cleans
 ready-of t lent h =
     let g = of (t .top) in
     let L = filled (tables t) lent in
@@ -174,7 +177,8 @@ ready-of t lent h =
     let a = ap (λ (k : ℕ). clean (rows (groupActs L) 0 k)) (n .groups) ∙ rows-ready groupRows (table 0 L) 0 (length (t .groups)) (t .groups) (found 27 (t .groups) (groups-wide t h) _) (h .groups-good) in
     let b = ap (λ (k : ℕ). clean (rows (switchActs L) 0 k)) (n .switches) ∙ families-ready switchRows (t .«switch_groups») _ _ (h .switches-good) in
     let c = ap (λ (k : ℕ). clean (rows (presetActs L) 0 k)) (n .presets) ∙ families-ready presetRows (t .presets) _ _ (h .presets-good) in
-    both-and (inside-so t lent h) (both-and (y .flags) (both-and (y .counts) (y .sound (sections g L) (a, (b, (c, tt))))))
+    let (p, q) = sound-both (cells layouts g) g (y .fit .0) in
+    both-and (inside-so t lent h) (both-and p (both-and q (clean-append (matched layouts g) (woven form g (sections g L)) ∙ both-and (y .fit .1) (y .sound (sections g L) (a, (b, (c, tt)))))))
 
 pub ready : (t : Scene) (run : Payload) (lent : Lent) (store : List ℕ) → Parted t → clean (acts (sceneOf (t .top) run) (filled (tables t) lent) store) ≡ true
 unfolding acts
@@ -247,8 +251,8 @@ absent-small j =
     getD-most 255 _ (all-cons z (all-cons z (all-cons z (all-cons z (all-cons s (all-cons z (all-cons z (all-cons s (all-cons z (all-cons z (all-cons o all-nil))))))))))) j
 
 -- no count of the top record is stored minus one
-plain-top : (g : Columns) → (narrow (form-shown form g) ≡ true) × (uncounted (form-shown form g) ≡ true)
-unfolding form-shown shown T.groups T.switchGroups T.presets flatten narrow uncounted
+plain-top : (g : Columns) → bytewide (form-shown form g) ≡ true
+unfolding form-shown shown T.groups T.switchGroups T.presets flatten bytewide
 plain-top g = go (eqb (g 2) 1) (eqb (g 5) 1) (eqb (g 8) 1)
   where
     some : Bool → Bool → Bool → List Cell
@@ -256,18 +260,23 @@ plain-top g = go (eqb (g 2) 1) (eqb (g 5) 1) (eqb (g 8) 1)
         (flag 2 ∷ flag 5 ∷ flag 8 ∷ reserved 5 0 ∷ num 8 1 ∷ (pick a (reserved 1 10 ∷ num 7 3 ∷ []) [] ++ []))
         ++ ((pick b (reserved 3 4 ∷ num 5 6 ∷ []) [] ++ []) ++ ((pick c (reserved 3 7 ∷ num 5 9 ∷ []) [] ++ []) ++ []))
 
-    go : (a b c : Bool) → (narrow (some a b c) ≡ true) × (uncounted (some a b c) ≡ true)
-    go true true true = (refl, refl)
-    go true true false = (refl, refl)
-    go true false true = (refl, refl)
-    go true false false = (refl, refl)
-    go false true true = (refl, refl)
-    go false true false = (refl, refl)
-    go false false true = (refl, refl)
-    go false false false = (refl, refl)
+    go : (a b c : Bool) → bytewide (some a b c) ≡ true
+    go true true true = refl
+    go true true false = refl
+    go true false true = refl
+    go true false false = refl
+    go false true true = refl
+    go false true false = refl
+    go false false true = refl
+    go false false false = refl
+
+-- the fields of a section
+section-fits : (known : List ℕ) (l : Layout) → proper known l ≡ true → loose l ≡ true → (g : Columns) → clean (writes l g) ≡ true → fit (map (fieldOf g) (shown l g)) ≡ true
+unfolding clean
+section-fits known l p o g e = all-fit known l p g (ap clean (matches-loose l g o)) e
 
 fits-top : (t : Scene) → Parted t → fit (map (fieldOf (of (t .top))) (form-shown form (of (t .top)))) ≡ true
-unfolding form-shown form-acts list
+unfolding form-shown form-acts list proper all has distinct free eights total flatten loose T.groups T.switchGroups T.presets
 fits-top t h =
     let g = of (t .top) in
     let (a, e₀) = clean-both (writes T.groups g) _ (h .sound) in
@@ -276,14 +285,14 @@ fits-top t h =
     let (_, e₃) = clean-both (flatMap (families switchRows .acts) (t .«switch_groups»)) _ e₂ in
     let (c, _) = clean-both (writes T.presets g) _ e₃ in
     let d : fit (map (fieldOf g) (shown end g)) ≡ true = unfold shown fit in refl in
-    fit-both (shown T.groups g) _ g (all-fit T.groups g a) (fit-both (shown T.switchGroups g) _ g (all-fit T.switchGroups g b) (fit-both (shown T.presets g) (shown end g) g (all-fit T.presets g c) d))
+    fit-both (shown T.groups g) _ g (section-fits [] T.groups refl refl g a) (fit-both (shown T.switchGroups g) _ g (section-fits (5 ∷ []) T.switchGroups refl refl g b) (fit-both (shown T.presets g) (shown end g) g (section-fits (8 ∷ []) T.presets refl refl g c) d))
 
 top-bytes : (t : Scene) → Parted t → (j : ℕ) → getD (t .top) j 0 < 256
 unfolding Row-fits
 top-bytes t h j = go (has j (columns (form-shown form (of (t .top))))) refl
   where
     go : (b : Bool) → has j (columns (form-shown form (of (t .top)))) ≡ b → of (t .top) j < 256
-    go true q = let (n, u) = plain-top (of (t .top)) in cells-byte (form-shown form (of (t .top))) (of (t .top)) n u (fits-top t h) j q
+    go true q = cells-byte (form-shown form (of (t .top))) (of (t .top)) (plain-top (of (t .top))) (fits-top t h) j q
     go false q = rw (← h .top .1 j q) (absent-small j)
 
 pub held : (t : Scene) → Parted t → (k n : ℕ) → k < 65536 → n < 65536 → Every Held (bounds (sceneOf (t .top) (span k n)))

@@ -17,7 +17,7 @@ use Rattle.wire.specs.declared.pen.Pen.{Pen}
 use Rattle.wire.specs.declared.pen.Pen.the-variants.{At, Stop}
 use Rattle.wire.proofs.Acts.{and-both}
 use Rattle.wire.proofs.Passes.{then, more, here, nothing, stopped, byte-fits, Filling, fill-start, fill-none}
-use Rattle.wire.specs.Layout.{of, cells, shown, writes, every, has}
+use Rattle.wire.specs.Layout.{of, cells, matches, matched, shown, writes, every, has}
 use Rattle.frame.specs.Kind.{Lent}
 use Rattle.scene_kind.specs.declared.rows.Section.{Section}
 use Rattle.scene_kind.specs.declared.rows.MpegH3dAudioScene.{MpegH3dAudioScene}
@@ -27,7 +27,7 @@ use Rattle.scene_kind.specs.Kind.{actsOf, acts}
 use Rattle.scene_writing.specs.Write.{countByte, sectionActs, within, allWithin, sceneActs}
 
 pub scene-acts : (m : MpegH3dAudioScene) (lent : Lent) (store : List ℕ) → acts m lent store ≡ sceneActs m lent
-unfolding acts actsOf sceneActs sectionActs within T.groups T.switchGroups T.presets cells shown writes every has flatten rows each
+unfolding acts actsOf sceneActs sectionActs within T.groups T.switchGroups T.presets cells matches matched shown writes every has flatten rows each
 scene-acts m lent store = go m (m .groups .present) (m .«switch_groups» .present) (m .presets .present)
   where
     with : MpegH3dAudioScene → Bool → Bool → Bool → MpegH3dAudioScene

@@ -8,10 +8,10 @@ use native.Mathlib.Nat.{add-zero}
 use lib.ListN.{length}
 use lib.Dec.{leb}
 use borrow.Author.Tests.{lt-ltb, le-ltb, leb-true}
-use Rattle.wire.specs.Bits.{Field, field, isFlag, fit}
+use Rattle.wire.specs.Bits.{Field, field, isFlag, fit, total}
 use Rattle.wire.specs.Act.{Act, demand, byte, rows}
 use Rattle.wire.specs.Pen.{looks, glance, look, Checked, Quick, Ready, Filled, clean, bytes}
-use Rattle.wire.specs.Layout.{at, fieldOf, writes, shown, cells, every, familyActs}
+use Rattle.wire.specs.Layout.{at, fieldOf, writes, shown, cells, matches, matched, every, has, familyActs}
 use Rattle.wire.specs.Spell.{fitAll, Spells, Spelt, none, more, FitsAll, ChecksAll, ReadyAll, FillsAll, PlainRows}
 use Rattle.wire.specs.declared.pen.Fault.{Fault}
 use Rattle.wire.specs.declared.pen.Fault.the-variants as F
@@ -21,6 +21,9 @@ use Rattle.wire.proofs.Acts.{and-both}
 use Rattle.wire.proofs.Fields.{fits-cons}
 use Rattle.wire.proofs.Passes.{then, here, quick-clean, quick-odd, unskip, Filling, fill-end}
 use Rattle.wire.proofs.Plain.{all-checked, clean-all, no-quick, ready-part, fill-part}
+use Rattle.wire.proofs.Cells.{all, distinct, free, eights, proper}
+use Rattle.wire.proofs.Forms.{sure, below}
+use Rattle.wire.proofs.Rowed.{nest-test, weight}
 use Rattle.wire.proofs.Families.{frontActs, kidActs, Front, plainRow, kids-passed, kids-odd, broken-stopped, broken-checked, front-passed, broken-quick, broken-odd, broken-odd-kid, broken-ready, broken-filling, kids-ready, kids-filled}
 use Rattle.switch_groups.specs.Layout.{member, switchGroup}
 use Rattle.switch_groups.specs.declared.rows.SwitchGroupMember.{SwitchGroupMember}
@@ -37,7 +40,7 @@ abbrev plainActs : List Field → List Act
 plainActs fs = demand F.Field true ∷ demand F.Empty true ∷ byte fs ∷ []
 
 member-acts : (u : List ℕ) (j : ℕ) → memberActs u j ≡ plainActs (memberFields u j)
-unfolding member writes shown cells every flatten
+unfolding member writes shown cells matches matched every flatten
 member-acts u j = refl
 
 module _ (u : List ℕ) (j : ℕ) {m : SwitchGroupMember} {v : ℕ} (e : m ≡ memberOf u (j * 2)) (w : Spells (map (fieldOf (memberCols m)) memberCells) v) where
@@ -73,8 +76,12 @@ member-stopped u j n e =
 
 -- ---- a row of table 2
 
+pub switch-passes : nest-test switchGroup ≡ true
+unfolding nest-test weight below proper all has distinct free eights total sure flatten
+switch-passes = refl
+
 pub row-acts : (t u : List ℕ) (i : ℕ) → switchGroupActs u (switchGroupOf t (i * 9)) ≡ familyActs switchGroup 2 member t u i
-unfolding writes shown cells every flatten
+unfolding writes shown cells matches matched every flatten
 row-acts t u i = rw add-zero
 
 module _ (u : List ℕ) (g : SwitchGroup) where
@@ -82,7 +89,7 @@ module _ (u : List ℕ) (g : SwitchGroup) where
   pub front : {n : ℕ} {p₀ p₁ p₂ p₃ : Pen} {inside flags : Bool} {vs : List ℕ} → inside ≡ leb (g .members .first + g .members .count) (length u / 2) → flags ≡ isFlag (g .«allow_on_off») && isFlag (g .«default_on_off»)
       → Checked (demand F.Range inside ∷ []) 0 (At n) p₀ → Checked (demand F.Field flags ∷ []) 0 p₀ p₁ → Checked (demand F.Empty (leb 1 (g .members .count)) ∷ []) 0 p₁ p₂ → Spelt (headFields g) vs → ChecksAll true vs p₂ p₃
       → Checked (frontActs switchGroup (length u / 2) (switchGroupCols g)) 2 (At n) p₃
-  unfolding writes shown cells every flatten
+  unfolding writes shown cells matches matched every flatten
   front e f w₀ w₁ w₂ s w₃ =
       let f′ = f ∙ ap (λ (b : Bool). isFlag (g .«allow_on_off») && b) (sym (and-true (isFlag (g .«default_on_off»)))) in
       let c = sym (and-true (leb 1 (g .members .count))) in
@@ -149,7 +156,7 @@ module _ (u : List ℕ) (g : SwitchGroup) where
         row-plain r =
             let (c, l) = kids-passed (memberActs u) (g .members .first) (g .members .count) v (omega (arith, r)) in
             let f = row-behind .few in
-            broken-quick switchGroup (length u / 2) (memberActs u) (switchGroupCols g) 35 (sym tested ∙ q) c (omega (arith, l, r)) (omega arith) (omega (arith, f))
+            broken-quick switchGroup (length u / 2) (memberActs u) (switchGroupCols g) 35 switch-passes (sym tested ∙ q) (unfold matches matched clean in refl) c (omega (arith, l, r)) (omega arith) (omega (arith, f))
 
         pub row-odd-kid : (k ≡ g .members .count → ⊥) → Quick (switchGroupActs u g) 35 0
         row-odd-kid r = let w = v .within in broken-odd-kid switchGroup (length u / 2) (memberActs u) (switchGroupCols g) 35 (kids-odd (memberActs u) (g .members .first) (g .members .count) v (omega (arith, r, w)))

@@ -2,7 +2,7 @@
 -- its rows of the other table, and its tail.
 use Prim.Native.Nat.{ℕ, zero, suc, _+_, _-_, _*_, _≤_, _<_}
 use mathlib.Core.Path.{_≡_, refl, sym, ap, subst, _∙_}
-use mathlib.Core.List.{List, [], _∷_, _++_, flatten, flatMap}
+use mathlib.Core.List.{List, [], _∷_, _++_, append-assoc, flatten, flatMap}
 use mathlib.Core.Bool.{Bool, true, false, not, _&&_}
 use native.Mathlib.Omega.{arith}
 use native.Mathlib.Nat.{zero-add, suc-mul, mul-comm, add-mul}
@@ -16,7 +16,7 @@ use Rattle.wire.specs.Prog.{Prog, ret, Out, done, short, run, many, _>>=
 use Rattle.wire.specs.Reads.{mapOut, endOf, isDone, posOf, rowsOf, shortOf, Summed}
 use Rattle.wire.specs.Act.{Act, demand, pick, rows}
 use Rattle.wire.specs.Nest.{Fillable, Nested, Nests}
-use Rattle.wire.specs.Layout.{Layout, end, line, given, Columns, of, row, set, reads, writes, shown, cells, every, flagged, counted, demands, has, blank, flat, Broken, layouts, broken, brokenActs, brokenRow, Family, kids, tally, familyTally}
+use Rattle.wire.specs.Layout.{Layout, end, line, word, choose, follows, judged, column, Columns, of, row, set, reads, writes, shown, cells, matches, matched, every, flagged, counted, demands, has, blank, flat, Broken, layouts, broken, brokenActs, brokenRow, Family, kids, tally, familyTally}
 use Rattle.wire.specs.Pen.{looks, Checked, Quick, clean, bytes, Ready, Filled}
 use Rattle.wire.specs.Spell.{PlainRows}
 use Rattle.wire.specs.declared.pen.Fault.{Fault}
@@ -36,9 +36,9 @@ use Rattle.wire.proofs.Nest.{flat-length, Nesting, nest-start, nest-rea
 use Rattle.wire.proofs.Acts.{and-both, both-and, clean-append, clean-both, bytes-append}
 use Rattle.wire.proofs.Passes.{stuck, looks-append, then, more, rows-turn, clean-looks, faulty, check-start, check-turn, check-stop, quick-clean, quick-odd, Filling, fill-start, fill-demand, fill-row, fill-turn}
 use Rattle.wire.proofs.Plain.{plain-odd, plain-end, rows-from, no-quick, filled-long}
-use Rattle.wire.proofs.Cells.{all, all-fit, fit-flags, append-every}
-use Rattle.wire.proofs.Forms.{each-in}
-use Rattle.wire.proofs.Rowed.{weight, each-like}
+use Rattle.wire.proofs.Cells.{all, free, proper, all-fit, fit-flags, append-every}
+use Rattle.wire.proofs.Forms.{each-in, sure}
+use Rattle.wire.proofs.Rowed.{weight, each-like, matched-none, after-demands, nest-test}
 use Rattle.wire.proofs.Straight.{read-so, flat-so, flat-ends, ends-append, thenEnds, ends-at, ends-within, taken-off, total-append}
 
 -- ---- measured
@@ -243,9 +243,14 @@ spans-weigh : (l : Layout) (f : Columns) (s : List ℕ) (at i : ℕ) → weight 
 unfolding weight took total
 spans-weigh end f s at i = omega arith
 spans-weigh (line css l) f s at i = omega (arith, spans-weigh l (putsAt css s at i f) s at (i + length css))
-spans-weigh (given k is p l) f s at i =
-    let q = pick (is (f k)) (took p f s (on at i) 0) (f, []) in
-    omega (arith, spans-weigh l (q .0) s (on at i + total (q .1)) 0, total-append (q .1) (took l (q .0) s (on at i + total (q .1)) 0 .1))
+spans-weigh (word k l) f s at i = omega (arith, spans-weigh l (set k (getD s (on at i) 0 * 256 + getD s (on at (i + 1)) 0) f) s at (i + 2))
+spans-weigh (choose k is p q l) f s at i =
+    let x = pick (is (f k)) (took p f s (on at i) 0) (took q f s (on at i) 0) in
+    omega (arith, spans-weigh l (x .0) s (on at i + total (x .1)) 0, total-append (x .1) (took l (x .0) s (on at i + total (x .1)) 0 .1))
+spans-weigh (follows c j t x l) f s at i = spans-weigh l (set (column c) (getD t (f j) 0) f) s at i
+spans-weigh (judged p l) f s at i =
+    let x = took p f s (on at i) 0 in
+    omega (arith, spans-weigh p f s (on at i) 0, spans-weigh l (x .0) s (on at i + total (x .1)) 0, total-append (x .1) (took l (x .0) s (on at i + total (x .1)) 0 .1))
 
 flat-is : (n : ℕ) (l : Layout) (s : List ℕ) (at : ℕ) (r : List ℕ) (m : ℕ) → run (flat n l) s at ≡ done r m → (length r ≡ n) × (at + weight l ≤ m)
 flat-is n l s at r m e =
@@ -468,6 +473,7 @@ module _ (b : Broken) (room : ℕ) (kid : ℕ → List Act) (g : Columns) where
   pub record Front : Type 0 where
     pub inside : g (b .first) + g (b .count) ≤ room
     pub counts : every counted g (cells (layouts b) g) ≡ true
+    pub agrees : clean (matched (layouts b) g) ≡ true
     pub fits : clean (writes (b .head) g) ≡ true
 
   front-so : clean (frontActs b room g) ≡ true → Front
@@ -475,57 +481,74 @@ module _ (b : Broken) (room : ℕ) (kid : ℕ → List Act) (g : Columns) where
   front-so e =
       let (r, e₁) = and-both (leb (g (b .first) + g (b .count)) room) _ e in
       let (f, e₂) = and-both (every flagged g (cells (layouts b) g)) _ e₁ in
-      let (c, h) = and-both (every counted g (cells (layouts b) g)) _ e₂ in
-      record { inside = leb-true _ _ r; counts = c; fits = h }
+      let (c, e₃) = and-both (every counted g (cells (layouts b) g)) _ e₂ in
+      let (m, h) = clean-both (matched (layouts b) g) (writes (b .head) g) e₃ in
+      record { inside = leb-true _ _ r; counts = c; agrees = m; fits = h }
+
+  -- its actions are the front, and what stands behind it
+  acts-so : frontActs b room g ++ (kidActs b kid g ++ writes (b .tail) g) ≡ brokenActs b room kid g
+  acts-so =
+      λ i. demand F.Range (leb (g (b .first) + g (b .count)) room) ∷ demand F.Field (every flagged g (cells (layouts b) g)) ∷ demand F.Empty (every counted g (cells (layouts b) g))
+      ∷ append-assoc (matched (layouts b) g) (writes (b .head) g) (kidActs b kid g ++ writes (b .tail) g) i
 
   module _ {k n : ℕ} {p : Pen} (w : Checked (frontActs b room g) k (At n) p) where
     pub front-passed : {m : ℕ} → p ≡ At m → Front
     front-passed e = front-so (passed-clean (frontActs b room g) w e)
 
     pub broken-stopped : (most : ℕ) → k ≤ most → {f : Fault} {m : ℕ} → p ≡ Stop f m → Checked (brokenActs b room kid g) most (At n) p
-    broken-stopped most l e = check-stop most (check-turn {rest = kidActs b kid g ++ writes (b .tail) g} k (check-start (brokenActs b room kid g) (At n)) refl w (omega arith)) e l
+    broken-stopped most l e = check-stop most (check-turn {rest = kidActs b kid g ++ writes (b .tail) g} k (check-start (brokenActs b room kid g) (At n)) (sym acts-so) w (omega arith)) e l
 
     pub broken-checked : (most : ℕ) {j t : ℕ} {q r : Pen} → Checked (kidActs b kid g) j p q → Checked (writes (b .tail) g) t q r → k + (j + t) ≤ most → Checked (brokenActs b room kid g) most (At n) r
-    broken-checked most x y l = more most (then w (then x y)) l
+    broken-checked most {r = r} x y l = subst (λ (q : List Act). Checked q most (At n) r) acts-so (more most (then w (then x y)) l)
 
   -- The quick test: its range, its counts and its own bytes (plainRow), and then its rows.
   abbrev pub plainRow : Bool
   plainRow = leb (g (b .first) + g (b .count)) room && (every counted g (cells (layouts b) g) && (clean (writes (b .head) g) && clean (writes (b .tail) g)))
 
-  -- a flag is a field of one bit, so the bytes tell
-  flags-too : clean (writes (b .head) g) ≡ true → clean (writes (b .tail) g) ≡ true → every flagged g (cells (layouts b) g) ≡ true
-  unfolding cells
-  flags-too h t = append-every flagged g (shown (b .head) g) (shown (b .tail) g) (fit-flags (shown (b .head) g) g (all-fit (b .head) g h)) (fit-flags (shown (b .tail) g) g (all-fit (b .tail) g t))
+  -- a flag is a field of one bit, so the bytes tell, and what has to match
+  flags-too : nest-test b ≡ true → clean (matched (layouts b) g) ≡ true → clean (writes (b .head) g) ≡ true → clean (writes (b .tail) g) ≡ true → every flagged g (cells (layouts b) g) ≡ true
+  unfolding cells matched nest-test
+  flags-too t₀ m h t =
+      let (p₀, _) = and-both (proper [] (b .head) && (not (has (b .count) (all (b .tail))) && (free (all (b .head)) (all (b .tail)) && proper (sure (b .head) ++ []) (b .tail)))) _ t₀ in
+      let (p, p₁) = and-both (proper [] (b .head)) _ p₀ in
+      let (_, p₂) = and-both (not (has (b .count) (all (b .tail)))) _ p₁ in
+      let (_, q) = and-both (free (all (b .head)) (all (b .tail))) _ p₂ in
+      let (x, y) = clean-both (matches (b .head) g) (matches (b .tail) g) m in
+      append-every flagged g (shown (b .head) g) (shown (b .tail) g) (fit-flags (shown (b .head) g) g (all-fit [] (b .head) p g x h)) (fit-flags (shown (b .tail) g) g (all-fit (sure (b .head) ++ []) (b .tail) q g y t))
 
-  clean-parts : clean (brokenActs b room kid g) ≡ leb (g (b .first) + g (b .count)) room && (every flagged g (cells (layouts b) g) && (every counted g (cells (layouts b) g) && (clean (writes (b .head) g) && (clean (kidActs b kid g) && clean (writes (b .tail) g)))))
+  clean-parts : clean (brokenActs b room kid g)
+      ≡ leb (g (b .first) + g (b .count)) room && (every flagged g (cells (layouts b) g) && (every counted g (cells (layouts b) g) && (clean (matched (layouts b) g) && (clean (writes (b .head) g) && (clean (kidActs b kid g) && clean (writes (b .tail) g))))))
   unfolding clean
-  clean-parts = ap (λ (c : Bool). leb (g (b .first) + g (b .count)) room && (every flagged g (cells (layouts b) g) && (every counted g (cells (layouts b) g) && c))) (clean-append (writes (b .head) g) (kidActs b kid g ++ writes (b .tail) g) ∙ ap (λ (c : Bool). clean (writes (b .head) g) && c) (clean-append (kidActs b kid g) (writes (b .tail) g)))
+  clean-parts =
+      ap (λ (c : Bool). leb (g (b .first) + g (b .count)) room && (every flagged g (cells (layouts b) g) && (every counted g (cells (layouts b) g) && c)))
+      (clean-append (matched (layouts b) g) (writes (b .head) g ++ (kidActs b kid g ++ writes (b .tail) g)) ∙ ap (λ (c : Bool). clean (matched (layouts b) g) && c) (clean-append (writes (b .head) g) (kidActs b kid g ++ writes (b .tail) g) ∙ ap (λ (c : Bool). clean (writes (b .head) g) && c) (clean-append (kidActs b kid g) (writes (b .tail) g))))
 
-  plain-clean : plainRow ≡ true → clean (kidActs b kid g) ≡ true → clean (brokenActs b room kid g) ≡ true
-  plain-clean e k =
+  plain-clean : nest-test b ≡ true → plainRow ≡ true → clean (matched (layouts b) g) ≡ true → clean (kidActs b kid g) ≡ true → clean (brokenActs b room kid g) ≡ true
+  plain-clean p e m k =
       let (r, e₁) = and-both (leb (g (b .first) + g (b .count)) room) _ e in
       let (c, e₂) = and-both (every counted g (cells (layouts b) g)) _ e₁ in
       let (h, t) = and-both (clean (writes (b .head) g)) _ e₂ in
-      clean-parts ∙ both-and r (both-and (flags-too h t) (both-and c (both-and h (both-and k t))))
+      clean-parts ∙ both-and r (both-and (flags-too p m h t) (both-and c (both-and m (both-and h (both-and k t)))))
 
   clean-plain : clean (brokenActs b room kid g) ≡ true → (plainRow ≡ true) × (clean (kidActs b kid g) ≡ true)
   clean-plain e =
       let (r, e₁) = and-both (leb (g (b .first) + g (b .count)) room) _ (sym clean-parts ∙ e) in
       let (f, e₂) = and-both (every flagged g (cells (layouts b) g)) _ e₁ in
       let (c, e₃) = and-both (every counted g (cells (layouts b) g)) _ e₂ in
-      let (h, e₄) = and-both (clean (writes (b .head) g)) _ e₃ in
-      let (k, t) = and-both (clean (kidActs b kid g)) _ e₄ in
+      let (m, e₄) = and-both (clean (matched (layouts b) g)) _ e₃ in
+      let (h, e₅) = and-both (clean (writes (b .head) g)) _ e₄ in
+      let (k, t) = and-both (clean (kidActs b kid g)) _ e₅ in
       (both-and r (both-and c (both-and h t)), k)
 
   broken-long : length (bytes (brokenActs b room kid g)) ≡ length (bytes (writes (b .head) g)) + (length (bytes (kidActs b kid g)) + length (bytes (writes (b .tail) g)))
   unfolding bytes
   broken-long =
-      ap length (bytes-append (writes (b .head) g) (kidActs b kid g ++ writes (b .tail) g) ∙ ap (λ (l : List ℕ). bytes (writes (b .head) g) ++ l) (bytes-append (kidActs b kid g) (writes (b .tail) g)))
+      ap length (after-demands (layouts b) g (writes (b .head) g ++ (kidActs b kid g ++ writes (b .tail) g)) ∙ bytes-append (writes (b .head) g) (kidActs b kid g ++ writes (b .tail) g) ∙ ap (λ (l : List ℕ). bytes (writes (b .head) g) ++ l) (bytes-append (kidActs b kid g) (writes (b .tail) g)))
       ∙ length-append (bytes (writes (b .head) g)) (bytes (kidActs b kid g) ++ bytes (writes (b .tail) g)) ∙ ap (λ (k : ℕ). length (bytes (writes (b .head) g)) + k) (length-append (bytes (kidActs b kid g)) (bytes (writes (b .tail) g)))
 
   -- It has no fault and makes r bytes; a test of its own failed; or one of its rows has a fault.
-  pub broken-quick : (most : ℕ) {r : ℕ} → plainRow ≡ true → clean (kidActs b kid g) ≡ true → r ≡ length (bytes (writes (b .head) g)) + (length (bytes (kidActs b kid g)) + length (bytes (writes (b .tail) g))) → 0 < r → r ≤ most → Quick (brokenActs b room kid g) most r
-  broken-quick most e k q p l = quick-clean (brokenActs b room kid g) most (plain-clean e k) (broken-long ∙ sym q) p l
+  pub broken-quick : (most : ℕ) {r : ℕ} → nest-test b ≡ true → plainRow ≡ true → clean (matched (layouts b) g) ≡ true → clean (kidActs b kid g) ≡ true → r ≡ length (bytes (writes (b .head) g)) + (length (bytes (kidActs b kid g)) + length (bytes (writes (b .tail) g))) → 0 < r → r ≤ most → Quick (brokenActs b room kid g) most r
+  broken-quick most x e m k q p l = quick-clean (brokenActs b room kid g) most (plain-clean x e m k) (broken-long ∙ sym q) p l
 
   pub broken-odd : (most : ℕ) → plainRow ≡ false → Quick (brokenActs b room kid g) most 0
   broken-odd most e = quick-odd (brokenActs b room kid g) most (λ z. no-quick e (clean-plain z .0))
@@ -538,10 +561,10 @@ module _ (b : Broken) (room : ℕ) (kid : ℕ → List Act) (g : Columns) where
   module _ {n : ℕ} {l : List ℕ} (w : Ready (brokenActs b room kid g) n l) where
     pub broken-ready : Front
     unfolding clean
-    broken-ready = front-so (clean-both (frontActs b room g) (kidActs b kid g ++ writes (b .tail) g) (w .sound) .0)
+    broken-ready = front-so (clean-both (frontActs b room g) (kidActs b kid g ++ writes (b .tail) g) (ap clean acts-so ∙ w .sound) .0)
 
     pub broken-filling : Filling (brokenActs b room kid g) (writes (b .head) g ++ (kidActs b kid g ++ writes (b .tail) g)) n l n l
-    broken-filling = fill-demand (fill-demand (fill-demand (fill-start w)))
+    broken-filling = fill-turn (fill-demand (fill-demand (fill-demand (fill-start w)))) refl refl (record { place = omega (arith, ap length (matched-none (layouts b) g)); holds = ap (sets l n) (sym (matched-none (layouts b) g)) })
 
   module _ {n₀ n : ℕ} {l o : List ℕ} (v : Filling (brokenActs b room kid g) (kidActs b kid g ++ writes (b .tail) g) n₀ l n o) where
     pub kids-ready : Ready (kidActs b kid g) n o

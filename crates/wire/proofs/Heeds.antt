@@ -7,9 +7,9 @@ use lib.Dec.{eqb, leb}
 use borrow.Author.Tests.{eqb-true, eq-eqb}
 use Rattle.wire.specs.Act.{Act, demand, pick, rows}
 use Rattle.wire.specs.declared.pen.Fault.the-variants as F
-use Rattle.wire.specs.Layout.{Cell, Columns, of, row, set, shown, cells, every, flagged, counted, has, mix, columns, kept, blank, flatActs, flatMeans, Broken, layouts, brokenActs, brokenHeeds}
+use Rattle.wire.specs.Layout.{Cell, Columns, of, row, set, shown, cells, matched, every, flagged, counted, has, mix, columns, kept, blank, flatActs, flatMeans, Broken, layouts, brokenActs, brokenHeeds}
 use Rattle.wire.proofs.Cells.{On, clash, cells-on, every-same, mix-in}
-use Rattle.wire.proofs.Forms.{Form, last, form-shown, form-all, form-shown-in, sure-shown, below, woven, alike}
+use Rattle.wire.proofs.Forms.{Form, last, form-shown, form-matches, form-all, form-shown-in, sure-shown, below, woven, alike}
 use Rattle.wire.proofs.Rowed.{Flat, flat-proper, flat-below, flats, row-on, Nest, Nest-tests, nest-tests, broken-form}
 
 -- the columns that writing reads are kept
@@ -25,13 +25,13 @@ kept-on n x b f init j e = go (has j (form-all x)) refl
 
 module _ (x : Flat) where
   flat-kept : (f : Columns) → flatActs (x .layout) f ≡ flatActs (x .layout) (of (flatMeans (x .columns) (x .layout) f))
-  unfolding form-shown woven cells
+  unfolding form-shown form-matches woven cells matched
   flat-kept f =
       let l = x .layout in
       let h = of (flatMeans (x .columns) l f) in
       let o : On (columns (shown l f)) f h = kept-on (x .columns) (last l) (flat-below x) f blank in
       let s = alike (x .columns) (last l) blank (flat-proper x) (flat-below x) (λ j h. refl) f h o in
-      λ i. demand F.Field ((every-same flagged (shown l f) o ∙ ap (every flagged h) (s .cells)) i) ∷ demand F.Empty ((every-same counted (shown l f) o ∙ ap (every counted h) (s .cells)) i) ∷ s .acts tt i
+      λ i. demand F.Field ((every-same flagged (shown l f) o ∙ ap (every flagged h) (s .cells)) i) ∷ demand F.Empty ((every-same counted (shown l f) o ∙ ap (every counted h) (s .cells)) i) ∷ (s .matched i ++ s .acts tt i)
 
   pub flat-heeds : (f g : Columns) → flatMeans (x .columns) (x .layout) f ≡ flatMeans (x .columns) (x .layout) g → flatActs (x .layout) f ≡ flatActs (x .layout) g
   flat-heeds f g e = flat-kept f ∙ ap (λ (r : List ℕ). flatActs (x .layout) (of r)) e ∙ sym (flat-kept g)
@@ -64,7 +64,7 @@ module _ (n : Nest) where
       go false q = clash e (form-shown-in x f j q)
 
   broken-kept : (room : ℕ) (kid : ℕ → List Act) (f : Columns) → brokenActs b room kid f ≡ brokenActs b room kid (of (brokenHeeds b f))
-  unfolding form-shown woven cells has
+  unfolding form-shown form-matches woven cells matched has
   broken-kept room kid f =
       let t = nest-tests b (flats (n .kid)) (n .passes) in
       let h = of (brokenHeeds b f) in
@@ -77,7 +77,7 @@ module _ (n : Nest) where
       λ i. demand F.Range (leb (i₀ i + c₀ i) room)
       ∷ demand F.Field ((every-same flagged cs o ∙ ap (every flagged h) (s .cells)) i)
       ∷ demand F.Empty ((every-same counted cs o ∙ ap (every counted h) (s .cells)) i)
-      ∷ ((λ i. woven x f (rows kid (i₀ i) (c₀ i), tt)) ∙ s .acts (rows kid (h (b .first)) (h (b .count)), tt)) i
+      ∷ (s .matched i ++ ((λ i. woven x f (rows kid (i₀ i) (c₀ i), tt)) ∙ s .acts (rows kid (h (b .first)) (h (b .count)), tt)) i)
 
   pub broken-heeds : (room : ℕ) (kid : ℕ → List Act) (f g : Columns) → brokenHeeds b f ≡ brokenHeeds b g → brokenActs b room kid f ≡ brokenActs b room kid g
   broken-heeds room kid f g e = broken-kept room kid f ∙ ap (λ (r : List ℕ). brokenActs b room kid (of r)) e ∙ sym (broken-kept room kid g)

@@ -13,15 +13,15 @@ use Rattle.wire.specs.Lists.{Every, all-nil, all-cons, each, sum, firsts
 use Rattle.wire.specs.Prog.{Prog, ret, many, _>>=_}
 use Rattle.wire.specs.Act.{Act, pick, rows}
 use Rattle.wire.specs.Pen.{clean, bytes}
-use Rattle.wire.specs.Layout.{Layout, end, line, given, Columns, of, at, row, set, reads, writes, shown, cells, every, flagged, counted, has, mix, columns, blank, flat, flatActs, flatMeans, Broken, layouts, broken, brokenActs, brokenMeans, brokenRow, Family, parents, kids, familyActs, familyMeans}
+use Rattle.wire.specs.Layout.{Layout, end, line, word, choose, follows, judged, Columns, of, at, row, set, reads, writes, shown, cells, matches, matched, every, flagged, counted, has, mix, columns, blank, flat, flatActs, flatMeans, Broken, layouts, broken, brokenActs, brokenMeans, brokenRow, Family, parents, kids, familyActs, familyMeans}
 use Rattle.wire.proofs.Lists.{every-and, every-as, every-map, every-flat, every-firsts}
-use Rattle.wire.proofs.Acts.{and-both, both-and, clean-append, clean-both}
+use Rattle.wire.proofs.Acts.{and-both, both-and, clean-append, clean-both, bytes-append}
 use Rattle.wire.proofs.Takes.{Takes, takes-split, map-takes, seen, Listed, no-more, one-more, many-takes, listed-every, listed-bound}
 use Rattle.wire.proofs.Tables.{each-length}
 use Rattle.wire.proofs.Nest.{each-split, firsts-below, firsts-length, flat-length}
 use Rattle.wire.proofs.Codec.{Codec, list, Counted, Spells, spells-rows, seen-as, As-fits}
-use Rattle.wire.proofs.Cells.{all, free, proper, On, clash, cells-on, mix-in}
-use Rattle.wire.proofs.Forms.{Form, last, hole, form-go, form-means, form-acts, Form-fits, form-shown, form-all, form-proper, form-spans, form-shown-in, sure, sure-shown, below, below-has, each-in, each-every, row-of, rows-of, rows-goes, Row-fits, woven, Holes, Cleans, means-again, row-spells, row-ready, row-columns}
+use Rattle.wire.proofs.Cells.{all, free, proper, On, clash, cells-on, mix-in, sound-both, both-sound, looked}
+use Rattle.wire.proofs.Forms.{Form, last, hole, form-go, form-means, form-acts, Form-fits, form-shown, form-matches, form-all, form-proper, form-spans, form-shown-in, sure, sure-shown, below, below-has, each-in, each-every, row-of, rows-of, rows-goes, Row-fits, woven, Holes, Cleans, means-again, row-spells, row-ready, row-columns}
 
 -- ---- rows in a table
 
@@ -94,10 +94,62 @@ on-all x f g h j e = go (has j (form-all x)) refl
 
 -- ---- rows with no break
 
+-- demands make no bytes
+pub matches-none : (l : Layout) (g : Columns) → bytes (matches l g) ≡ []
+unfolding matches bytes
+matches-none end g = refl
+matches-none (line css l) g = matches-none l g
+matches-none (word k l) g = matches-none l g
+matches-none (choose k is p q l) g = bytes-append (pick (is (g k)) (matches p g) (matches q g)) (matches l g) ∙ (λ i. go (is (g k)) (matches-none p g) (matches-none q g) i ++ matches-none l g i)
+  where
+    go : (b : Bool) → bytes (matches p g) ≡ [] → bytes (matches q g) ≡ [] → bytes (pick b (matches p g) (matches q g)) ≡ []
+    go true x y = x
+    go false x y = y
+matches-none (follows c j t x l) g = matches-none l g
+matches-none (judged p l) g = bytes-append (matches p g) (matches l g) ∙ (λ i. matches-none p g i ++ matches-none l g i)
+
+pub matched-none : (ls : List Layout) (g : Columns) → bytes (matched ls g) ≡ []
+unfolding matched bytes
+matched-none [] g = refl
+matched-none (l ∷ []) g = matches-none l g
+matched-none (l ∷ m ∷ ls) g = bytes-append (matches l g) (matched (m ∷ ls) g) ∙ (λ i. matches-none l g i ++ matched-none (m ∷ ls) g i)
+
+-- a layout in which nothing follows has nothing to match
+unfoldable pub loose : Layout → Bool
+loose end = true
+loose (line css l) = loose l
+loose (word k l) = loose l
+loose (choose k is p q l) = loose p && (loose q && loose l)
+loose (follows c j t x l) = false
+loose (judged p l) = loose p && loose l
+
+pub matches-loose : (l : Layout) (g : Columns) → loose l ≡ true → matches l g ≡ []
+unfolding loose matches
+matches-loose end g e = refl
+matches-loose (line css l) g e = matches-loose l g e
+matches-loose (word k l) g e = matches-loose l g e
+matches-loose (choose k is p q l) g e =
+    let (a, b) = and-both (loose p) _ e in
+    let (c, d) = and-both (loose q) _ b in
+    λ i. go (is (g k)) (matches-loose p g a) (matches-loose q g c) i ++ matches-loose l g d i
+  where
+    go : (b : Bool) → matches p g ≡ [] → matches q g ≡ [] → pick b (matches p g) (matches q g) ≡ []
+    go true x y = x
+    go false x y = y
+matches-loose (follows c j t x l) g e = absurd (let z : _≡_ {A = ℕ} 0 1 = cc e in omega arith)
+matches-loose (judged p l) g e = let (a, b) = and-both (loose p) _ e in λ i. matches-loose p g a i ++ matches-loose l g b i
+
+-- actions after demands make the bytes that they make
+pub after-demands : (ls : List Layout) (g : Columns) (q : List Act) → bytes (matched ls g ++ q) ≡ bytes q
+after-demands ls g q = bytes-append (matched ls g) q ∙ ap (λ (b : List ℕ). b ++ bytes q) (matched-none ls g)
+
 unfoldable pub weight : Layout → ℕ
 weight end = 0
 weight (line css l) = length css + weight l
-weight (given k is p l) = weight l
+weight (word k l) = 2 + weight l
+weight (choose k is p q l) = weight l
+weight (follows c j t x l) = weight l
+weight (judged p l) = weight p + weight l
 
 -- a row with no break: how many columns it has, its layout, and that it passes the one test
 unfoldable pub flat-test : ℕ → Layout → Bool
@@ -151,24 +203,26 @@ module _ (x : Flat) where
   flat-again r f g e = means-again (x .columns) (last (x .layout)) blank (flat-proper x) (flat-below x) (λ j h. refl) (r, tt) (f .0) g (on-all (last (x .layout)) (of r) g (row-on (x .columns) (form-all (last (x .layout))) (flat-below x) r g e))
 
   pub flat-spells : (g : Columns) → clean (flatActs (x .layout) g) ≡ true → Spells flats (flatActs (x .layout) g) (flatMeans (x .columns) (x .layout) g)
-  unfolding flats seen-as As-fits form-shown woven cells clean bytes rows-of Holes
+  unfolding flats seen-as As-fits form-shown form-matches woven cells matched clean bytes rows-of Holes
   flat-spells g e =
-      let (_, e₁) = and-both (every flagged g (shown (x .layout) g)) _ e in
+      let (d, e₁) = and-both (every flagged g (shown (x .layout) g)) _ e in
       let (f, e₂) = and-both (every counted g (shown (x .layout) g)) _ e₁ in
-      let s = row-spells (x .columns) (last (x .layout)) blank (flat-proper x) (flat-below x) (λ j h. refl) g tt tt f e₂ tt in
-      record { fits = (s .fits, refl); sound = s .sound; same = s .same }
+      let (m, e₃) = clean-both (matches (x .layout) g) _ e₂ in
+      let s = row-spells (x .columns) (last (x .layout)) blank (flat-proper x) (flat-below x) (λ j h. refl) g tt tt (both-sound (shown (x .layout) g) g d f, m) e₃ tt in
+      record { fits = (s .fits, refl); sound = s .sound; same = after-demands (x .layout ∷ []) g (writes (x .layout) g) ∙ s .same }
 
   pub flat-ready : (r : List ℕ) → flats .Fits r → clean (flats .acts r) ≡ true → (g : Columns) → row (x .columns) g ≡ r → clean (flatActs (x .layout) g) ≡ true
-  unfolding flats seen-as As-fits rows-of form-shown woven cells clean Cleans
+  unfolding flats seen-as As-fits rows-of form-shown form-matches woven cells matched clean Cleans
   flat-ready r f e g q =
       let y = row-ready (x .columns) (last (x .layout)) blank (flat-proper x) (flat-below x) (λ j h. refl) (r, tt) (f .0) e g (on-all (last (x .layout)) (of r) g (row-on (x .columns) (form-all (last (x .layout))) (flat-below x) r g q)) in
-      both-and (y .flags) (both-and (y .counts) (y .sound tt tt))
+      let (a, b) = sound-both (shown (x .layout) g) g (y .fit .0) in
+      both-and a (both-and b (clean-append (matches (x .layout) g) (writes (x .layout) g) ∙ both-and (y .fit .1) (y .sound tt tt)))
 
   pub flat-columns : (r : List ℕ) → flats .Fits r → clean (flats .acts r) ≡ true → Every Column r
   unfolding flats seen-as As-fits rows-of
   flat-columns r f e =
       let h = row-columns (x .columns) (last (x .layout)) blank (flat-proper x) (flat-below x) (λ j h. refl) (λ j. omega arith) (r, tt) (f .0) e in
-      subst (Every Column) (row-of (x .columns) r (flat-wide r f)) (each-every Column (of r) 0 (x .columns) (λ j. let k = h j in omega arith))
+      subst (Every Column) (row-of (x .columns) r (flat-wide r f)) (each-every Column (of r) 0 (x .columns) h)
 
 -- ---- rows with rows of another table at one break
 
@@ -236,28 +290,30 @@ module _ {A C : Type 0} (b : Broken) (m : Codec A C) (t : nest-test b ≡ true) 
 
   pub broken-spells : (room : ℕ) (kid : ℕ → List Act) (v : ℕ → C) → ((i : ℕ) → clean (kid i) ≡ true → Spells m (kid i) (v i)) → (g : Columns) → clean (brokenActs b room kid g) ≡ true
       → Spells breaks (brokenActs b room kid g) (brokenMeans b v g)
-  unfolding breaks seen-as As-fits form-shown woven cells clean bytes rows-of Holes
+  unfolding breaks seen-as As-fits form-shown form-matches woven cells matched clean bytes rows-of Holes
   broken-spells room kid v h g e =
       let x = broken-form b m in
       let (_, e₀) = and-both (leb (g (b .first) + g (b .count)) room) _ e in
-      let (_, e₁) = and-both (every flagged g (shown (b .head) g ++ shown (b .tail) g)) _ e₀ in
-      let (f, e₂) = and-both (every counted g (shown (b .head) g ++ shown (b .tail) g)) _ e₁ in
+      let (d, e₁) = and-both (every flagged g (shown (b .head) g ++ shown (b .tail) g)) _ e₀ in
+      let (f, e₅) = and-both (every counted g (shown (b .head) g ++ shown (b .tail) g)) _ e₁ in
+      let (w, e₂) = clean-both (matches (b .head) g ++ matches (b .tail) g) _ e₅ in
       let (_, e₃) = clean-both (writes (b .head) g) _ e₂ in
       let (e₄, _) = clean-both (rows kid (g (b .first)) (g (b .count))) _ e₃ in
       let y = spells-rows m kid v h (g (b .first)) (g (b .count)) e₄ in
       let ks = columns (shown (b .head) g ++ shown (b .tail) g) in
       let k : mix ks g blank (b .count) ≡ g (b .count) = sure-shown (b .head) g (cells-on (shown (b .head) g) (shown (b .tail) g) (mix-in ks g blank) .0) (b .count) (nest-tests b m t .counts-so) in
       let y′ = subst (λ (n : ℕ). Spells (list m n) (rows kid (g (b .first)) (g (b .count))) (each v (g (b .first)) (g (b .count)))) (sym k) y in
-      let s = row-spells (b .width) x blank (nest-tests b m t .proper-so) (nest-tests b m t .below-so) (λ j h. refl) g (rows kid (g (b .first)) (g (b .count)), tt) (each v (g (b .first)) (g (b .count)), tt) f e₂ (y′, tt) in
-      record { fits = (s .fits, refl); sound = s .sound; same = s .same }
+      let s = row-spells (b .width) x blank (nest-tests b m t .proper-so) (nest-tests b m t .below-so) (λ j h. refl) g (rows kid (g (b .first)) (g (b .count)), tt) (each v (g (b .first)) (g (b .count)), tt) (both-sound (shown (b .head) g ++ shown (b .tail) g) g d f, w) e₂ (y′, tt) in
+      record { fits = (s .fits, refl); sound = s .sound; same = after-demands (layouts b) g _ ∙ s .same }
 
   pub broken-ready : (c : List ℕ × List C) → breaks .Fits c → clean (breaks .acts c) ≡ true → (g : Columns) → On (form-all (broken-form b m)) (of (c .0)) g → (room : ℕ) (kid : ℕ → List Act)
       → g (b .first) + g (b .count) ≤ room → clean (rows kid (g (b .first)) (g (b .count))) ≡ true → clean (brokenActs b room kid g) ≡ true
-  unfolding breaks seen-as As-fits rows-of form-shown woven cells clean Cleans
+  unfolding breaks seen-as As-fits rows-of form-shown form-matches woven cells matched clean Cleans
   broken-ready c f e g o room kid l h =
       let x = broken-form b m in
       let y = row-ready (b .width) x blank (nest-tests b m t .proper-so) (nest-tests b m t .below-so) (λ j h. refl) (c .0, (c .1, tt)) (f .0) e g (on-all x (of (c .0)) g o) in
-      both-and (le-leb _ _ l) (both-and (y .flags) (both-and (y .counts) (y .sound (rows kid (g (b .first)) (g (b .count)), tt) (h, tt))))
+      let (p, q) = sound-both (shown (b .head) g ++ shown (b .tail) g) g (y .fit .0) in
+      both-and (le-leb _ _ l) (both-and p (both-and q (clean-append (matches (b .head) g ++ matches (b .tail) g) _ ∙ both-and (y .fit .1) (y .sound (rows kid (g (b .first)) (g (b .count)), tt) (h, tt)))))
 
   -- its count, its rows and their actions
   pub record Kids (c : List ℕ × List C) : Type 0 where
@@ -279,9 +335,9 @@ module _ {A C : Type 0} (b : Broken) (m : Codec A C) (t : nest-test b ≡ true) 
       let h = row-columns (b .width) (broken-form b m) blank (nest-tests b m t .proper-so) (nest-tests b m t .below-so) (λ j h. refl) (λ j. omega arith) (c .0, (c .1, tt)) (f .0) e in
       each-every Column (set (b .first) i (of (c .0))) 0 (b .width) (λ j. go j (eqb j (b .first)) (h j))
     where
-      go : (j : ℕ) (x : Bool) → getD (c .0) j 0 ≤ 256 → pick x i (of (c .0) j) < 65536
+      go : (j : ℕ) (x : Bool) → getD (c .0) j 0 < 65536 → pick x i (of (c .0) j) < 65536
       go j true h = l
-      go j false h = omega arith
+      go j false h = h
 
 -- ---- lists of rows in their tables
 
@@ -333,7 +389,15 @@ pub weighs : (l : Layout) (f g : Columns) (at : ℕ) (bs : List ℕ) → Takes (
 unfolding reads weight
 weighs end f g at bs t = omega arith
 weighs (line css l) f g at bs (seen xs r n q t) = omega (arith, weighs l _ g _ r t, n, ap length q ∙ length-append xs r)
-weighs (given k is p l) f g at bs t = let u = takes-split (pick (is (f k)) (reads p f) (ret f)) (λ x. reads l x) t in omega (arith, weighs l (u .value) g _ (u .back) (u .second), ap length (u .joined) ∙ length-append (u .front) (u .back))
+weighs (word k l) f g at bs t =
+    let u = looked t in
+    let v = looked (u .on) in
+    omega (arith, weighs l _ g _ (v .back) (v .on), u .long, v .long, ap length (u .joined) ∙ length-append (u .front) (u .back), ap length (v .joined) ∙ length-append (v .front) (v .back))
+weighs (choose k is p q l) f g at bs t = let u = takes-split (pick (is (f k)) (reads p f) (reads q f)) (λ x. reads l x) t in omega (arith, weighs l (u .value) g _ (u .back) (u .second), ap length (u .joined) ∙ length-append (u .front) (u .back))
+weighs (follows c j tb x l) f g at bs t = weighs l _ g at bs t
+weighs (judged p l) f g at bs t =
+    let u = takes-split (reads p f) (λ x. reads l x) t in
+    omega (arith, weighs p f (u .value) at (u .front) (u .first), weighs l (u .value) g _ (u .back) (u .second), ap length (u .joined) ∙ length-append (u .front) (u .back))
 
 pub flat-weighs : (n : ℕ) (l : Layout) (at : ℕ) (r bs : List ℕ) → Takes (flat n l) at r bs → weight l ≤ length bs
 flat-weighs n l at r bs t = let (g, e, u) = map-takes (reads l blank) (λ g. row n g) t in weighs l blank g at bs u

@@ -1,14 +1,15 @@
 -- A row as a syntax table: its bytes in body order, each split into cells that have a column, and what stands only where a flag is set. Reading, writing, the
 -- tally, the flags and the meaning of a row are derived from its layout; a row type is its layout.
-use Prim.Native.Nat.{ℕ, _+_, _*_, _-_, _/_}
+use Prim.Native.Nat.{ℕ, _+_, _*_, _-_, _/_, _%_}
 use mathlib.Core.List.{List, [], _∷_, _++_, map, flatten, flatMap}
 use mathlib.Core.Bool.{Bool, true, false, _&&_, _||_}
 use lib.ListN.{length, getD, drop}
 use lib.Dec.{eqb, leb}
 use Rattle.wire.specs.Lists.{each, sum, firsts}
-use Rattle.wire.specs.Bits.{Field, field, split, isFlag, zeros}
+use Rattle.wire.specs.Bits.{Field, field, split, fit, isFlag, zeros}
 use Rattle.wire.specs.Prog.{Prog, ret, look, many, _>>=_}
-use Rattle.wire.specs.Act.{Act, demand, byte, when, pick, rows}
+use Rattle.wire.specs.Act.{Act, demand, byte, pick, rows}
+use Rattle.wire.specs.declared.pen.Fault.{Fault}
 use Rattle.wire.specs.declared.pen.Fault.the-variants as F
 
 -- a field of w bits with its column: a number, reserved bits, a flag of one bit, a count that is stored minus one
@@ -18,16 +19,26 @@ pub data Cell : Type 0 where
   flag : ℕ → Cell
   less-one : ℕ → ℕ → Cell
 
--- the bytes of one read, each a list of cells, the first the highest; what stands only if a column passes a test
+-- line: the bytes of one read, each a list of cells, the first the highest
+-- word: a number of two bytes, the high one first, each a read
+-- choose: the first part if a column passes a test, else the second
+-- follows: a column that stands nowhere: it is what a table has for another column (0 past its end), and a fault if it is not
+-- judged: a part whose fields are judged where it begins
 pub data Layout : Type 0 where
   end : Layout
   line : List (List Cell) → Layout → Layout
-  given : ℕ → (ℕ → Bool) → Layout → Layout → Layout
+  word : ℕ → Layout → Layout
+  choose : ℕ → (ℕ → Bool) → Layout → Layout → Layout → Layout
+  follows : Cell → ℕ → List ℕ → Fault → Layout → Layout
+  judged : Layout → Layout → Layout
 
 abbrev pub one : List Cell → Layout → Layout
 one cs l = line (cs ∷ []) l
 
--- a part that a flag steers
+-- what stands only if a column passes a test, and only if a flag is set
+abbrev pub given : ℕ → (ℕ → Bool) → Layout → Layout → Layout
+given k is p l = choose k is p end l
+
 abbrev pub optional : ℕ → Layout → Layout → Layout
 optional k p l = given k (λ v. eqb v 1) p l
 
@@ -119,7 +130,10 @@ puts (cs ∷ css) l f = put cs (split (map width cs) (getD l 0 0)) (puts css (dr
 unfoldable pub reads : Layout → Columns → Prog Columns
 reads end f = ret f
 reads (line css l) f = look (length css) (λ b. reads l (puts css b f))
-reads (given k is p l) f = pick (is (f k)) (reads p f) (ret f) >>= λ g. reads l g
+reads (word k l) f = look 1 (λ a. look 1 (λ b. reads l (set k (getD a 0 0 * 256 + getD b 0 0) f)))
+reads (choose k is p q l) f = pick (is (f k)) (reads p f) (reads q f) >>= λ g. reads l g
+reads (follows c j t x l) f = reads l (set (column c) (getD t (f j) 0) f)
+reads (judged p l) f = reads p f >>= λ g. reads l g
 
 -- ---- writing
 
@@ -129,17 +143,33 @@ fieldOf g c = field (width c) (stored c (g (column c)))
 abbrev pub byteOf : Columns → List Cell → Act
 byteOf g cs = byte (map (fieldOf g) cs)
 
-unfoldable pub writes : Layout → Columns → List Act
-writes end g = []
-writes (line css l) g = map (byteOf g) css ++ writes l g
-writes (given k is p l) g = when (is (g k)) (writes p g) ++ writes l g
-
--- ---- the cells that stand in the body, and what they say together
+-- ---- the cells that have a value, and what they say together
 
 unfoldable pub shown : Layout → Columns → List Cell
 shown end g = []
 shown (line css l) g = flatten css ++ shown l g
-shown (given k is p l) g = pick (is (g k)) (shown p g) [] ++ shown l g
+shown (word k l) g = num 16 k ∷ shown l g
+shown (choose k is p q l) g = pick (is (g k)) (shown p g) (shown q g) ++ shown l g
+shown (follows c j t x l) g = c ∷ shown l g
+shown (judged p l) g = shown p g ++ shown l g
+
+-- the bytes
+unfoldable pub writes : Layout → Columns → List Act
+writes end g = []
+writes (line css l) g = map (byteOf g) css ++ writes l g
+writes (word k l) g = byte (field 8 (g k / 256) ∷ []) ∷ byte (field 8 (g k % 256) ∷ []) ∷ writes l g
+writes (choose k is p q l) g = pick (is (g k)) (writes p g) (writes q g) ++ writes l g
+writes (follows c j t x l) g = writes l g
+writes (judged p l) g = demand F.Field (fit (map (fieldOf g) (shown p g))) ∷ writes p g ++ writes l g
+
+-- that what follows from another column is what the table has for it
+unfoldable pub matches : Layout → Columns → List Act
+matches end g = []
+matches (line css l) g = matches l g
+matches (word k l) g = matches l g
+matches (choose k is p q l) g = pick (is (g k)) (matches p g) (matches q g) ++ matches l g
+matches (follows c j t x l) g = demand x (eqb (g (column c)) (getD t (g j) 0)) ∷ matches l g
+matches (judged p l) g = matches p g ++ matches l g
 
 -- a row is broken where rows of another table stand: these are the layouts between its breaks
 unfoldable pub cells : List Layout → Columns → List Cell
@@ -147,13 +177,18 @@ cells [] g = []
 cells (l ∷ []) g = shown l g
 cells (l ∷ m ∷ ls) g = shown l g ++ cells (m ∷ ls) g
 
+unfoldable pub matched : List Layout → Columns → List Act
+matched [] g = []
+matched (l ∷ []) g = matches l g
+matched (l ∷ m ∷ ls) g = matches l g ++ matched (m ∷ ls) g
+
 unfoldable pub every : (Cell → ℕ → Bool) → Columns → List Cell → Bool
 every test g [] = true
 every test g (c ∷ cs) = test c (g (column c)) && every test g cs
 
--- what stands before the bytes of a row: flags, then empty lists
+-- what stands before the bytes of a row: flags, empty lists, then what has to match
 abbrev pub demands : List Layout → Columns → List Act
-demands ls g = demand F.Field (every flagged g (cells ls g)) ∷ demand F.Empty (every counted g (cells ls g)) ∷ []
+demands ls g = demand F.Field (every flagged g (cells ls g)) ∷ demand F.Empty (every counted g (cells ls g)) ∷ matched ls g
 
 unfoldable pub tally : List Layout → Columns → ℕ
 tally ls g = sum (λ c. idle c (g (column c))) (cells ls g)
