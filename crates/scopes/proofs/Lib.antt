@@ -1,0 +1,4 @@
+pub mod Taken
+pub mod Written
+pub mod Tallied
+pub mod Samples
