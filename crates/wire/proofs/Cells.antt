@@ -186,12 +186,6 @@ apart-back a b c h j e = h j (has-append j a b ∙ rw e (go (has j a)))
 pub apart-both : (a b c : List ℕ) → Apart a c → Apart b c → Apart (a ++ b) c
 apart-both a b c x y j e = elim (either (has j a) (has j b) (sym (has-append j a b) ∙ e)) [ inl h ↦ x j h | inr h ↦ y j h ]
 
-pub off-left : (a b : List ℕ) {f g : Columns} → Off a f g → Off (a ++ b) f g
-off-left a b h j e = h j (or-none (has j a) (has j b) (sym (has-append j a b) ∙ e) .0)
-
-pub off-right : (a b : List ℕ) {f g : Columns} → Off b f g → Off (a ++ b) f g
-off-right a b h j e = h j (or-none (has j a) (has j b) (sym (has-append j a b) ∙ e) .1)
-
 -- ---- a byte of cells
 
 back-loaded : (c : Cell) (v : ℕ) → v < 2 ^ width c → stored c (loaded c v) ≡ v
