@@ -7,12 +7,15 @@ ghost use Rattle.scene_kind.specs.Kind.{kind};
 ghost use Rattle.mpegh_c.specs.Code.{answerCode};
 ghost use Rattle.mpegh_c.specs.Host.{unread, HostReads, HostMeasures, HostTallies, HostWrites};
 use super::codes;
+use frame::Refusal;
 use scene::Measured;
 use scene::Opening;
 use scene::parsing::record_at;
 use scene::rows::MpegH3dAudioScene;
 use scene::rows::Section;
 use scene::rows::TOP_COLUMNS;
+use wire::reads::Ends;
+use wire::reads::head;
 use wire::rows::Payload;
 use wire::rows::put_row;
 
@@ -29,10 +32,11 @@ pub extern "C" fn mpegh_scene_read(
 ) -> u64
     ensures { λ r. ⌜ HostReads kind topColumns topRow (now (body .entry)) (now (top .entry)) (now (groups .entry) ∷ now («switch_groups» .entry) ∷ now (members .entry) ∷ now (presets .entry) ∷ now (conditions .entry) ∷ []) r (now (top .exit)) (now (groups .exit) ∷ now («switch_groups» .exit) ∷ now (members .exit) ∷ now (presets .exit) ∷ now (conditions .exit) ∷ []) ⌝ }
 {
-    // Refused whatever is lent, and so before anything else.
-    if body.len() < 2 {
-        return codes::code(1, body.len() + 1);
-    }
+    // A body that is cut here is refused whatever is lent, and so before anything else.
+    let a = head(body, 0, 2);
+    let Ends::At(_) = a else {
+        return codes::refusal_code(Refusal::Short(a.short()));
+    };
     if top.len() < TOP_COLUMNS {
         return unread(body);
     }

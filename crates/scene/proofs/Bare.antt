@@ -6,19 +6,20 @@ use mathlib.Core.Bool.{Bool, true, false, _&&_}
 use mathlib.Core.Option.{none}
 use native.Mathlib.Omega.{arith}
 use lib.ListN.{length, getD}
-use lib.Dec.{eqb}
-use borrow.Author.Tests.{eqb-true, ne-eqb, eq-eqb, le-leb}
+use lib.Dec.{eqb, leb}
+use borrow.Author.Tests.{eqb-true, ne-eqb, eq-eqb, le-leb, leb-true, leb-false}
 use Rattle.wire.specs.Lists.{firsts}
-use Rattle.wire.specs.Bits.{part}
-use Rattle.wire.specs.Prog.{Prog, done, short, needing, run, many, _>>=_}
+use Rattle.wire.specs.Bits.{part, total}
+use Rattle.wire.specs.Prog.{Prog, Out, done, short, needing, run, many, _>>=_}
 use Rattle.wire.specs.Reads.{mapOut, shortOf}
 use Rattle.wire.specs.Act.{pick}
 use Rattle.wire.specs.Straight.{ends, ones}
+use Rattle.wire.specs.declared.reads.Short.{Short}
 use Rattle.wire.specs.Layout.{flat, Family}
 use Rattle.wire.proofs.Acts.{and-both}
 use Rattle.wire.proofs.Walk.{From, onward, cut-off}
 use Rattle.wire.proofs.Cells.{clash}
-use Rattle.wire.proofs.Straight.{ones-lacks}
+use Rattle.wire.proofs.Straight.{ones-got, ones-lacks, ends-at, ends-within}
 use Rattle.frame.specs.Kind.{Lent}
 use Rattle.frame.specs.Numbers.{accepted}
 use Rattle.frame.specs.Entry.{Need, needs, lacking, room, first, others, filled, tail, too-short, Reads, Measures}
@@ -179,8 +180,8 @@ flag-off zero h e = refl
 flag-off (suc zero) h e = clash refl e
 flag-off (suc (suc v)) h e = absurd (omega arith)
 
-pub cut-so : (s : List ℕ) → length s ≡ 2 → 32 ≤ getD s 0 0 → getD s 0 0 < 256 → run parse s 0 ≡ short (needing 3)
-cut-so s l low high = go (eqb (groupsFlag s) 1) (eqb (switchesFlag s) 1) (eqb (presetsFlag s) 1) refl refl refl
+first-cut : (s : List ℕ) → length s ≡ 2 → 32 ≤ getD s 0 0 → getD s 0 0 < 256 → run parse s 0 ≡ short (needing 3)
+first-cut s l low high = go (eqb (groupsFlag s) 1) (eqb (switchesFlag s) 1) (eqb (presetsFlag s) 1) refl refl refl
   where
     groups : Prog (Section (List ℕ))
     groups = section (groupsFlag s) 1 7 1 (flat 27 group)
@@ -206,7 +207,27 @@ cut-so s l low high = go (eqb (groupsFlag s) 1) (eqb (switchesFlag s) 1) (eqb (p
         let lower : getD s 0 0 < 64 = omega (arith, y, below) in
         absurd (omega (arith, flag-off (presetsFlag s) (omega arith) c, lower))
 
+-- the read of that byte tells: it is there, or the body is cut
+module _ (s : List ℕ) (h : 2 ≤ length s) {o : Out (Unit {0})} (e : o ≡ ends (ones 1) s 2) where
+  pub first-there : {n : ℕ} → o ≡ done tt n → 3 ≤ length s
+  unfolding ones total
+  first-there d = omega (arith, ends-within (ones 1) s 2 h (sym e ∙ d), ends-at (ones 1) s 2 (sym e ∙ d))
+
+  pub cut-so : 32 ≤ getD s 0 0 → getD s 0 0 < 256 → {x y : Short} → o ≡ short x → y ≡ shortOf o → run parse s 0 ≡ short y
+  unfolding ends ones
+  cut-so low high {x} {y} d z = go (leb 3 (length s)) refl (sym e ∙ d)
+    where
+      go : (b : Bool) → leb 3 (length s) ≡ b → _≡_ {A = Out (Unit {0})} (elim b [ true ↦ done tt 3 | false ↦ short (needing 3) ]) (short x) → run parse s 0 ≡ short y
+      go true q w = absurd (let z : _≡_ {A = ℕ} 0 1 = cc w in omega arith)
+      go false q w = let k = leb-false 3 (length s) q in let v : needing 3 ≡ x = cc w in first-cut s (omega (arith, k)) low high ∙ ap short (v ∙ sym (z ∙ ap shortOf d))
+
 -- without its first two bytes
-pub headless : (s : List ℕ) → length s < 2 → Measures kind s (too-short (needing (length s + 1)))
+pub headless : (s : List ℕ) {o : Out (Unit {0})} {x : Short} → o ≡ ends (ones 2) s 0 → o ≡ short x → Measures kind s (too-short (shortOf o))
 unfolding kind
-headless s h = measures-short kind s (omega arith) (head-cut s (ones-lacks 2 s 0 (omega arith) (omega arith)))
+headless s {o} {x} e d =
+    let l : length s ≤ 1 = go (leb 2 (length s)) refl in
+    measures-short kind s (omega arith) (head-cut s (sym e ∙ d) ∙ ap short (sym (ap shortOf d)))
+  where
+    go : (b : Bool) → leb 2 (length s) ≡ b → length s ≤ 1
+    go true q = let k = leb-true 2 (length s) q in absurd (let z : _≡_ {A = ℕ} 0 1 = cc (sym d ∙ e ∙ ones-got 2 s 0 (omega arith)) in omega arith)
+    go false q = let k = leb-false 2 (length s) q in omega (arith, k)

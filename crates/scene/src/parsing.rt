@@ -132,9 +132,10 @@ fn first_section(body: &[u8], g: u16, s: u16, q: u16) -> Look
     requires { ⌜ (2 ≤ length (now body)) × Flags (now body) g s q × (32 ≤ getD (now body) 0 0) × (getD (now body) 0 0 < 256) ⌝ }
     ensures { λ r. ⌜ Looks (now (body .entry)) r ⌝ }
 {
-    if body.len() < 3 {
-        return Look::Short(Short { need: 3 });
-    }
+    let a = head(body, 2, 1);
+    let Ends::At(_) = a else {
+        return Look::Short(a.short());
+    };
     if count_at(body, 2, g, 7) != 0 {
         return Look::Rows;
     }

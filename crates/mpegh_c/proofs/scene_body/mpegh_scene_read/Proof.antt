@@ -1,29 +1,43 @@
 -- `mpegh_c::scene_body::mpegh_scene_read` meets its contract.
-use mathlib.Core.Path.{refl}
+use mathlib.Core.Path.{refl, ap, _∙_}
+use Rattle.wire.specs.Reads.{endsOut}
+use Rattle.wire.specs.declared.reads.Short.{Short}
+use Rattle.frame.specs.declared.Refusal.the-variants as R
+use Rattle.frame.specs.Numbers.{refusal}
 use Rattle.scene_kind.specs.Rows.{topRow}
 use Rattle.scene_kind.specs.Kind.{kind}
 use Rattle.scene.proofs.Bare.{headless}
+use Rattle.mpegh_c.specs.Code.{refusedCode}
 use Rattle.mpegh_c.proofs.Hosted.{reads-neither, reads-unroomed, reads-refused, reads-done}
 use borrow.Author.Needs.{needs}
 use Rattle.mpegh_c.proofs.scene_body.mpegh_scene_read.Statement.{statement}
 use Rattle.mpegh_c.proofs.scene_body.mpegh_scene_read.Tie as tie
 
-add-code : tie.Need-add-code
-add-code c = search needs
+head-requires : tie.Need-head-requires
+head-requires c κs = search needs
 
-code-requires : tie.Need-code-requires
-code-requires c κs = search needs
+enum-told : tie.Need-enum-told
+enum-told c = search needs
+
+enum-told-2 : tie.Need-enum-told-2
+enum-told-2 c = search needs
+
+short-requires : tie.Need-short-requires
+short-requires c κs = search needs
+
+refusal-code-requires : tie.Need-refusal-code-requires
+refusal-code-requires c κs = search needs
 
 returns : tie.Need-returns
 returns c =
-    reads-neither kind _ topRow (headless _ (c .before .if1 .taken)) (c .code .ensures)
+    reads-neither kind _ topRow (headless _ (c .before .before .before .before .head .ensures) (ap endsOut (c .before .before .enum-told2 .given .1))) (c .refusal-code .ensures ∙ ap (λ (x : Short). refusedCode (refusal (R.Short x))) (c .before .short .ensures))
 
 unread-requires : tie.Need-unread-requires
 unread-requires c κs = search needs
 
 returns-2 : tie.Need-returns-2
 returns-2 c =
-    reads-unroomed kind _ topRow (c .before .if2 .taken) (c .unread .ensures)
+    reads-unroomed kind _ topRow (c .before .if1 .taken) (c .unread .ensures)
 
 opened-requires : tie.Need-opened-requires
 opened-requires c κs = search needs
@@ -43,13 +57,13 @@ slice-aggregate-put-row c = search needs
 
 put-row-requires : tie.Need-put-row-requires
 put-row-requires c κs =
-    rw (c .before .before .columns .ensures) (c .before .before .before .before .before .before .before .before .before .before .before .before .before .before .before .before .before .before .before .before .before .before .before .if2 .left)
+    rw (c .before .before .columns .ensures) (c .before .before .before .before .before .before .before .before .before .before .before .before .before .before .before .before .before .before .before .before .before .before .before .if1 .left)
 
 enum-known-o-2 : tie.Need-enum-known-o-2
 enum-known-o-2 c = search needs
 
-refusal-code-requires : tie.Need-refusal-code-requires
-refusal-code-requires c κs = search needs
+refusal-code-requires-2 : tie.Need-refusal-code-requires-2
+refusal-code-requires-2 c κs = search needs
 
 same-length : tie.Need-same-length
 same-length c = search needs
@@ -72,7 +86,7 @@ same-length-6 c = search needs
 
 returns-3 : tie.Need-returns-3
 returns-3 c =
-    reads-done kind _ topRow (c .before .before .before .before .before .before .before .before .before .before .before .before .before .before .before .before .before .before .before .before .before .before .before .before .before .before .if2 .left) ((rw (c .before .before .before .before .before .before .before .before .o .given .1) at (c .before .before .before .before .before .before .before .before .before .before .before .before .before .before .before .before .before .before .before .before .opened .ensures) .gives) .reads (c .before .before .before .before .before .before .record-at .ensures)) refl (rw (c .before .before .before .before .before .columns .ensures) at (c .before .before .put-row .ensures))
+    reads-done kind _ topRow (c .before .before .before .before .before .before .before .before .before .before .before .before .before .before .before .before .before .before .before .before .before .before .before .before .before .before .if1 .left) ((rw (c .before .before .before .before .before .before .before .before .o .given .1) at (c .before .before .before .before .before .before .before .before .before .before .before .before .before .before .before .before .before .before .before .before .opened .ensures) .gives) .reads (c .before .before .before .before .before .before .record-at .ensures)) refl (rw (c .before .before .before .before .before .columns .ensures) at (c .before .before .put-row .ensures))
 
 same-length-7 : tie.Need-same-length-7
 same-length-7 c = search needs
@@ -91,14 +105,17 @@ same-length-11 c = search needs
 
 returns-4 : tie.Need-returns-4
 returns-4 c =
-    reads-refused kind _ topRow (c .before .before .before .before .before .before .before .before .before .before .before .before .before .before .before .before .before .before .before .before .if2 .left) (rw (c .before .before .o2 .given .1) at (c .before .before .before .before .before .before .before .before .before .before .before .before .before .before .opened .ensures) .gives) (c .refusal-code .ensures)
+    reads-refused kind _ topRow (c .before .before .before .before .before .before .before .before .before .before .before .before .before .before .before .before .before .before .before .before .if1 .left) (rw (c .before .before .o2 .given .1) at (c .before .before .before .before .before .before .before .before .before .before .before .before .before .before .opened .ensures) .gives) (c .refusal-code2 .ensures)
 
 pub mpegh-scene-read-spec : {M : Type 1} → statement M
 mpegh-scene-read-spec =
     tie.close
     (tie.spec
-    add-code
-    code-requires
+    head-requires
+    enum-told
+    enum-told-2
+    short-requires
+    refusal-code-requires
     returns
     unread-requires
     returns-2
@@ -109,7 +126,7 @@ mpegh-scene-read-spec =
     slice-aggregate-put-row
     put-row-requires
     enum-known-o-2
-    refusal-code-requires
+    refusal-code-requires-2
     same-length
     same-length-2
     same-length-3
