@@ -1,32 +1,27 @@
 -- The bytes of a condition: the one that is always there, a detail with its flags, and the gain and the position that these steer.
-use Prim.Native.Nat.{ℕ, zero, suc, _+_, _*_, _≤_, _<_}
+use Prim.Native.Nat.{ℕ, zero, suc, _+_, _*_, _<_}
 use mathlib.Core.Path.{_≡_, refl, sym, ap, _∙_}
 use mathlib.Core.List.{List, [], _∷_, _++_, append-nil, flatten}
 use mathlib.Core.Bool.{Bool, true, false}
 use native.Mathlib.Omega.{arith}
-use lib.ListN.{length, getD, drop}
+use lib.ListN.{getD, drop}
 use lib.Dec.{eqb}
 use borrow.Author.Tests.{eq-eqb, ne-eqb}
 use Rattle.wire.specs.Lists.{each}
 use Rattle.wire.specs.Bits.{part, total, split}
-use Rattle.wire.specs.Prog.{Out, done, short, run}
+use Rattle.wire.specs.Prog.{Out, done, run}
 use Rattle.wire.specs.Reads.{endOf}
 use Rattle.wire.specs.Act.{pick}
 use Rattle.wire.specs.Layout.{end, optional, _▹_, Columns, flat, put, blank, has, row}
 use Rattle.wire.specs.Straight.{ends, ones, putsAt, took, taken, spans, sizes, PartTaken, blanks}
 use Rattle.wire.proofs.Cells.{all, free}
 use Rattle.wire.proofs.Fields.{part-below}
-use Rattle.wire.proofs.Straight.{Whole, flat-ends, sizes-so, steered, ends-at, ends-on, ends-cut, ends-within, each-off, flag-is, part-there, taken-there, taken-none}
-use Rattle.wire.specs.declared.reads.Short.{Short}
+use Rattle.wire.proofs.Straight.{Whole, Behind, total-ones, ones-more, flat-ends, sizes-so, steered, each-off, flag-is, part-there, taken-there, taken-none}
 use Rattle.conditions.specs.Layout.{condition, detail, position}
 use Rattle.conditions.specs.Rows.{gain, idCells, flagCells, behind, positionRow, positionFrom}
 use Rattle.conditions.specs.declared.rows.PresetPosition.{PresetPosition}
 
 -- ---- the sizes
-
-ones-more : (n : ℕ) → ones (1 + n) ≡ 1 ∷ ones n
-unfolding ones
-ones-more n = let e : 1 + n ≡ suc n = omega arith in ap ones e
 
 flagged : (p g : ℕ) → p < 2 → g < 2 → pick (eqb g 1) (ones 1) [] ++ (pick (eqb p 1) (ones 3) [] ++ []) ≡ ones (g + p * 3)
 unfolding ones
@@ -63,11 +58,6 @@ pub condition-ends : (s : List ℕ) (at : ℕ) → endOf (run (flat 13 condition
 unfolding ones
 condition-ends s at = flat-ends 13 condition s at ∙ ap (λ (l : List ℕ). ends l s at) (condition-sizes s at)
 
-total-ones : (n : ℕ) → total (ones n) ≡ n
-unfolding total ones
-total-ones zero = refl
-total-ones (suc n) = omega (arith, total-ones n)
-
 pub condition-long : (s : List ℕ) (at : ℕ) → total (spans condition blank s at) ≡ 1 + pick (eqb (part 0 1 (getD s at 0)) 1) (1 + behind (getD s (at + 1) 0)) 0
 unfolding total
 condition-long s at = ap total (condition-sizes s at) ∙ ap (λ (k : ℕ). 1 + k) (go (eqb (part 0 1 (getD s at 0)) 1))
@@ -77,27 +67,6 @@ condition-long s at = ap total (condition-sizes s at) ∙ ap (λ (k : ℕ). 1 + 
     go false = refl
 
 -- ---- measured: behind one byte
-
-pub record Behind (s : List ℕ) (at n : ℕ) : Type 0 where
-  pub there : at < length s
-  pub inside : n ≤ length s
-  pub is : n ≡ at + 1
-  pub goes : (more : List ℕ) → ends (ones 1 ++ more) s at ≡ ends more s n
-
-pub behind-one : (s : List ℕ) (at : ℕ) {o : Out (Unit {0})} {n : ℕ} → at ≤ length s → o ≡ ends (ones 1) s at → o ≡ done tt n → Behind s at n
-unfolding ones total
-behind-one s at h e d =
-    let i = ends-within (ones 1) s at h (sym e ∙ d) in
-    let q = ends-at (ones 1) s at (sym e ∙ d) in
-    record { there = omega arith; inside = i; is = q; goes = λ more. ends-on (ones 1) more s at e d }
-
-pub one-cut : (k : ℕ) (s : List ℕ) (at : ℕ) {o : Out (Unit {0})} {x : Short} → o ≡ ends (ones 1) s at → o ≡ short x → o ≡ ends (ones (1 + k)) s at
-unfolding ones
-one-cut k s at e d = ends-cut (ones 1) (ones k) s at e d ∙ ap (λ (l : List ℕ). ends l s at) (sym (ones-more k))
-
-pub one-more : {s : List ℕ} {at n k j : ℕ} → Behind s at n → k ≡ j → {o : Out (Unit {0})} → o ≡ ends (ones k) s n → o ≡ ends (ones (1 + j)) s at
-unfolding ones
-one-more {s} {at} {n} {k} {j} w q e = e ∙ ap (λ (k : ℕ). ends (ones k) s n) q ∙ sym (w .goes (ones j)) ∙ ap (λ (l : List ℕ). ends l s at) (sym (ones-more j))
 
 module _ {s : List ℕ} {at n b v : ℕ} (w : Behind s at n) (e : b ≡ getD s at 0) (q : v ≡ part 0 1 b) {o : Out (Unit {0})} where
   pub with-detail : v ≡ 1 → o ≡ ends (ones (1 + behind (getD s n 0))) s n → o ≡ endOf (run (flat 13 condition) s at)

@@ -1,5 +1,5 @@
 -- The actions of a condition part by part, and what its two passes do with them.
-use Prim.Native.Nat.{ℕ, zero, suc, _+_, _*_, _<_, _≤_}
+use Prim.Native.Nat.{ℕ, _+_, _*_, _<_, _≤_}
 use mathlib.Core.Path.{_≡_, refl, sym, ap, subst, _∙_}
 use mathlib.Core.List.{List, [], _∷_, _++_, append-nil, map, flatten}
 use mathlib.Core.Bool.{Bool, true, false, _&&_, and-true}
@@ -18,18 +18,10 @@ use Rattle.wire.proofs.Acts.{and-both, both-and, clean-append}
 use Rattle.wire.proofs.Cells.{fit-flags}
 use Rattle.wire.proofs.Passes.{quick-clean, quick-odd, Filling, fill-start, fill-demand, fill-turn, fill-end}
 use Rattle.wire.proofs.Rowed.{loose, matches-loose}
-use Rattle.wire.proofs.Plain.{clean-when, clean-all, absorb, no-quick, filled-long, fill-part}
+use Rattle.wire.proofs.Plain.{clean-when, clean-all, absorb, no-quick, bit-size, filled-long, fill-part}
 use Rattle.conditions.specs.Layout.{condition}
 use Rattle.conditions.specs.Write.{flagsOf, detailActs, detailFits, detailLong, conditionActs, colsAt, rowActs}
 use Rattle.conditions.specs.Rows.{conditionCols, conditionOf, idCells, flagCells, gainCells, positionCells}
-
--- ---- flags
-
-pub flags-there : (v : ℕ) (a : Bool) → v ≡ 1 → isFlag v && pick (eqb v 1) a true ≡ a
-flags-there v a t = rw t
-
-pub flags-absent : (v : ℕ) (a : Bool) → (v ≡ 1 → ⊥) → isFlag v && pick (eqb v 1) a true ≡ isFlag v
-flags-absent v a t = rw (ne-eqb v 1 t) (and-true (isFlag v))
 
 -- ---- a condition
 
@@ -110,11 +102,6 @@ condition-clean g =
     go : (x : Bool) → clean (when x (detailActs g)) ≡ pick x (detailFits g) true
     go true = three-clean (eqb (g 5) 1) (eqb (g 7) 1) (fieldsOf g (flagCells ∷ [])) (fieldsOf g gainCells) (fieldsOf g positionCells)
     go false = refl
-
-bit-size : (v n : ℕ) → isFlag v ≡ true → pick (eqb v 1) n 0 ≡ v * n
-bit-size zero n e = omega arith
-bit-size (suc zero) n e = omega arith
-bit-size (suc (suc v)) n e = absurd (omega (arith, leb-true (suc (suc v)) 1 e))
 
 condition-bytes : (g : Columns) → length (bytes (flatActs condition g)) ≡ 1 + pick (eqb (g 1) 1) (1 + (pick (eqb (g 5) 1) 1 0 + pick (eqb (g 7) 1) 3 0)) 0
 unfolding bytes

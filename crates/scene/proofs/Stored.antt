@@ -1,20 +1,19 @@
 -- Filling the tables of a body whose sections were found: what the functions that fill ask for, and that they leave the rows of the tree.
 use Prim.Native.Nat.{ℕ, _+_, _*_, _≤_, _<_, _^_}
-use mathlib.Core.Path.{_≡_, refl, sym, ap, subst, _∙_}
-use mathlib.Core.List.{List, [], _∷_, _++_, map-id, flatten, flatMap, append-assoc}
+use mathlib.Core.Path.{_≡_, ap, _∙_}
+use mathlib.Core.List.{List, [], _∷_, _++_, map-id, flatten, flatMap}
 use mathlib.Core.Bool.{true}
 use native.Mathlib.Omega.{arith}
 use lib.ListN.{length, drop}
 use lib.Seq.{sets, slice}
-use Rattle.wire.specs.Lists.{Every, firsts}
-use Rattle.wire.specs.Prog.{Prog, Out, done, run, many}
+use Rattle.wire.specs.Prog.{Out, run, many}
 use Rattle.wire.specs.Reads.{rowsOf, isDone}
 use Rattle.wire.specs.Nest.{Fillable, Nests}
-use Rattle.wire.specs.Layout.{flat, Broken, Family, parents, kids, brokenRow}
-use Rattle.wire.proofs.Steps.{front-stored}
+use Rattle.wire.specs.Layout.{flat, kids, brokenRow}
 use Rattle.wire.proofs.Takes.{run-takes}
 use Rattle.wire.proofs.Tables.{flat-map}
-use Rattle.wire.proofs.Rowed.{Wide, rows-long, Nest, parents-long, parents-wide}
+use Rattle.wire.proofs.Rowed.{parents-long}
+use Rattle.wire.proofs.Fronts.{front, Both, both}
 use Rattle.frame.specs.Entry.{needs, room, first, others, filled}
 use Rattle.frame.proofs.MoreRoom.{none-fit, fit-head}
 use Rattle.scene_groups.specs.Layout.{group}
@@ -28,38 +27,6 @@ use Rattle.scene_kind.proofs.Format.{switchRows, presetRows}
 use Rattle.scene_kind.proofs.Laws.{Few, few}
 use Rattle.scene.proofs.Walked.{found-reads}
 use Rattle.scene.proofs.Found.{groups-stand, switches-stand, presets-stand, groups-counted, switches-counted, presets-counted, at-presets, at-switches}
-
--- ---- rows at the front of a table
-
-front : (n : ℕ) (l : List (List ℕ)) (t : List ℕ) → Every (Wide n) l → length l * n ≤ length t → sets t 0 (flatten l) ≡ flatten l ++ drop (length (flatten l)) t
-front n l t w h = front-stored t (flatten l) (omega (arith, rows-long n l w))
-
-flatten-append : (a b : List (List ℕ)) → flatten (a ++ b) ≡ flatten a ++ flatten b
-unfolding flatten
-flatten-append [] b = refl
-flatten-append (x ∷ a) b = ap (λ (l : List ℕ). x ++ l) (flatten-append a b) ∙ sym (append-assoc x (flatten a) (flatten b))
-
-kids-flat : (l : List Family) → flatMap (λ x. flatten (x .1)) l ≡ flatten (kids l)
-unfolding flatMap flatten
-kids-flat [] = refl
-kids-flat (x ∷ l) = ap (λ (r : List ℕ). flatten (x .1) ++ r) (kids-flat l) ∙ sym (flatten-append (x .1) (kids l))
-
--- rows with rows of another table, both at the front of theirs
-record Both (b : Broken) (l : List Family) (t u t′ u′ : List ℕ) : Type 0 where
-  outer : t′ ≡ flatten (parents b l) ++ drop (length (flatten (parents b l))) t
-  inner : u′ ≡ flatten (kids l) ++ drop (length (flatten (kids l))) u
-
-both : (n : Nest) (p : Prog Family) {s : List ℕ} {at count end : ℕ} (l : List Family) (t u : List ℕ) {t′ u′ : List ℕ} → Nests p (λ x. length (x .1)) (λ i x. brokenRow (n .row) (i, x)) (λ x. flatten (x .1)) s at count t u t′ u′ → run (many count p) s at ≡ done l end
-    → Every (Wide (n .kid .columns)) (kids l) → length l * n .row .width ≤ length t → length (kids l) * n .kid .columns ≤ length u → Both (n .row) l t u t′ u′
-both n p {end = end} l t u v d w h k =
-    let z : done (v .value) (v .end) ≡ done l end = sym (v .reads) ∙ d in
-    let e : v .value ≡ l = cc z in
-    let m = parents-long n l in
-    let a : length (parents (n .row) l) * n .row .width ≤ length t = subst (λ (k : ℕ). k * n .row .width ≤ length t) (sym m) h in
-    record {
-      outer = v .outer ∙ ap (λ (l : List Family). sets t 0 (flatMap (brokenRow (n .row)) (firsts (λ x. length (x .1)) 0 l))) e ∙ ap (sets t 0) (flat-map (brokenRow (n .row)) (firsts (λ (x : Family). length (x .1)) 0 l)) ∙ front (n .row .width) (parents (n .row) l) t (parents-wide n l) a;
-      inner = v .inner ∙ ap (λ (l : List Family). sets u 0 (flatMap (λ x. flatten (x .1)) l)) e ∙ ap (sets u 0) (kids-flat l) ∙ front (n .kid .columns) (kids l) u w k;
-    }
 
 -- ---- the room of all tables
 

@@ -16,7 +16,8 @@ use Rattle.wire.specs.declared.rows.Payload.{Payload}
 use Rattle.wire.specs.Act.{pick}
 use Rattle.wire.specs.Layout.{at, row, reads, put, puts, shown, cells, tally, has, Broken, brokenRow, Family, parents, kids}
 use Rattle.wire.proofs.Takes.{Takes, run-takes, takes-split, takes-ret, map-takes, many-takes, listed-length, listed-every}
-use Rattle.wire.proofs.Rowed.{found, parents-long, parents-wide}
+use Rattle.wire.proofs.Rowed.{parents-long}
+use Rattle.wire.proofs.Running.{RunsOn, Told, runs-on}
 use Rattle.frame.specs.Kind.{Lent}
 use Rattle.frame.specs.Numbers.{accepted, refuses}
 use Rattle.frame.specs.Entry.{leaves, onto, into, Sizes, needs, lacking, room, first, others, filled, judging, sizes, placing, reading, measuring, tallying, gives, trail, writing}
@@ -24,6 +25,7 @@ use Rattle.frame.specs.Claims.{Lowest, rows-agree, none-read, Claims}
 use Rattle.frame.proofs.Judged.{was, ran-well, measured as was-measured}
 use Rattle.frame.proofs.Lawful.{Samples}
 use Rattle.frame.proofs.Proofs as P
+use Rattle.pairs.specs.Layout.{pair}
 use Rattle.switch_groups.specs.Layout.{member, switchGroup}
 use Rattle.presets.specs.Layout.{preset}
 use Rattle.scene_kind.specs.declared.rows.MpegH3dAudioScene.{MpegH3dAudioScene}
@@ -68,7 +70,7 @@ abbrev pub sized : (groups switches members presets conditions : ℕ) → ℕ �
 sized g s m p c k = record { tables = needed g s m p c; before = k }
 
 samples : Samples kind
-unfolding reading into judging placing run measuring onto sizes tallying kind parse reads put puts split total bytes pass _>>=_ many member T.groups T.switchGroups T.presets tables zeros tally shown sum firsts flatMap needs lacking room first others filled flatten each cells ones
+unfolding reading into judging placing run measuring onto sizes tallying kind parse reads put puts split total bytes pass _>>=_ many pair T.groups T.switchGroups T.presets tables zeros tally shown sum firsts flatMap needs lacking room first others filled flatten each cells ones
 samples = record {
   lent = [] ∷ (9 ∷ 9 ∷ 9 ∷ 9 ∷ 9 ∷ 9 ∷ 9 ∷ 9 ∷ 9 ∷ 9 ∷ []) ∷ (9 ∷ 9 ∷ 9 ∷ []) ∷ [] ∷ [] ∷ [];
   one = 0x5F ∷ 0x07 ∷ 0xE1 ∷ 0x85 ∷ 0xE0 ∷ 0x83 ∷ 0x83 ∷ [];
@@ -225,25 +227,6 @@ absent-read body lent after m e =
 
 -- ---- of tables that were read: the lists of their rows stand one after the other
 
--- the first list begins at row n, each begins where the one before ended, and the last ends at row m
-pub data RunsOn (b : Broken) : ℕ → List (List ℕ) → ℕ → Type 0 where
-  ended : {n : ℕ} → RunsOn b n [] n
-  one-more : {n m : ℕ} {r : List ℕ} {rs : List (List ℕ)} → getD r (b .first) 0 ≡ n → RunsOn b (n + getD r (b .count) 0) rs m → RunsOn b n (r ∷ rs) m
-
--- the count of a row is that of its own rows
-abbrev Told : Broken → Family → Type 0
-Told b x = getD (x .0) (b .count) 0 ≡ length (x .1)
-
-module _ (b : Broken) (first-so : (n : ℕ) (x : Family) → getD (brokenRow b (n, x)) (b .first) 0 ≡ n) (count-so : (n : ℕ) (x : Family) → getD (brokenRow b (n, x)) (b .count) 0 ≡ getD (x .0) (b .count) 0) where
-  run-on : (n : ℕ) (xs : List Family) → Every (Told b) xs → RunsOn b n (map (brokenRow b) (firsts (λ x. length (x .1)) n xs)) (n + length (kids xs))
-  unfolding firsts flatMap
-  run-on n [] all-nil = rw add-zero ended
-  run-on n (x ∷ xs) (all-cons h r) =
-      let c : getD (brokenRow b (n, x)) (b .count) 0 ≡ length (x .1) = count-so n x ∙ h in
-      let k : n + length (x .1) + length (kids xs) ≡ n + length (x .1 ++ kids xs) = omega (arith, length-append (x .1) (kids xs)) in
-      one-more (first-so n x) (subst (λ (i : ℕ). RunsOn b (n + i) (map (brokenRow b) (firsts (λ x. length (x .1)) (n + length (x .1)) xs)) (n + length (x .1 ++ kids xs))) (sym c)
-      (subst (RunsOn b (n + length (x .1)) (map (brokenRow b) (firsts (λ x. length (x .1)) (n + length (x .1)) xs))) k (run-on (n + length (x .1)) xs r)))
-
 switch-first : (n : ℕ) (x : Family) → getD (brokenRow switchGroup (n, x)) 5 0 ≡ n
 unfolding each
 switch-first n x = refl
@@ -327,18 +310,9 @@ unfolding filled tables first others
 lists-so t lent run h =
     let ss = parents switchGroup (t .«switch_groups») in
     let ps = parents preset (t .presets) in
-    let a = found 9 ss (parents-wide switchRows (t .«switch_groups»)) (drop (length (flatten ss)) (table 1 lent)) in
-    let b = found 7 ps (parents-wide presetRows (t .presets)) (drop (length (flatten ps)) (table 3 lent)) in
-    let m = parents-long switchRows (t .«switch_groups») ∙ sym (h .switches) in
-    let n = parents-long presetRows (t .presets) ∙ sym (h .presets) in
-    let L = filled (tables t) lent in
-    let x = run-on switchGroup switch-first switch-count 0 (t .«switch_groups») (h .members) in
-    let y = run-on preset preset-first preset-count 0 (t .presets) (h .conditions) in
     record {
-      members-run = subst (λ (k : ℕ). RunsOn switchGroup 0 (each (λ i. row 9 (at 9 (table 1 L) i)) 0 k) (length (kids (t .«switch_groups»)))) m
-          (subst (λ (l : List (List ℕ)). RunsOn switchGroup 0 l (length (kids (t .«switch_groups»)))) (sym a) (subst (RunsOn switchGroup 0 ss) (zero-add (length (kids (t .«switch_groups»)))) x));
-      conditions-run = subst (λ (k : ℕ). RunsOn preset 0 (each (λ i. row 7 (at 7 (table 3 L) i)) 0 k) (length (kids (t .presets)))) n
-          (subst (λ (l : List (List ℕ)). RunsOn preset 0 l (length (kids (t .presets)))) (sym b) (subst (RunsOn preset 0 ps) (zero-add (length (kids (t .presets)))) y));
+      members-run = runs-on switchRows switch-first switch-count (t .«switch_groups») (drop (length (flatten ss)) (table 1 lent)) (h .switches) (h .members);
+      conditions-run = runs-on presetRows preset-first preset-count (t .presets) (drop (length (flatten ps)) (table 3 lent)) (h .presets) (h .conditions);
     }
 
 pub read-lists : (body : List ℕ) (lent after : Lent) (m : MpegH3dAudioScene) → reading kind body lent ≡ leaves (accepted m) after

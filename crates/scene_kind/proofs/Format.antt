@@ -17,6 +17,7 @@ use Rattle.wire.proofs.Forms.{Form, last, hole, form-go, form-means, form-acts,
 use Rattle.wire.proofs.Rowed.{Flat, Nest, flat-test, weight, flats, breaks, families, Good, good-list}
 use Rattle.wire.specs.Layout.{Family}
 use Rattle.scene_groups.specs.Layout.{group}
+use Rattle.pairs.specs.Layout.{pair}
 use Rattle.switch_groups.specs.Layout.{member, switchGroup}
 use Rattle.conditions.specs.Layout.{condition}
 use Rattle.presets.specs.Layout.{preset}
@@ -33,7 +34,7 @@ unfolding flat-test weight form-proper form-all below proper all has distinct fr
 group-passes = refl
 
 pub member-passes : flat-test 2 member ≡ true
-unfolding flat-test weight form-proper form-all below proper all has distinct free eights total flatten member
+unfolding flat-test weight form-proper form-all below proper all has distinct free eights total flatten pair
 member-passes = refl
 
 pub condition-passes : flat-test 13 condition ≡ true

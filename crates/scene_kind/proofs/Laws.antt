@@ -27,6 +27,7 @@ use Rattle.frame.specs.Kind.{Lent, Held, Rows}
 use Rattle.frame.specs.Entry.{first, others, filled}
 use Rattle.scene_groups.specs.Layout.{group}
 use Rattle.switch_groups.specs.Layout as S
+use Rattle.pairs.specs.Layout.{pair}
 use Rattle.switch_groups.specs.Layout.{member, switchGroup}
 use Rattle.presets.specs.Layout as P
 use Rattle.conditions.specs.Layout.{condition}
@@ -207,7 +208,7 @@ within : {n m k : ℕ} → n ≤ m → m ≤ k → n ≤ k
 within a b = omega arith
 
 switch-grows : (at : ℕ) (x : Family) (bs : List ℕ) → Takes S.switchGroups at x bs → Grown switchRows x bs
-unfolding weight member
+unfolding weight pair
 switch-grows = family-grows switchRows
 
 preset-grows : (at : ℕ) (x : Family) (bs : List ℕ) → Takes P.presets at x bs → Grown presetRows x bs
@@ -215,7 +216,7 @@ unfolding weight condition
 preset-grows = family-grows presetRows
 
 pub few : (t : Scene) (bs : List ℕ) → Takes parse 0 t bs → Few t bs
-unfolding parse weight group member condition
+unfolding parse weight group pair condition
 few t bs d =
     let u₀ = takes-split {B = Scene} (reads T.groups absent) _ d in
     let u₁ = takes-split {B = Scene} (many (u₀ .value 3) (flat 27 group)) _ (u₀ .second) in

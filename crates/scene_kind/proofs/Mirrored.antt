@@ -12,6 +12,7 @@ use Rattle.wire.specs.Act.{pick}
 use Rattle.wire.specs.Layout.{end, one, optional, num, reserved, flag, Columns, blank, put, puts, reads, row, flat, broken, Family}
 use Rattle.wire.proofs.Runs.{bind-assoc}
 use Rattle.scene_groups.specs.Layout as G
+use Rattle.pairs.specs.Layout.{pair}
 use Rattle.switch_groups.specs.Layout as S
 use Rattle.conditions.specs.Layout as C
 use Rattle.presets.specs.Layout as P
@@ -89,7 +90,7 @@ group-so = λ i. look 1 (λ a. look 1 (λ b. look 1 (λ c. position-so (headed a
 -- ---- parse_switch_group
 
 member-so : flat 2 S.member ≡ R.member
-unfolding S.member reads puts put split total R.member u8 _>>=_ each
+unfolding pair reads puts put split total R.member u8 _>>=_ each
 member-so = refl
 
 pub switch-so : S.switchGroups ≡ R.switchGroup

@@ -3,10 +3,7 @@ ghost use mathlib.Core.Path.{_≡_};
 ghost use mathlib.Core.Bool.{true};
 ghost use mathlib.Core.List.{[], _∷_};
 ghost use Prim.Native.Nat.{_+_, _<_, _≤_, _^_};
-ghost use lib.ListN.{length};
-ghost use lib.Seq.{slice};
-ghost use Rattle.wire.specs.Act.{copy};
-ghost use Rattle.wire.specs.Pen.{reach, Checked, CheckedRun, Ready, Filled};
+ghost use Rattle.wire.specs.Pen.{reach, Checked, Ready, Filled};
 ghost use Rattle.wire.specs.Spell.{Spells, Spelt};
 ghost use Rattle.wire.specs.declared.pen.Pen.the-variants.{At};
 ghost use Rattle.wire.specs.Layout.{familyActs};
@@ -33,7 +30,6 @@ use wire::bits::wide;
 use wire::pen;
 use wire::pen::Fault;
 use wire::pen::Pen;
-use wire::rows::Payload;
 use wire::rows::has_rows;
 use wire::rows::in_store;
 use wire::spell::Joined;
@@ -168,14 +164,6 @@ fn check_fields(
     }
 }
 
-// The trailing run.
-fn check_run(p: Pen, trailing: Payload) -> Pen
-    requires { ⌜ reach p < 2 ^ 31 ⌝ }
-    ensures { λ r. ⌜ CheckedRun (trailing .length) p r × (trailing .length < 65536) ⌝ }
-{
-    pen::run(p, trailing.length as usize)
-}
-
 // All of it: the trailing run is a range of the top record, and stands last.
 pub fn check(
     m: MpegH3dAudioScene,
@@ -191,7 +179,7 @@ pub fn check(
     let trailing = m.trailing;
     if in_store(trailing, store) {
         let p = check_fields(m, groups, switch_groups, members, presets, conditions);
-        check_run(p, trailing)
+        pen::payload_run(p, trailing)
     } else {
         Pen::Stop(Fault::Range, 0)
     }
@@ -271,14 +259,6 @@ fn fill_fields(
     fill_presets_section(m, presets, conditions, out, n3)
 }
 
-fn fill_run(store: &[u8], trailing: Payload, out: &mut [u8], n: usize) -> usize
-    requires { ⌜ (trailing .offset + trailing .length ≤ length (now store)) × (n + trailing .length ≤ length (now out)) ⌝ }
-    ensures { λ r. ⌜ Filled (copy (slice (trailing .offset) (trailing .offset + trailing .length) (now (store .entry))) ∷ []) n (now (out .entry)) r (now (out .exit)) ⌝ }
-{
-    let from = trailing.offset as usize;
-    pen::copy(out, n, store, from, trailing.length as usize)
-}
-
 pub fn fill(
     m: MpegH3dAudioScene,
     groups: &[u16],
@@ -293,5 +273,5 @@ pub fn fill(
     ensures { λ r. ⌜ Filled (whole kind m (now (groups .entry) ∷ now («switch_groups» .entry) ∷ now (members .entry) ∷ now (presets .entry) ∷ now (conditions .entry) ∷ []) (now (store .entry))) 0 (now (out .entry)) r (now (out .exit)) ⌝ }
 {
     let n = fill_fields(m, groups, switch_groups, members, presets, conditions, out);
-    fill_run(store, m.trailing, out, n)
+    pen::copy_payload(out, n, store, m.trailing)
 }

@@ -11,7 +11,7 @@ use Rattle.frame.specs.Entry.{onto, into, needs, first, others, room, lacking, 
 use Rattle.base.specs.Read as BaseRead
 use Rattle.base.specs.Tally as BaseTally
 use Rattle.base.specs.Write as Base
-use Rattle.switch_groups.specs.Layout as SwitchGroups
+use Rattle.pairs.specs.Layout as Pairs
 use Rattle.scene_kind.specs.Layout as SceneLayout
 use Rattle.scene_kind.specs.Rows as SceneRows
 use Rattle.scene_kind.specs.Kind as Scene
@@ -26,7 +26,7 @@ use Rattle.multi_stream.specs.Write as MultiStream
 use Rattle.starred.specs.Starred.{Holds, starred as stars, Starred}
 
 pub starred : Starred
-unfolding reading tallying onto into judging placing run u8 bytes pass many _>>=_ needs first others room lacking filled flatten flatMap sum firsts ones onesIn Base.kind BaseRead.parse BaseRead.fields BaseRead.sets BaseTally.tally each split total put puts reads shown cells tally SwitchGroups.member SceneLayout.groups SceneLayout.switchGroups SceneLayout.presets SceneRows.tables Scene.kind Scene.parse Scene.zeros TextLabel.kind TextLabelRows.tables TextLabelRows.languageAs TextLabelRead.parse TextLabelRead.language LabelsRead.labels LabelsRead.entry MultiStream.kind MultiStreamRows.tables MultiStreamRead.parse MultiStreamRead.main MultiStreamRead.group MultiStreamRead.auxiliary MultiStreamTally.mainTally
+unfolding reading tallying onto into judging placing run u8 bytes pass many _>>=_ needs first others room lacking filled flatten flatMap sum firsts ones onesIn Base.kind BaseRead.parse BaseRead.fields BaseRead.sets BaseTally.tally each split total put puts reads shown cells tally Pairs.pair SceneLayout.groups SceneLayout.switchGroups SceneLayout.presets SceneRows.tables Scene.kind Scene.parse Scene.zeros TextLabel.kind TextLabelRows.tables TextLabelRows.languageAs TextLabelRead.parse TextLabelRead.language LabelsRead.labels LabelsRead.entry MultiStream.kind MultiStreamRows.tables MultiStreamRead.parse MultiStreamRead.main MultiStreamRead.group MultiStreamRead.auxiliary MultiStreamTally.mainTally
 starred = record {
   all = every-each Holds stars (
     record { reads = refl; tallies = refl },

@@ -11,19 +11,20 @@ use Rattle.wire.specs.Bits.{part, total, split, zeros}
 use Rattle.wire.specs.Prog.{Out, done, short, run, many}
 use Rattle.wire.specs.Reads.{mapOut, endOf, isDone, posOf, rowsOf, shortOf, Summed}
 use Rattle.wire.specs.Nest.{Fillable, Nested}
-use Rattle.wire.specs.Layout.{of, row, set, put, blank, has, flat, brokenRow, layouts, cells, shown, tally, familyTally}
-use Rattle.wire.specs.Straight.{ends, ones, putsAt, took, spans}
+use Rattle.wire.specs.Layout.{of, row, set, put, has, flat, brokenRow, layouts, cells, shown, tally, familyTally}
+use Rattle.wire.specs.Straight.{ends, ones, putsAt, took}
 use Rattle.wire.specs.declared.reads.Short.{Short}
 use Rattle.wire.specs.declared.reads.Sum.the-variants as S
 use Rattle.wire.specs.declared.rows.Range.{Range}
 use Rattle.wire.proofs.Cells.{all}
 use Rattle.wire.proofs.Rowed.{weight}
-use Rattle.wire.proofs.Loops.{first-done}
-use Rattle.wire.proofs.Straight.{flat-so, flat-done, ends-got, ends-at, ends-within}
+use Rattle.wire.proofs.Straight.{ends-at, ends-within}
 use Rattle.wire.proofs.Families.{headSizes, tailSizes, kidsOf, tailed, behindHead, head-got, head-lacks, broken-got, broken-lacks, singles-behind, singles-pos, family-test, kids-ask, tail-there, family-filled, tally-ask, tail-tallied, family-tallied}
+use Rattle.pairs.specs.Layout.{pair}
+use Rattle.pairs.proofs.Pairs.{pair-one}
 use Rattle.switch_groups.specs.Layout.{member, switchGroup, switchGroups}
 use Rattle.switch_groups.specs.declared.rows.SwitchGroup.{SwitchGroup}
-use Rattle.switch_groups.specs.Rows.{memberRow, memberFrom, switchGroupRow, switchGroupFrom}
+use Rattle.switch_groups.specs.Rows.{switchGroupRow, switchGroupFrom}
 
 -- ---- the bytes
 
@@ -39,22 +40,9 @@ count-is : (s : List ℕ) (at : ℕ) → kidsOf switchGroup s at ≡ part 0 5 (g
 unfolding took putsAt put split total
 count-is s at = refl
 
-member-one : (s : List ℕ) (at : ℕ) → spans member blank s at ≡ 1 ∷ []
-unfolding member took
-member-one s at = refl
-
 pub fills : family-test switchGroup member ≡ true
-unfolding family-test has all weight member flatten
+unfolding family-test has all weight pair flatten
 fills = refl
-
--- a member that is there, and the next position
-pub member-run : (s : List ℕ) (at : ℕ) → at < length s → done (memberRow (memberFrom (getD s at 0))) (at + 1) ≡ run (flat 2 member) s at
-unfolding member took putsAt put split total each ends
-member-run s at h = sym (flat-so 2 member s at ∙ ap (mapOut (λ u. memberRow (memberFrom (getD s at 0)))) (ends-got 1 [] s at (omega arith)))
-
-pub member-there : (s : List ℕ) (left pos : ℕ) → pos ≤ length s → 0 < left → isDone (run (many left (flat 2 member)) s pos) ≡ true → pos < length s
-unfolding member took total
-member-there s left pos h l q = let w = flat-done 2 member s pos h (first-done (flat 2 member) s left pos l q) .there in omega (arith, w)
 
 -- ---- measured
 
@@ -80,7 +68,7 @@ module _ {s : List ℕ} {at n b count : ℕ} (w : Two s at n) (q : b ≡ getD s 
   counted = k .0 ∙ ap (λ (b : ℕ). part 0 5 b + 1) q ∙ sym (count-is s at)
 
   ended : o ≡ endOf (run switchGroups s at)
-  ended = e ∙ sym (w .goes ∙ singles-behind 2 member member-one s switchGroup at count 1 (sym counted) (tail-sizes s at) n)
+  ended = e ∙ sym (w .goes ∙ singles-behind 2 member pair-one s switchGroup at count 1 (sym counted) (tail-sizes s at) n)
 
   pub all-lack : {x y : Short} → o ≡ short x → y ≡ shortOf o → Summed switchGroups (λ x. length (x .1)) 32 s at (S.Short y)
   all-lack d z = broken-lacks switchGroup (flat 2 member) s at 32 (w .begun) ended d z
@@ -97,7 +85,7 @@ module _ (s : List ℕ) (at : ℕ) {b count : ℕ} (e : b ≡ getD s (at + 1) 0)
   -- where its last byte stands
   last-is : at + 2 ≤ length s → isDone (run (many count (flat 2 member)) s (at + 2)) ≡ true → at + 2 + count ≡ posOf (run (many (kidsOf switchGroup s at) (flat 2 member)) s (at + total (headSizes switchGroup s at)))
   unfolding took total
-  last-is h q = sym (ap (λ (k : ℕ). posOf (run (many k (flat 2 member)) s (at + 2))) count-so ∙ singles-pos 2 member member-one s count (at + 2) h q .0)
+  last-is h q = sym (ap (λ (k : ℕ). posOf (run (many k (flat 2 member)) s (at + 2))) count-so ∙ singles-pos 2 member pair-one s count (at + 2) h q .0)
 
 abbrev ranged : ℕ → ℕ → Range
 ranged first count = record { first = first; count = count }
@@ -126,10 +114,6 @@ module _ (s : List ℕ) (at first : ℕ) (u : List ℕ) (f : Fillable switchGrou
         family-filled switchGroup 2 member s at first u f (last-is s at e k two-there (members-ask .1)) columns refl (w ∙ ap (λ (k : ℕ). sets u (first * 2) (flatMap (λ r. r) (rowsOf (run (many k (flat 2 member)) s (at + 2))))) (sym (count-so s at e k)))
 
 -- ---- tallied
-
-pub member-tally : (b : ℕ) → tally (member ∷ []) (of (memberRow (memberFrom b))) ≡ zeros 1 (part 7 1 b)
-unfolding tally cells shown member sum flatten
-member-tally b = omega arith
 
 module _ (s : List ℕ) (at : ℕ) (h : at ≤ length s) (q : isDone (run switchGroups s at) ≡ true) where
   pub two-known : at + 2 ≤ length s

@@ -1,80 +1,35 @@
--- Switch groups written: a member is one byte, and what the two passes do with a row and its members.
-use Prim.Native.Nat.{ℕ, _+_, _*_, _-_, _/_, _<_, _≤_}
-use mathlib.Core.Path.{_≡_, refl, sym, ap, subst, _∙_}
+-- Switch groups written: what the two passes do with a row and its members.
+use Prim.Native.Nat.{ℕ, _+_, _*_, _-_, _/_, _≤_}
+use mathlib.Core.Path.{_≡_, refl, sym, ap, _∙_}
 use mathlib.Core.List.{List, [], _∷_, _++_, map, flatten}
 use mathlib.Core.Bool.{Bool, true, false, _&&_, and-true, and-assoc}
 use native.Mathlib.Omega.{arith}
 use native.Mathlib.Nat.{add-zero}
 use lib.ListN.{length}
 use lib.Dec.{leb}
-use borrow.Author.Tests.{lt-ltb, le-ltb, leb-true}
-use Rattle.wire.specs.Bits.{Field, field, isFlag, fit, total}
-use Rattle.wire.specs.Act.{Act, demand, byte, rows}
-use Rattle.wire.specs.Pen.{looks, glance, look, Checked, Quick, Ready, Filled, clean, bytes}
-use Rattle.wire.specs.Layout.{at, fieldOf, writes, shown, cells, matches, matched, every, has, familyActs}
-use Rattle.wire.specs.Spell.{fitAll, Spells, Spelt, none, more, FitsAll, ChecksAll, ReadyAll, FillsAll, PlainRows}
+use borrow.Author.Tests.{leb-true}
+use Rattle.wire.specs.Bits.{field, isFlag, fit, total}
+use Rattle.wire.specs.Act.{demand, rows}
+use Rattle.wire.specs.Pen.{Checked, Quick, Ready, Filled, clean, bytes}
+use Rattle.wire.specs.Layout.{fieldOf, writes, shown, cells, matches, matched, every, has, familyActs}
+use Rattle.wire.specs.Spell.{fitAll, Spelt, FitsAll, ChecksAll, ReadyAll, FillsAll, PlainRows}
 use Rattle.wire.specs.declared.pen.Fault.{Fault}
 use Rattle.wire.specs.declared.pen.Fault.the-variants as F
 use Rattle.wire.specs.declared.pen.Pen.{Pen}
 use Rattle.wire.specs.declared.pen.Pen.the-variants.{At, Stop}
 use Rattle.wire.proofs.Acts.{and-both}
 use Rattle.wire.proofs.Fields.{fits-cons}
-use Rattle.wire.proofs.Passes.{then, here, quick-clean, quick-odd, unskip, Filling, fill-end}
-use Rattle.wire.proofs.Plain.{all-checked, clean-all, no-quick, ready-part, fill-part}
+use Rattle.wire.proofs.Passes.{then, here, Filling, fill-end}
+use Rattle.wire.proofs.Plain.{all-checked, clean-all, ready-part, fill-part}
 use Rattle.wire.proofs.Cells.{all, distinct, free, eights, proper}
 use Rattle.wire.proofs.Forms.{sure, below}
 use Rattle.wire.proofs.Rowed.{nest-test, weight}
 use Rattle.wire.proofs.Families.{frontActs, kidActs, Front, plainRow, kids-passed, kids-odd, broken-stopped, broken-checked, front-passed, broken-quick, broken-odd, broken-odd-kid, broken-ready, broken-filling, kids-ready, kids-filled}
+use Rattle.pairs.specs.Write.{pairActs}
 use Rattle.switch_groups.specs.Layout.{member, switchGroup}
-use Rattle.switch_groups.specs.declared.rows.SwitchGroupMember.{SwitchGroupMember}
 use Rattle.switch_groups.specs.declared.rows.SwitchGroup.{SwitchGroup}
-use Rattle.switch_groups.specs.Rows.{memberCols, memberOf, switchGroupCols, switchGroupOf, memberCells, idCells, countCells}
-use Rattle.switch_groups.specs.Write.{headFields, defaultFields, memberActs, switchGroupActs}
-
--- ---- a member: no demand of it can fail
-
-abbrev memberFields : List ℕ → ℕ → List Field
-memberFields u j = map (fieldOf (at 2 u j)) memberCells
-
-abbrev plainActs : List Field → List Act
-plainActs fs = demand F.Field true ∷ demand F.Empty true ∷ byte fs ∷ []
-
-member-acts : (u : List ℕ) (j : ℕ) → memberActs u j ≡ plainActs (memberFields u j)
-unfolding member writes shown cells matches matched every flatten
-member-acts u j = refl
-
-module _ (u : List ℕ) (j : ℕ) {m : SwitchGroupMember} {v : ℕ} (e : m ≡ memberOf u (j * 2)) (w : Spells (map (fieldOf (memberCols m)) memberCells) v) where
-  pub spelt-member : Spells (memberFields u j) v
-  spelt-member = subst (λ (fs : List Field). Spells fs v) (ap (λ (m : SwitchGroupMember). map (fieldOf (memberCols m)) memberCells) e ∙ rw add-zero) w
-
-  pub member-plain : v < 65536 → Quick (memberActs u j) 1 1
-  unfolding clean bytes
-  member-plain l = rw (member-acts u j) (quick-clean (plainActs (memberFields u j)) 1 (ap (λ (b : Bool). b && true) (sym (spelt-member .fits) ∙ lt-ltb v 65536 l)) refl (omega arith) (omega arith))
-
-  pub member-odd : 65536 ≤ v → Quick (memberActs u j) 1 0
-  unfolding clean
-  member-odd l = rw (member-acts u j) (quick-odd (plainActs (memberFields u j)) 1 (λ z. no-quick (sym (spelt-member .fits) ∙ le-ltb v 65536 l) (sym (and-true (fit (memberFields u j))) ∙ z)))
-
-  -- the fill pass
-  byte-ready : {n : ℕ} {l : List ℕ} → Ready (memberActs u j) n l → Ready (byte (memberFields u j) ∷ []) n l
-  byte-ready {n} {l} r = unskip (unskip (subst (λ (q : List Act). Ready q n l) (member-acts u j) r))
-
-  pub member-ready : {n : ℕ} {l : List ℕ} → Ready (memberActs u j) n l → ReadyAll true (v ∷ []) n l
-  member-ready r = record { fss = memberFields u j ∷ []; spelt = more spelt-member none; ready = byte-ready r }
-
-  pub member-filled : {n r : ℕ} {l o : List ℕ} → Ready (memberActs u j) n l → FillsAll true (v ∷ []) n l r o → Filled (memberActs u j) n l r o
-  unfolding bytes
-  member-filled {n} {r} {l} {o} q x =
-      let z = x .of (memberFields u j ∷ []) (more spelt-member none) (byte-ready q .sound) in
-      subst (λ (q : List Act). Filled q n l r o) (sym (member-acts u j)) (record { place = z .place; holds = z .holds })
-
-pub member-stopped : (u : List ℕ) (j n : ℕ) → clean (memberActs u j) ≡ false → Checked (memberActs u j) 1 (At n) (Stop F.Field n)
-unfolding clean looks glance look
-member-stopped u j n e =
-    let c : fit (memberFields u j) ≡ false = sym (and-true (fit (memberFields u j))) ∙ sym (ap clean (member-acts u j)) ∙ e in
-    rw (member-acts u j) (record { pens = rw c; near = omega arith })
-
--- ---- a row of table 2
+use Rattle.switch_groups.specs.Rows.{switchGroupCols, switchGroupOf, idCells, countCells}
+use Rattle.switch_groups.specs.Write.{headFields, defaultFields, switchGroupActs}
 
 pub switch-passes : nest-test switchGroup ≡ true
 unfolding nest-test weight below proper all has distinct free eights total sure flatten
@@ -103,7 +58,7 @@ module _ (u : List ℕ) (g : SwitchGroup) where
   few-so : fit (map (fieldOf (switchGroupCols g)) countCells) ≡ true → g .members .count ≤ 32
   few-so e = let h = fits-cons 5 (g .members .count - 1) [] (fits-cons 3 (g .«reserved_members») (field 5 (g .members .count - 1) ∷ []) e .1) .0 in omega (arith, h)
 
-  behind : Front switchGroup (length u / 2) (memberActs u) (switchGroupCols g) → Behind
+  behind : Front switchGroup (length u / 2) (pairActs u) (switchGroupCols g) → Behind
   unfolding writes clean fit
   behind f =
       let i = f .inside in
@@ -113,30 +68,30 @@ module _ (u : List ℕ) (g : SwitchGroup) where
 
   module _ {n : ℕ} {p : Pen} (w : Checked (frontActs switchGroup (length u / 2) (switchGroupCols g)) 2 (At n) p) where
     pub front-behind : {m : ℕ} → p ≡ At m → Behind
-    front-behind e = behind (front-passed switchGroup (length u / 2) (memberActs u) (switchGroupCols g) w e)
+    front-behind e = behind (front-passed switchGroup (length u / 2) (pairActs u) (switchGroupCols g) w e)
 
     pub front-near : {m : ℕ} → p ≡ At m → m ≤ n + 2
     front-near e = rw e at (w .near)
 
     pub front-stopped : {f : Fault} {m : ℕ} → p ≡ Stop f m → Checked (switchGroupActs u g) 35 (At n) p
-    front-stopped e = broken-stopped switchGroup (length u / 2) (memberActs u) (switchGroupCols g) w 35 (omega arith) e
+    front-stopped e = broken-stopped switchGroup (length u / 2) (pairActs u) (switchGroupCols g) w 35 (omega arith) e
 
-    pub row-checked : {m : ℕ} {q r : Pen} {vs : List ℕ} → p ≡ At m → Checked (rows (memberActs u) (g .members .first) (g .members .count)) (g .members .count) (At m) q → Spelt (defaultFields g) vs → ChecksAll true vs q r → Checked (switchGroupActs u g) 35 (At n) r
+    pub row-checked : {m : ℕ} {q r : Pen} {vs : List ℕ} → p ≡ At m → Checked (rows (pairActs u) (g .members .first) (g .members .count)) (g .members .count) (At m) q → Spelt (defaultFields g) vs → ChecksAll true vs q r → Checked (switchGroupActs u g) 35 (At n) r
     unfolding writes
-    row-checked e x s y = broken-checked switchGroup (length u / 2) (memberActs u) (switchGroupCols g) w 35 (here e x) (all-checked s y) (let h = front-behind e .few in omega (arith, h))
+    row-checked e x s y = broken-checked switchGroup (length u / 2) (pairActs u) (switchGroupCols g) w 35 (here e x) (all-checked s y) (let h = front-behind e .few in omega (arith, h))
 
   -- ---- the quick test
 
-  plain-so : plainRow switchGroup (length u / 2) (memberActs u) (switchGroupCols g) ≡ leb (g .members .first + g .members .count) (length u / 2) && (leb 1 (g .members .count) && (fitAll (headFields g) && fitAll (defaultFields g)))
+  plain-so : plainRow switchGroup (length u / 2) (pairActs u) (switchGroupCols g) ≡ leb (g .members .first + g .members .count) (length u / 2) && (leb 1 (g .members .count) && (fitAll (headFields g) && fitAll (defaultFields g)))
   unfolding writes shown cells every flatten
   plain-so = λ i. leb (g .members .first + g .members .count) (length u / 2) && (and-true (leb 1 (g .members .count)) i && (clean-all (headFields g) i && clean-all (defaultFields g) i))
 
   module _ {inside head tail : Bool} {vs ws : List ℕ} (e : inside ≡ leb (g .members .first + g .members .count) (length u / 2)) (s : Spelt (headFields g) vs) (h : FitsAll vs head) (z : Spelt (defaultFields g) ws) (t : FitsAll ws tail) where
-    tested : (inside && leb 1 (g .members .count)) && (head && tail) ≡ plainRow switchGroup (length u / 2) (memberActs u) (switchGroupCols g)
+    tested : (inside && leb 1 (g .members .count)) && (head && tail) ≡ plainRow switchGroup (length u / 2) (pairActs u) (switchGroupCols g)
     tested = (λ i. (e i && leb 1 (g .members .count)) && (h .of (headFields g) s i && t .of (defaultFields g) z i)) ∙ and-assoc (leb (g .members .first + g .members .count) (length u / 2)) (leb 1 (g .members .count)) (fitAll (headFields g) && fitAll (defaultFields g)) ∙ sym plain-so
 
     pub row-odd : (inside && leb 1 (g .members .count)) && (head && tail) ≡ false → Quick (switchGroupActs u g) 35 0
-    row-odd q = broken-odd switchGroup (length u / 2) (memberActs u) (switchGroupCols g) 35 (sym tested ∙ q)
+    row-odd q = broken-odd switchGroup (length u / 2) (pairActs u) (switchGroupCols g) 35 (sym tested ∙ q)
 
     module _ (q : (inside && leb 1 (g .members .count)) && (head && tail) ≡ true) where
       pub row-behind : Behind
@@ -150,38 +105,38 @@ module _ (u : List ℕ) (g : SwitchGroup) where
           let i = leb-true (g .members .first + g .members .count) (length u / 2) a in
           record { inside = omega (arith, i); few = few-so x₂ }
 
-      module _ {k : ℕ} (v : PlainRows (λ j. memberActs u (g .members .first + j)) 1 (g .members .count) k k) where
+      module _ {k : ℕ} (v : PlainRows (λ j. pairActs u (g .members .first + j)) 1 (g .members .count) k k) where
         pub row-plain : k ≡ g .members .count → Quick (switchGroupActs u g) 35 (3 + g .members .count)
         unfolding writes bytes
         row-plain r =
-            let (c, l) = kids-passed (memberActs u) (g .members .first) (g .members .count) v (omega (arith, r)) in
+            let (c, l) = kids-passed (pairActs u) (g .members .first) (g .members .count) v (omega (arith, r)) in
             let f = row-behind .few in
-            broken-quick switchGroup (length u / 2) (memberActs u) (switchGroupCols g) 35 switch-passes (sym tested ∙ q) (unfold matches matched clean in refl) c (omega (arith, l, r)) (omega arith) (omega (arith, f))
+            broken-quick switchGroup (length u / 2) (pairActs u) (switchGroupCols g) 35 switch-passes (sym tested ∙ q) (unfold matches matched clean in refl) c (omega (arith, l, r)) (omega arith) (omega (arith, f))
 
         pub row-odd-kid : (k ≡ g .members .count → ⊥) → Quick (switchGroupActs u g) 35 0
-        row-odd-kid r = let w = v .within in broken-odd-kid switchGroup (length u / 2) (memberActs u) (switchGroupCols g) 35 (kids-odd (memberActs u) (g .members .first) (g .members .count) v (omega (arith, r, w)))
+        row-odd-kid r = let w = v .within in broken-odd-kid switchGroup (length u / 2) (pairActs u) (switchGroupCols g) 35 (kids-odd (pairActs u) (g .members .first) (g .members .count) v (omega (arith, r, w)))
 
   -- ---- the fill pass
 
   module _ {n : ℕ} {l : List ℕ} (w : Ready (switchGroupActs u g) n l) where
     pub row-ready : Behind
-    row-ready = behind (broken-ready switchGroup (length u / 2) (memberActs u) (switchGroupCols g) w)
+    row-ready = behind (broken-ready switchGroup (length u / 2) (pairActs u) (switchGroupCols g) w)
 
     pub head-ready : {vs : List ℕ} → Spelt (headFields g) vs → ReadyAll true vs n l
     unfolding writes
-    head-ready s = ready-part (kidActs switchGroup (memberActs u) (switchGroupCols g) ++ writes (switchGroup .tail) (switchGroupCols g)) {there = true} s (broken-filling switchGroup (length u / 2) (memberActs u) (switchGroupCols g) w)
+    head-ready s = ready-part (kidActs switchGroup (pairActs u) (switchGroupCols g) ++ writes (switchGroup .tail) (switchGroupCols g)) {there = true} s (broken-filling switchGroup (length u / 2) (pairActs u) (switchGroupCols g) w)
 
     module _ {vs : List ℕ} {n₁ : ℕ} {o₁ : List ℕ} (s : Spelt (headFields g) vs) (x : FillsAll true vs n l n₁ o₁) where
-      head-filled : Filling (switchGroupActs u g) (kidActs switchGroup (memberActs u) (switchGroupCols g) ++ writes (switchGroup .tail) (switchGroupCols g)) n l n₁ o₁
+      head-filled : Filling (switchGroupActs u g) (kidActs switchGroup (pairActs u) (switchGroupCols g) ++ writes (switchGroup .tail) (switchGroupCols g)) n l n₁ o₁
       unfolding writes
-      head-filled = fill-part (kidActs switchGroup (memberActs u) (switchGroupCols g) ++ writes (switchGroup .tail) (switchGroupCols g)) {there = true} s (broken-filling switchGroup (length u / 2) (memberActs u) (switchGroupCols g) w) x
+      head-filled = fill-part (kidActs switchGroup (pairActs u) (switchGroupCols g) ++ writes (switchGroup .tail) (switchGroupCols g)) {there = true} s (broken-filling switchGroup (length u / 2) (pairActs u) (switchGroupCols g) w) x
 
-      pub members-ready : Ready (rows (memberActs u) (g .members .first) (g .members .count)) n₁ o₁
-      members-ready = kids-ready switchGroup (length u / 2) (memberActs u) (switchGroupCols g) head-filled
+      pub members-ready : Ready (rows (pairActs u) (g .members .first) (g .members .count)) n₁ o₁
+      members-ready = kids-ready switchGroup (length u / 2) (pairActs u) (switchGroupCols g) head-filled
 
-      module _ {n₂ : ℕ} {o₂ : List ℕ} (y : Filled (rows (memberActs u) (g .members .first) (g .members .count)) n₁ o₁ n₂ o₂) where
+      module _ {n₂ : ℕ} {o₂ : List ℕ} (y : Filled (rows (pairActs u) (g .members .first) (g .members .count)) n₁ o₁ n₂ o₂) where
         members-filled : Filling (switchGroupActs u g) (writes (switchGroup .tail) (switchGroupCols g)) n l n₂ o₂
-        members-filled = kids-filled switchGroup (length u / 2) (memberActs u) (switchGroupCols g) head-filled y
+        members-filled = kids-filled switchGroup (length u / 2) (pairActs u) (switchGroupCols g) head-filled y
 
         pub default-ready : {ws : List ℕ} → Spelt (defaultFields g) ws → ReadyAll true ws n₂ o₂
         unfolding writes

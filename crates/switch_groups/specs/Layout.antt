@@ -2,9 +2,10 @@
 use mathlib.Core.List.{[], _∷_}
 use Rattle.wire.specs.Prog.{Prog}
 use Rattle.wire.specs.Layout.{Layout, end, one, _▹_, num, reserved, flag, less-one, Broken, broken, flat, Family}
+use Rattle.pairs.specs.Layout.{pair}
 
-unfoldable pub member : Layout
-member = one (reserved 1 0 ∷ num 7 1 ∷ []) ▹ end
+abbrev pub member : Layout
+member = pair
 
 -- the members stand between the count and the default
 abbrev pub switchGroup : Broken

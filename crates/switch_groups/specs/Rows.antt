@@ -1,4 +1,4 @@
--- The declared rows of tables 2 and 3 as columns, from their tables and from their bytes, and the bytes of their layouts.
+-- The declared rows of tables 2 and 3 as columns and from their tables, a switch group from its bytes, and the bytes of its layout.
 use Prim.Native.Nat.{ℕ, _+_}
 use mathlib.Core.List.{List, [], _∷_}
 use lib.ListN.{getD}
@@ -13,14 +13,8 @@ use Rattle.switch_groups.specs.declared.rows.SwitchGroup.{SwitchGroup}
 abbrev pub memberRow : SwitchGroupMember → List ℕ
 memberRow m = m .reserved ∷ m .«member_id» .0 ∷ []
 
-abbrev pub memberCols : SwitchGroupMember → Columns
-memberCols m = of (memberRow m)
-
 abbrev pub memberOf : List ℕ → ℕ → SwitchGroupMember
 memberOf t b = record { reserved = getD t b 0; «member_id» = record { 0 = getD t (b + 1) 0 } }
-
-abbrev pub memberFrom : ℕ → SwitchGroupMember
-memberFrom b = record { reserved = part 7 1 b; «member_id» = record { 0 = part 0 7 b } }
 
 -- ---- a row of table 2
 
@@ -55,10 +49,7 @@ switchGroupFrom id b default members = record {
   «default_group_id» = record { 0 = part 0 7 default };
 }
 
--- ---- the bytes of the layouts
-
-abbrev pub memberCells : List Cell
-memberCells = reserved 1 0 ∷ num 7 1 ∷ []
+-- ---- the bytes of its layout
 
 abbrev pub idCells : List Cell
 idCells = reserved 1 0 ∷ num 5 1 ∷ flag 2 ∷ flag 3 ∷ []

@@ -4,9 +4,10 @@ use mathlib.Core.List.{List, [], _∷_}
 use lib.ListN.{length}
 use Rattle.wire.specs.Bits.{Field}
 use Rattle.wire.specs.Act.{Act}
-use Rattle.wire.specs.Layout.{at, flatActs, brokenActs}
+use Rattle.wire.specs.Layout.{brokenActs}
 use Rattle.wire.specs.Spell.{fieldsOf}
-use Rattle.switch_groups.specs.Layout.{member, switchGroup}
+use Rattle.pairs.specs.Write.{pairActs}
+use Rattle.switch_groups.specs.Layout.{switchGroup}
 use Rattle.switch_groups.specs.Rows.{switchGroupCols, idCells, countCells, defaultCells}
 use Rattle.switch_groups.specs.declared.rows.SwitchGroup.{SwitchGroup}
 
@@ -16,9 +17,5 @@ headFields g = fieldsOf (switchGroupCols g) (idCells ∷ countCells ∷ [])
 abbrev pub defaultFields : SwitchGroup → List (List Field)
 defaultFields g = fieldsOf (switchGroupCols g) (defaultCells ∷ [])
 
--- row j of table 3
-abbrev pub memberActs : List ℕ → ℕ → List Act
-memberActs u j = flatActs member (at 2 u j)
-
 abbrev pub switchGroupActs : List ℕ → SwitchGroup → List Act
-switchGroupActs u g = brokenActs switchGroup (length u / 2) (memberActs u) (switchGroupCols g)
+switchGroupActs u g = brokenActs switchGroup (length u / 2) (pairActs u) (switchGroupCols g)

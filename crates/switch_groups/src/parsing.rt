@@ -1,21 +1,19 @@
 // Reading switch groups: one pass measures them and counts their members, one fills tables 2 and 3 and tests nothing.
 ghost use mathlib.Core.Path.{_≡_};
-ghost use mathlib.Core.Bool.{true};
-ghost use mathlib.Core.List.{flatten, flatMap};
+ghost use mathlib.Core.List.{flatten};
 ghost use Prim.Native.Nat.{_+_, _*_, _<_, _≤_};
-ghost use lib.ListN.{length, getD};
-ghost use lib.Seq.{sets};
+ghost use lib.ListN.{length};
 ghost use Rattle.wire.specs.Bits.{part};
-ghost use Rattle.wire.specs.Prog.{run, many};
-ghost use Rattle.wire.specs.Reads.{isDone, rowsOf, Summed};
+ghost use Rattle.wire.specs.Prog.{many};
+ghost use Rattle.wire.specs.Reads.{Summed};
 ghost use Rattle.wire.specs.Nest.{Fillable, Nested, Nests};
-ghost use Rattle.wire.specs.Layout.{flat, brokenRow, kids};
-ghost use Rattle.switch_groups.specs.Layout.{member, switchGroup, switchGroups};
-ghost use Rattle.switch_groups.specs.Rows.{memberFrom, switchGroupRow, switchGroupFrom};
+ghost use Rattle.wire.specs.Layout.{brokenRow, kids};
+ghost use Rattle.switch_groups.specs.Layout.{switchGroup, switchGroups};
+ghost use Rattle.switch_groups.specs.Rows.{switchGroupRow, switchGroupFrom};
 use super::rows::MEMBER_COLUMNS;
 use super::rows::SWITCH_GROUP_COLUMNS;
 use super::rows::SwitchGroup;
-use super::rows::SwitchGroupMember;
+use pairs::parsing::fill_pairs;
 use wire::bits::part;
 use wire::bits::wide;
 use wire::ids::GroupId;
@@ -80,35 +78,6 @@ struct Placed {
     next: usize,
 }
 
-fn member_at(body: &[u8], at: usize) -> SwitchGroupMember
-    requires { ⌜ at < length (now body) ⌝ }
-    ensures { λ r. ⌜ r ≡ memberFrom (getD (now (body .entry)) at 0) ⌝ }
-{
-    let b = wide(body[at]);
-    SwitchGroupMember {
-        reserved: part(b, 7, 1),
-        member_id: GroupId(part(b, 0, 7)),
-    }
-}
-
-// Stores `count` members from that column of table 3 on.
-fn fill_members(body: &[u8], at: usize, count: usize, members: &mut [u16], column: usize)
-    requires { ⌜ (at ≤ length (now body)) × (isDone (run (many count (flat 2 member)) (now body) at) ≡ true) × (column + 2 * count ≤ length (now members)) ⌝ }
-    ensures { λ r. ⌜ now (members .exit) ≡ sets (now (members .entry)) column (flatMap (λ r. r) (rowsOf (run (many count (flat 2 member)) (now (body .entry)) at))) ⌝ }
-{
-    let mut pos = at;
-    let mut left = count;
-    let mut to = column;
-    while 0 < left {
-        let m = member_at(body, pos);
-        let row = m.columns();
-        put_row(members, to, &row);
-        pos += 1;
-        left -= 1;
-        to += MEMBER_COLUMNS;
-    }
-}
-
 // A switch group from its three bytes of fields.
 fn switch_group_from(id: u16, b: u16, default: u16, members: Range) -> SwitchGroup
     ensures { λ r. ⌜ r ≡ switchGroupFrom id b default members ⌝ }
@@ -134,7 +103,7 @@ fn fill_switch_group(body: &[u8], at: usize, members: &mut [u16], first: usize) 
     let b = wide(body[at + 1]);
     let count = members_of(b);
     let begins = at + 2;
-    fill_members(
+    fill_pairs(
         body,
         begins,
         count as usize,

@@ -1,15 +1,15 @@
 // The reserved bits at 0 of switch groups that were measured.
 ghost use mathlib.Core.Path.{_≡_};
 ghost use mathlib.Core.Bool.{true};
-ghost use mathlib.Core.List.{[], _∷_};
 ghost use Prim.Native.Nat.{_<_, _≤_};
 ghost use lib.ListN.{length};
 ghost use Rattle.wire.specs.Lists.{sum};
 ghost use Rattle.wire.specs.Prog.{done, run, many};
 ghost use Rattle.wire.specs.Reads.{mapOut, isDone, rowsOf};
-ghost use Rattle.wire.specs.Layout.{flat, of, tally, familyTally};
+ghost use Rattle.wire.specs.Layout.{familyTally};
 ghost use Rattle.switch_groups.specs.Layout.{member, switchGroup, switchGroups};
 use super::parsing::members_of;
+use pairs::tallying::pairs_zeros;
 use wire::bits::idle_bits;
 use wire::bits::part;
 use wire::bits::wide;
@@ -18,22 +18,6 @@ use wire::bits::wide;
 struct Tallied {
     zeros: u32,
     next: usize,
-}
-
-// Of `count` members.
-fn members_zeros(body: &[u8], at: usize, count: usize) -> u32
-    requires { ⌜ (at ≤ length (now body)) × (isDone (run (many count (flat 2 member)) (now body) at) ≡ true) × (count ≤ 32) ⌝ }
-    ensures { λ r. ⌜ (r ≡ sum (λ r. tally (member ∷ []) (of r)) (rowsOf (run (many count (flat 2 member)) (now (body .entry)) at))) × (r ≤ count) ⌝ }
-{
-    let mut pos = at;
-    let mut left = count;
-    let mut zeros: u32 = 0;
-    while 0 < left {
-        zeros += idle_bits(part(wide(body[pos]), 7, 1), 1);
-        pos += 1;
-        left -= 1;
-    }
-    zeros
 }
 
 // Of a switch group with its members.
@@ -45,7 +29,7 @@ fn switch_group_zeros(body: &[u8], at: usize) -> Tallied
     let b = wide(body[at + 1]);
     let count = members_of(b) as usize;
     let begins = at + 2;
-    let below = members_zeros(body, begins, count);
+    let below = pairs_zeros(body, begins, count);
     let last = begins + count;
     let default = wide(body[last]);
     let head = idle_bits(part(id, 7, 1), 1) + idle_bits(part(b, 5, 3), 3);

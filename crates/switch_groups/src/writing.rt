@@ -1,6 +1,6 @@
 // Writing switch groups: their bytes as numbers, the check pass with a quick test of a plain row, and the fill pass.
 ghost use mathlib.Core.List.{map};
-ghost use Prim.Native.Nat.{_+_, _*_, _<_, _≤_, _^_};
+ghost use Prim.Native.Nat.{_*_, _<_, _≤_, _^_};
 ghost use lib.ListN.{length};
 ghost use Rattle.wire.specs.Act.{rows};
 ghost use Rattle.wire.specs.Layout.{fieldOf, familyActs};
@@ -8,18 +8,19 @@ ghost use Rattle.wire.specs.Pen.{Checked, Quick, Ready, Filled};
 ghost use Rattle.wire.specs.Spell.{Spells, Spelt, PlainRows};
 ghost use Rattle.wire.specs.declared.pen.Pen.the-variants.{At};
 ghost use Rattle.switch_groups.specs.Layout.{member, switchGroup};
-ghost use Rattle.switch_groups.specs.Rows.{memberCols, switchGroupCols, memberCells, idCells};
-ghost use Rattle.switch_groups.specs.Write.{headFields, defaultFields, memberActs, switchGroupActs};
+ghost use Rattle.switch_groups.specs.Rows.{switchGroupCols, idCells};
+ghost use Rattle.switch_groups.specs.Write.{headFields, defaultFields, switchGroupActs};
 use super::rows::MEMBER_COLUMNS;
 use super::rows::SWITCH_GROUP_COLUMNS;
 use super::rows::SwitchGroup;
-use super::rows::SwitchGroupMember;
+use pairs::writing::check_pairs;
+use pairs::writing::fill_pairs;
+use pairs::writing::plain_pairs;
 use wire::bits::is_flag;
 use wire::bits::less_one;
 use wire::pen;
 use wire::pen::Fault;
 use wire::pen::Pen;
-use wire::rows::Range;
 use wire::rows::in_table;
 use wire::spell::Joined;
 use wire::spell::check_all;
@@ -28,12 +29,6 @@ use wire::spell::fits_all;
 use wire::spell::two;
 
 // ---- the bytes
-
-fn member_byte(m: SwitchGroupMember) -> u32
-    ensures { λ r. ⌜ Spells (map (fieldOf (memberCols m)) memberCells) r ⌝ }
-{
-    two(m.reserved, 1, m.member_id.0, 7)
-}
 
 fn id_byte(g: SwitchGroup) -> u32
     ensures { λ r. ⌜ Spells (map (fieldOf (switchGroupCols g)) idCells) r ⌝ }
@@ -62,37 +57,6 @@ fn default_bytes(g: SwitchGroup) -> [u32; 1]
 
 // ---- the check pass
 
-// The plain members of a range before the first that is not; each is one byte.
-fn plain_members(r: Range, members: &[u16]) -> usize
-    requires { ⌜ (r .first + r .count) * 2 ≤ length (now members) ⌝ }
-    ensures { λ k. ⌜ PlainRows (λ j. memberActs (now (members .entry)) (r .first + j)) 1 (r .count) k k ⌝ }
-{
-    let first = r.first as usize;
-    let count = r.count as usize;
-    let mut i: usize = 0;
-    while i < count {
-        let m = SwitchGroupMember::of_columns(members, (first + i) * MEMBER_COLUMNS);
-        if 65536 <= member_byte(m) {
-            return i;
-        }
-        i += 1;
-    }
-    i
-}
-
-// The members of a range; only a field can be wrong with one.
-fn check_members(n: usize, r: Range, members: &[u16]) -> Pen
-    requires { ⌜ ((r .first + r .count) * 2 ≤ length (now members)) × (n < 2 ^ 31) ⌝ }
-    ensures { λ p. ⌜ Checked (rows (memberActs (now (members .entry))) (r .first) (r .count)) (r .count) (At n) p ⌝ }
-{
-    let k = plain_members(r, members);
-    if k < (r.count as usize) {
-        Pen::Stop(Fault::Field, n + k)
-    } else {
-        Pen::At(n + k)
-    }
-}
-
 // Range, flags and an empty list at the start of the row, then each byte at its place.
 fn check_switch_group(n: usize, g: SwitchGroup, members: &[u16]) -> Pen
     requires { ⌜ n < 2 ^ 30 ⌝ }
@@ -107,7 +71,7 @@ fn check_switch_group(n: usize, g: SwitchGroup, members: &[u16]) -> Pen
     let Pen::At(m) = p3 else {
         return p3;
     };
-    let p4 = check_members(m, g.members, members);
+    let p4 = check_pairs(m, g.members, members);
     check_all(p4, true, &default_bytes(g))
 }
 
@@ -118,7 +82,7 @@ fn plain_bytes(g: SwitchGroup, members: &[u16]) -> usize
     let counted = in_table(g.members, members, MEMBER_COLUMNS) & (1 <= g.members.count);
     if counted & (fits_all(&head_bytes(g)) & fits_all(&default_bytes(g))) {
         let count = g.members.count as usize;
-        if plain_members(g.members, members) == count {
+        if plain_pairs(g.members, members) == count {
             return 3 + count;
         }
     }
@@ -167,27 +131,12 @@ pub fn check_switch_groups(n: usize, switch_groups: &[u16], members: &[u16], cou
 
 // ---- the fill pass
 
-fn fill_members(r: Range, members: &[u16], out: &mut [u8], n: usize) -> usize
-    requires { ⌜ ((r .first + r .count) * 2 ≤ length (now members)) × Ready (rows (memberActs (now members)) (r .first) (r .count)) n (now out) ⌝ }
-    ensures { λ k. ⌜ Filled (rows (memberActs (now (members .entry))) (r .first) (r .count)) n (now (out .entry)) k (now (out .exit)) ⌝ }
-{
-    let end = (r.first as usize) + (r.count as usize);
-    let mut at = n;
-    let mut i = r.first as usize;
-    while i < end {
-        let m = SwitchGroupMember::of_columns(members, i * MEMBER_COLUMNS);
-        at = fill_all(out, at, true, &[member_byte(m)]);
-        i += 1;
-    }
-    at
-}
-
 fn fill_switch_group(g: SwitchGroup, members: &[u16], out: &mut [u8], n: usize) -> usize
     requires { ⌜ Ready (switchGroupActs (now members) g) n (now out) ⌝ }
     ensures { λ r. ⌜ Filled (switchGroupActs (now (members .entry)) g) n (now (out .entry)) r (now (out .exit)) ⌝ }
 {
     let n1 = fill_all(out, n, true, &head_bytes(g));
-    let n2 = fill_members(g.members, members, out, n1);
+    let n2 = fill_pairs(g.members, members, out, n1);
     fill_all(out, n2, true, &default_bytes(g))
 }
 

@@ -1,23 +1,18 @@
 -- The largest image of the text label body: 15 languages with all lists full, every label of 255 bytes, and the longest trailing run make 794,222 bytes.
-use Prim.Native.Nat.{ℕ, _+_, _-_, _≤_, _<_}
-use mathlib.Core.List.{List, [], _∷_, _++_, append-nil}
+use Prim.Native.Nat.{ℕ, _+_, _≤_, _<_}
+use mathlib.Core.List.{List, [], _∷_, _++_}
 use mathlib.Core.Bool.{true}
 use mathlib.Core.Path.{_≡_, refl, sym, ap, subst, _∙_}
 use native.Mathlib.Omega.{arith}
 use lib.ListN.{length, length-append}
-use lib.Dec.{leb}
-use borrow.Author.Tests.{leb-true}
 use Rattle.wire.specs.Bits.{field, fit}
-use Rattle.wire.specs.Act.{copy, image, settle}
 use Rattle.wire.specs.Pen.{clean, bytes}
 use Rattle.wire.proofs.Fields.{fits-cons}
-use Rattle.wire.proofs.Acts.{and-both, clean-both, listed-most, bytes-append, clean-met, bytes-bare, settled}
-use Rattle.wire.proofs.Passes.{slice-long}
+use Rattle.wire.proofs.Acts.{and-both, clean-both, listed-most, bytes-append, clean-met, bytes-bare}
 use Rattle.frame.specs.Kind.{Lent}
-use Rattle.frame.specs.declared.Written.the-variants as W
 use Rattle.frame.specs.Numbers.{refuses}
-use Rattle.frame.specs.Entry.{whole, trail, writing, Writes}
-use Rattle.frame.proofs.Output.{Met, met}
+use Rattle.frame.specs.Entry.{Writes}
+use Rattle.frame.proofs.Largest.{longest}
 use Rattle.labels.proofs.Largest.{labels-most}
 use Rattle.text_label.specs.declared.rows.MpegH3dAudioTextLabel.{MpegH3dAudioTextLabel}
 use Rattle.text_label.specs.Rows.{Language, TextLabel}
@@ -55,27 +50,13 @@ body-most v c =
     let n = fits-cons 4 (length (v .languages)) [] (fits-cons 4 (v .reserved) _ b .1) .0 in
     omega (arith, n, listed-most languageListed 48579 language-most (v .languages) c₂)
 
--- whatever the tables and the store: an image is no longer than that
-image-most : (m : MpegH3dAudioTextLabel) (lent : Lent) (store b : List ℕ) → m .trailing .length < 65536 → settle (whole kind m lent store) 0 ≡ image b → length b ≤ 794222
-unfolding whole kind clean bytes
-image-most m lent store b h e =
-    let s = settled (whole kind m lent store) 0 e in
-    let (r, c) = and-both (leb (m .trailing .offset + m .trailing .length) (length store)) _ (s .sound) in
-    let (a, d) = clean-both (acts m lent store) (copy (trail kind m store) ∷ []) c in
-    let (met, k) = clean-met (acts m lent store) a in
+acts-most : (m : MpegH3dAudioTextLabel) (lent : Lent) (store : List ℕ) → clean (acts m lent store) ≡ true → length (bytes (acts m lent store)) ≤ 728687
+acts-most m lent store c =
+    let (met, k) = clean-met (acts m lent store) c in
     let q = body-bare m lent store met in
-    let n : length (bytes (acts m lent store)) ≤ 728687 = subst (λ (l : List ℕ). length l ≤ 728687) (sym (bytes-bare (acts m lent store) ∙ ap bytes q)) (body-most (value m lent store) (sym (ap clean q) ∙ k)) in
-    omega (
-      arith,
-      n,
-      h,
-      ap length (s .is) ∙ ap length (bytes-append (acts m lent store) (copy (trail kind m store) ∷ [])) ∙ length-append (bytes (acts m lent store)) (trail kind m store ++ []),
-      ap length (append-nil (trail kind m store)) ∙ slice-long (m .trailing .offset) (m .trailing .length) store (leb-true _ _ r),
-    )
+    subst (λ (l : List ℕ). length l ≤ 728687) (sym (bytes-bare (acts m lent store) ∙ ap bytes q)) (body-most (value m lent store) (sym (ap clean q) ∙ k))
 
--- so when writing answers 10, the length is at most that; `Writes` is the promise of `write`
+-- where writing answers 10, the length is at most 794,222
 pub largest : (m : MpegH3dAudioTextLabel) (lent : Lent) (store out after : List ℕ) (n : ℕ) → m .trailing .length < 65536 → Writes kind m lent store out (refuses 10 (n ∷ [])) after → n ≤ 794222
-unfolding writing Met
-largest m lent store out after n h w =
-    let (b, e, l, o, k) = met out (settle (whole kind m lent store) 0) (W.TooLong n) after (sym (w .promised)) in
-    subst (λ (k : ℕ). k ≤ 794222) l (image-most m lent store b h e)
+unfolding kind
+largest m lent store out after n h w = longest kind m lent store 728687 (acts-most m lent store) h out after n w

@@ -5,11 +5,11 @@ use mathlib.Core.Path.{_≡_, refl, sym, ap, subst, _∙_}
 use mathlib.Core.List.{List, [], _∷_, _++_, append-assoc, flatten, flatMap}
 use mathlib.Core.Bool.{Bool, true, false, not, _&&_}
 use native.Mathlib.Omega.{arith}
-use native.Mathlib.Nat.{zero-add, suc-mul, mul-comm, add-mul}
+use native.Mathlib.Nat.{zero-add, mul-zero, one-mul, suc-mul, mul-suc, mul-comm, add-mul}
 use lib.ListN.{length, getD, length-append}
 use lib.Seq.{sets}
 use lib.Dec.{eqb, leb, ltb}
-use borrow.Author.Tests.{leb-true, ltb-true, not-true}
+use borrow.Author.Tests.{leb-true, ltb-true, eqb-true, not-true}
 use Rattle.wire.specs.Lists.{sum}
 use Rattle.wire.specs.Bits.{total}
 use Rattle.wire.specs.Prog.{Prog, ret, Out, done, short, run, many, _>>=_}
@@ -36,10 +36,10 @@ use Rattle.wire.proofs.Nest.{flat-length, Nesting, nest-start, nest-rea
 use Rattle.wire.proofs.Acts.{and-both, both-and, clean-append, clean-both, bytes-append}
 use Rattle.wire.proofs.Passes.{stuck, looks-append, then, more, rows-turn, clean-looks, faulty, check-start, check-turn, check-stop, quick-clean, quick-odd, Filling, fill-start, fill-demand, fill-row, fill-turn}
 use Rattle.wire.proofs.Plain.{plain-odd, plain-end, rows-from, no-quick, filled-long}
-use Rattle.wire.proofs.Cells.{all, free, proper, all-fit, fit-flags, append-every}
+use Rattle.wire.proofs.Cells.{all, free, proper, all-fit, fit-flags, append-every, or-none, has-append}
 use Rattle.wire.proofs.Forms.{each-in, sure}
 use Rattle.wire.proofs.Rowed.{weight, each-like, matched-none, after-demands, nest-test}
-use Rattle.wire.proofs.Straight.{read-so, flat-so, flat-ends, ends-append, thenEnds, ends-at, ends-within, taken-off, total-append}
+use Rattle.wire.proofs.Straight.{read-so, flat-so, flat-ends, ends-append, thenEnds, ends-at, ends-within, taken-off, total-append, total-ones, ones-append}
 
 -- ---- measured
 
@@ -60,7 +60,7 @@ tailSizes b s at m = spans (b .tail) (headed b s at) s m
 abbrev pub kidsOf : Broken → List ℕ → ℕ → ℕ
 kidsOf b s at = headed b s at (b .count)
 
-then-map : {A B : Type 0} (a : A) (o : Out (Unit {0})) (k : A → ℕ → Out B) → andThen (mapOut (λ u. a) o) k ≡ andThen o (λ u n. k a n)
+pub then-map : {A B : Type 0} (a : A) (o : Out (Unit {0})) (k : A → ℕ → Out B) → andThen (mapOut (λ u. a) o) k ≡ andThen o (λ u n. k a n)
 then-map a (done u n) k = refl
 then-map a (short x) k = refl
 
@@ -184,7 +184,7 @@ module _ {A : Type 0} (b : Broken) (kid : Prog A) (s : List ℕ) (at : ℕ) wher
     pub broken-lacks : {x y : Short} → o ≡ short x → y ≡ shortOf o → Summed (broken b kid) (λ x. length (x .1)) most s at (S.Short y)
     broken-lacks d k = summed-short (ap short (k ∙ ap shortOf d) ∙ sym (as-short (λ v. tt {0}) (run (broken b kid) s at) (sym w ∙ d)))
 
--- ---- rows that are one byte each
+-- ---- rows of single bytes
 
 many-end : {A : Type 0} (p : Prog A) (s : List ℕ) (k at : ℕ) → endOf (run (many (suc k) p) s at) ≡ andThen (endOf (run p s at)) (λ u m. endOf (run (many k p) s m))
 unfolding many
@@ -198,29 +198,30 @@ then-ends a c s at = go (ends a s at) ∙ sym (ends-append a c s at)
     go (done u m) = refl
     go (short x) = refl
 
+then-then : {A B C : Type 0} (o : Out A) (f : A → ℕ → Out B) (g : B → ℕ → Out C) → andThen o (λ a n. andThen (f a n) g) ≡ andThen (andThen o f) g
+then-then (done a n) f g = refl
+then-then (short x) f g = refl
+
 many-zero : {A : Type 0} (p : Prog A) (s : List ℕ) (at : ℕ) → run (many 0 p) s at ≡ done [] at
 unfolding many run
 many-zero p s at = refl
 
-total-ones : (k : ℕ) → total (ones k) ≡ k
-unfolding total ones
-total-ones zero = refl
-total-ones (suc k) = omega (arith, total-ones k)
-
-ones-append : (k t : ℕ) → ones k ++ ones t ≡ ones (k + t)
-unfolding ones
-ones-append zero t = ap ones (sym (zero-add t))
-ones-append (suc k) t = let e : suc k + t ≡ suc (k + t) = omega arith in ap (λ (l : List ℕ). 1 ∷ l) (ones-append k t) ∙ ap ones (sym e)
+-- Rows that are w reads of one byte each are one comparison, reads::head of w * k: `each` is λ s at. refl, unfolding took and ones, for a layout of so many lines of one byte.
+pub lines-end : (n : ℕ) (l : Layout) (w : ℕ) → ((s : List ℕ) (at : ℕ) → spans l blank s at ≡ ones w) → (s : List ℕ) (k at : ℕ) → endOf (run (many k (flat n l)) s at) ≡ ends (ones (w * k)) s at
+unfolding ones ends run
+lines-end n l w each s zero at = ap endOf (many-zero (flat n l) s at) ∙ ap (λ (k : ℕ). ends (ones k) s at) (sym (mul-zero w))
+lines-end n l w each s (suc k) at =
+    let e : w + w * k ≡ w * suc k = omega (arith, mul-suc w k) in
+    many-end (flat n l) s k at
+    ∙ (λ i. andThen ((flat-ends n l s at ∙ ap (λ (l : List ℕ). ends l s at) (each s at)) i) (λ u m. lines-end n l w each s k m i))
+    ∙ then-ends (ones w) (ones (w * k)) s at
+    ∙ ap (λ (l : List ℕ). ends l s at) (ones-append w (w * k) ∙ ap ones e)
 
 -- `one` is λ s at. refl, unfolding took, for a layout of one byte.
 module _ (n : ℕ) (l : Layout) (one : (s : List ℕ) (at : ℕ) → spans l blank s at ≡ 1 ∷ []) (s : List ℕ) where
   pub singles-end : (k at : ℕ) → endOf (run (many k (flat n l)) s at) ≡ ends (ones k) s at
-  unfolding ones ends run
-  singles-end zero at = ap endOf (many-zero (flat n l) s at)
-  singles-end (suc k) at =
-      many-end (flat n l) s k at
-      ∙ (λ i. andThen ((flat-ends n l s at ∙ ap (λ (l : List ℕ). ends l s at) (one s at)) i) (λ u m. singles-end k m i))
-      ∙ then-ends (1 ∷ []) (ones k) s at
+  unfolding ones
+  singles-end k at = lines-end n l 1 one s k at ∙ ap (λ (k : ℕ). ends (ones k) s at) (one-mul k)
 
   -- where they end
   pub singles-pos : (k at : ℕ) → at ≤ length s → isDone (run (many k (flat n l)) s at) ≡ true → (posOf (run (many k (flat n l)) s at) ≡ at + k) × (at + k ≤ length s)
@@ -236,6 +237,21 @@ module _ (n : ℕ) (l : Layout) (one : (s : List ℕ) (at : ℕ) → spans l bla
       (λ i. andThen ((singles-end (kidsOf b s at) m ∙ ap (λ (k : ℕ). ends (ones k) s m) e) i) (λ u m. ends (f m i) s m))
       ∙ then-ends (ones k) (ones t) s m
       ∙ ap (λ (l : List ℕ). ends l s m) (ones-append k t)
+
+  behind-ones : (t : ℕ) (left : ℕ → List ℕ) (m : ℕ) → ends (ones t ++ left (m + t)) s m ≡ andThen (ends (ones t) s m) (λ u j. ends (left j) s j)
+  unfolding thenEnds
+  behind-ones t left m = ends-append (ones t) (left (m + t)) s m ∙ go (ends (ones t) s m) refl
+    where
+      go : (o : Out (Unit {0})) → ends (ones t) s m ≡ o → thenEnds o (left (m + t)) s ≡ andThen o (λ u j. ends (left j) s j)
+      go (done u j) q = let z : m + t ≡ j = sym (ends-at (ones t) s m q ∙ ap (λ (k : ℕ). m + k) (total-ones t)) in ap (λ (k : ℕ). ends (left k) s j) z
+      go (short x) q = refl
+
+  -- Where such a tail goes on behind its t bytes, what is left of it begins where these end.
+  pub singles-before : (b : Broken) (at k t : ℕ) (left : ℕ → List ℕ) → kidsOf b s at ≡ k → ((m : ℕ) → tailSizes b s at m ≡ ones t ++ left (m + t)) → (m : ℕ) → behindHead b (flat n l) s at m ≡ andThen (ends (ones (k + t)) s m) (λ u j. ends (left j) s j)
+  singles-before b at k t left e f m =
+      (λ i. andThen ((singles-end (kidsOf b s at) m ∙ ap (λ (k : ℕ). ends (ones k) s m) e) i) (λ u m. (ap (λ (l : List ℕ). ends l s m) (f m) ∙ behind-ones t left m) i))
+      ∙ then-then (ends (ones k) s m) (λ u m. ends (ones t) s m) (λ u j. ends (left j) s j)
+      ∙ ap (λ (o : Out (Unit {0})). andThen o (λ u j. ends (left j) s j)) (then-ends (ones k) (ones t) s m ∙ ap (λ (l : List ℕ). ends l s m) (ones-append k t))
 
 -- ---- filled
 
@@ -422,6 +438,77 @@ module _ (b : Broken) (n : ℕ) (kid : Layout) (s : List ℕ) (at : ℕ) (h : at
         let d : next ≡ k′ = k ∙ sym (o .on ∙ ap (λ (m : ℕ). m + total (tailSizes b s at m)) w) in
         (λ i. done ((z ∙ λ j. a j + c j) i) (d i)) ∙ sym (ap (mapOut (familyTally b kid)) r)
 
+-- ---- taken by one function, which answers the columns of the row and its end; its rows are left
+
+module _ (b : Broken) (n : ℕ) (kid : Layout) (s : List ℕ) (at first : ℕ) (h : at ≤ length s) where
+  -- That function knows where the rows end, at m, and what its promise needs is in `tally-ask` and `tail-tallied`.
+  pub family-placed : isDone (run (broken b (flat n kid)) s at) ≡ true → {m : ℕ} → m ≡ posOf (run (many (kidsOf b s at) (flat n kid)) s (at + total (headSizes b s at)))
+      → {r : List ℕ} {next : ℕ} → r ≡ row (b .width) (set (b .first) first (tailed b s at m)) → next ≡ m + total (tailSizes b s at m) → done r next ≡ mapOut (λ x. brokenRow b (first, x)) (run (broken b (flat n kid)) s at)
+  family-placed q {m} p e k =
+      let (x, k′, z) = is-done (run (broken b (flat n kid)) s at) q in
+      let o = broke b (flat n kid) s at h z in
+      let w : o .middle ≡ m = sym (p ∙ ap posOf (o .kids)) in
+      let g : Columns = tailed b s at (o .middle) in
+      let a = e ∙ ap (λ (m : ℕ). row (b .width) (set (b .first) first (tailed b s at m))) (sym w) ∙ sym (placed-so b first (x .1) g) ∙ ap (λ (x : Family). brokenRow b (first, x)) (sym (o .is)) in
+      let c = k ∙ sym (o .on ∙ ap (λ (m : ℕ). m + total (tailSizes b s at m)) w) in
+      (λ i. done (a i) (c i)) ∙ sym (ap (mapOut (λ x. brokenRow b (first, x))) z)
+
+  module _ {r : List ℕ} {next : ℕ} (e : done r next ≡ mapOut (λ x. brokenRow b (first, x)) (run (broken b (flat n kid)) s at)) where
+    -- what its caller knows: how many rows are left
+    pub placed-count : family-test b kid ≡ true → getD r (b .count) 0 ≡ kidsOf b s at
+    unfolding family-test
+    placed-count c =
+        let (c₀, c₁) = and-both (ltb (b .count) (b .width)) _ c in
+        let (c₂, c₃) = and-both (not (eqb (b .count) (b .first))) _ c₁ in
+        let (c₄, c₅) = and-both (not (has (b .count) (all (b .tail)))) _ c₃ in
+        let (x, z, q) = as-done (λ (x : Family). brokenRow b (first, x)) (run (broken b (flat n kid)) s at) (sym e) in
+        let o = broke b (flat n kid) s at h z in
+        ap (λ (r : List ℕ). getD r (b .count) 0) (sym q) ∙ count-so b (flat n kid) s at first c₀ (not-true _ c₂) (not-true _ c₄) o ∙ o .counts
+
+    -- stored: its rows stand in their table
+    pub placed-filled : {u after : List ℕ} → after ≡ sets u (first * n) (flatMap (λ r. r) (rowsOf (run (many (kidsOf b s at) (flat n kid)) s (at + total (headSizes b s at)))))
+        → Nested (broken b (flat n kid)) n (λ i x. brokenRow b (i, x)) (λ x. flatten (x .1)) s at first u r next after
+    placed-filled {u} q =
+        let (x, z, w) = as-done (λ (x : Family). brokenRow b (first, x)) (run (broken b (flat n kid)) s at) (sym e) in
+        let o = broke b (flat n kid) s at h z in
+        record {
+          value = x;
+          end = next;
+          reads = z;
+          is = sym w;
+          on = refl;
+          stored = q ∙ ap (λ (o : Out (List (List ℕ))). sets u (first * n) (flatMap (λ r. r) (rowsOf o))) (o .kids) ∙ ap (sets u (first * n)) (flat-same (x .1));
+        }
+
+-- Its columns as they were read: no column of it is its first row, so that is 0.
+module _ (b : Broken) (n : ℕ) (kid : Layout) (s : List ℕ) (at : ℕ) (h : at ≤ length s) (f : has (b .first) (all (b .head) ++ all (b .tail)) ≡ false) where
+  first-none : (m : ℕ) → tailed b s at m (b .first) ≡ 0
+  first-none m =
+      let (x, y) = or-none (has (b .first) (all (b .head))) (has (b .first) (all (b .tail))) (sym (has-append (b .first) (all (b .head)) (all (b .tail))) ∙ f) in
+      taken-off (b .tail) (headed b s at) s m 0 (b .first) y ∙ taken-off (b .head) blank s at 0 (b .first) x
+
+  as-read : {x : Family} {end : ℕ} → Broke b (flat n kid) s at x end → brokenRow b (0, x) ≡ x .0
+  as-read {x} o =
+      ap (λ (x : Family). brokenRow b (0, x)) (o .is) ∙ placed-so b 0 (x .1) g
+      ∙ each-like (set (b .first) 0 g) g 0 (b .width) (λ j l. go (0 + j) (eqb (0 + j) (b .first)) refl) ∙ ap (λ (x : Family). x .0) (sym (o .is))
+    where
+      g : Columns
+      g = tailed b s at (o .middle)
+
+      go : (j : ℕ) (y : Bool) → eqb j (b .first) ≡ y → pick y 0 (g j) ≡ g j
+      go j true e = sym (ap g (eqb-true j (b .first) e) ∙ first-none (o .middle))
+      go j false e = refl
+
+  -- The reserved bits of its own fields, from the columns that were answered, and of its rows.
+  pub placed-tallied : {r : List ℕ} {next own below zeros : ℕ} → done r next ≡ mapOut (λ x. brokenRow b (0, x)) (run (broken b (flat n kid)) s at) → own ≡ tally (layouts b) (of r)
+      → below ≡ sum (λ r. tally (kid ∷ []) (of r)) (rowsOf (run (many (kidsOf b s at) (flat n kid)) s (at + total (headSizes b s at)))) → zeros ≡ own + below → done zeros next ≡ mapOut (familyTally b kid) (run (broken b (flat n kid)) s at)
+  placed-tallied {r} {next} {own} {below} {zeros} e t k q =
+      let (x, z, w) = as-done (λ (x : Family). brokenRow b (0, x)) (run (broken b (flat n kid)) s at) (sym e) in
+      let o = broke b (flat n kid) s at h z in
+      let a : own ≡ tally (layouts b) (of (x .0)) = t ∙ ap (λ (r : List ℕ). tally (layouts b) (of r)) (sym w ∙ as-read o) in
+      let c : below ≡ sum (λ r. tally (kid ∷ []) (of r)) (x .1) = k ∙ ap (λ (o : Out (List (List ℕ))). sum (λ r. tally (kid ∷ []) (of r)) (rowsOf o)) (o .kids) in
+      ap (λ (z : ℕ). done z next) (q ∙ λ i. a i + c i) ∙ sym (ap (mapOut (familyTally b kid)) z)
+
 -- ---- written: what stands before its rows, its rows, its tail
 
 -- the demands and the head
@@ -440,16 +527,22 @@ passed-clean q {n = n} {m} w e = go (clean q) refl
     go true z = refl
     go false z = let (f, k, s) = faulty q n z in let y : At m ≡ Stop f k = sym e ∙ w .pens ∙ s in absurd (let z : _≡_ {A = ℕ} 0 1 = cc y in omega arith)
 
+-- and make as many bytes as the pen went on
+passed-long : (q : List Act) {k r : ℕ} → Checked q k (At 0) (At (0 + r)) → (clean q ≡ true) × (length (bytes q) ≡ r)
+passed-long q {r = r} w =
+    let c = passed-clean q w refl in
+    let z : At (0 + length (bytes q)) ≡ At (0 + r) = sym (clean-looks q 0 c) ∙ sym (w .pens) in
+    let y : 0 + length (bytes q) ≡ 0 + r = cc z in
+    (c, omega (arith, y))
+
+pub quick-passed : (q : List Act) {k r : ℕ} → Quick q k r → 0 < r → (clean q ≡ true) × (length (bytes q) ≡ r)
+quick-passed q w p = passed-long q (w .to p 0)
+
 -- The rows of the other table, after a loop that counts the plain ones from the first on (v, its promise): all were passed, or row i of them has a fault.
 -- kids-passed and kids-odd are for the quick test; kids-checked and kids-stopped for the check pass, which looks again at the row that stopped the loop.
 module _ (f : ℕ → List Act) (first count : ℕ) {most i long : ℕ} (v : PlainRows (λ j. f (first + j)) most count i long) where
   pub kids-passed : count ≤ i → (clean (rows f first count) ≡ true) × (length (bytes (rows f first count)) ≡ long)
-  kids-passed h =
-      let w = plain-end (λ j. f (first + j)) most count 0 v h in
-      let c = passed-clean (rows (λ j. f (first + j)) 0 count) w refl in
-      let z : At (0 + length (bytes (rows (λ j. f (first + j)) 0 count))) ≡ At (0 + long) = sym (clean-looks (rows (λ j. f (first + j)) 0 count) 0 c) ∙ sym (w .pens) in
-      let y : 0 + length (bytes (rows (λ j. f (first + j)) 0 count)) ≡ 0 + long = cc z in
-      rw (rows-from f first count) (c, omega (arith, y))
+  kids-passed h = rw (rows-from f first count) (passed-long (rows (λ j. f (first + j)) 0 count) (plain-end (λ j. f (first + j)) most count 0 v h))
 
   pub kids-odd : i < count → clean (rows f first count) ≡ false
   kids-odd h = rw (rows-from f first count) (go (clean (rows (λ j. f (first + j)) 0 count)) refl)
@@ -516,7 +609,7 @@ module _ (b : Broken) (room : ℕ) (kid : ℕ → List Act) (g : Columns) where
       let (x, y) = clean-both (matches (b .head) g) (matches (b .tail) g) m in
       append-every flagged g (shown (b .head) g) (shown (b .tail) g) (fit-flags (shown (b .head) g) g (all-fit [] (b .head) p g x h)) (fit-flags (shown (b .tail) g) g (all-fit (sure (b .head) ++ []) (b .tail) q g y t))
 
-  clean-parts : clean (brokenActs b room kid g)
+  pub clean-parts : clean (brokenActs b room kid g)
       ≡ leb (g (b .first) + g (b .count)) room && (every flagged g (cells (layouts b) g) && (every counted g (cells (layouts b) g) && (clean (matched (layouts b) g) && (clean (writes (b .head) g) && (clean (kidActs b kid g) && clean (writes (b .tail) g))))))
   unfolding clean
   clean-parts =

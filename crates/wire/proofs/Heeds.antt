@@ -10,7 +10,7 @@ use Rattle.wire.specs.declared.pen.Fault.the-variants as F
 use Rattle.wire.specs.Layout.{Cell, Columns, of, row, set, shown, cells, matched, every, flagged, counted, has, mix, columns, kept, blank, flatActs, flatMeans, Broken, layouts, brokenActs, brokenHeeds}
 use Rattle.wire.proofs.Cells.{On, clash, cells-on, every-same, mix-in}
 use Rattle.wire.proofs.Forms.{Form, last, form-shown, form-matches, form-all, form-shown-in, sure-shown, below, woven, alike}
-use Rattle.wire.proofs.Rowed.{Flat, flat-proper, flat-below, flats, row-on, Nest, Nest-tests, nest-tests, broken-form}
+use Rattle.wire.proofs.Rowed.{Flat, flat-proper, flat-below, flats, row-on, on-all, Nest, Nest-tests, nest-tests, broken-form}
 
 -- the columns that writing reads are kept
 pub kept-on : (n : ℕ) (x : Form) → below n (form-all x) ≡ true → (f init : Columns) → On (columns (form-shown x f)) f (of (row n (mix (columns (form-shown x f)) f init)))
@@ -63,21 +63,38 @@ module _ (n : Nest) where
       go true q = sym (row-on (b .width) (form-all x) (t .below-so) (brokenHeeds b f) (set (b .first) (f (b .first)) k) refl j q ∙ off (eqb j (b .first)) refl q ∙ mix-in (columns (form-shown x f)) f blank j e)
       go false q = clash e (form-shown-in x f j q)
 
-  broken-kept : (room : ℕ) (kid : ℕ → List Act) (f : Columns) → brokenActs b room kid f ≡ brokenActs b room kid (of (brokenHeeds b f))
-  unfolding form-shown form-matches woven cells matched has
-  broken-kept room kid f =
+  -- its first row is one of its columns
+  first-of : has (b .first) (b .first ∷ b .count ∷ []) ≡ true
+  unfolding has
+  first-of = let same : eqb (b .first) (b .first) ≡ true = eq-eqb (b .first) (b .first) refl in rw same
+
+  -- columns that agree where writing reads
+  broken-alike : (room : ℕ) (kid : ℕ → List Act) (f h : Columns) → On (columns (form-shown x f)) f h → f (b .first) ≡ h (b .first) → brokenActs b room kid f ≡ brokenActs b room kid h
+  unfolding form-shown form-matches woven cells matched
+  broken-alike room kid f h o i₀ =
       let t = nest-tests b (flats (n .kid)) (n .passes) in
-      let h = of (brokenHeeds b f) in
       let cs : List Cell = shown (b .head) f ++ shown (b .tail) f in
-      let o : On (columns cs) f h = row-kept f in
       let s = alike (b .width) x blank (t .proper-so) (t .below-so) (λ j h. refl) f h o in
-      let same : eqb (b .first) (b .first) ≡ true = eq-eqb (b .first) (b .first) refl in
-      let i₀ : f (b .first) ≡ h (b .first) = sym (row-on (b .width) (b .first ∷ b .count ∷ []) (t .range-so) (brokenHeeds b f) (set (b .first) (f (b .first)) (kept (layouts b) f blank)) refl (b .first) (rw same) ∙ rw same) in
       let c₀ : f (b .count) ≡ h (b .count) = sym (sure-shown (b .head) f {f = h} (λ j e. sym (cells-on (shown (b .head) f) (shown (b .tail) f) o .0 j e)) (b .count) (t .counts-so)) in
       λ i. demand F.Range (leb (i₀ i + c₀ i) room)
       ∷ demand F.Field ((every-same flagged cs o ∙ ap (every flagged h) (s .cells)) i)
       ∷ demand F.Empty ((every-same counted cs o ∙ ap (every counted h) (s .cells)) i)
       ∷ (s .matched i ++ ((λ i. woven x f (rows kid (i₀ i) (c₀ i), tt)) ∙ s .acts (rows kid (h (b .first)) (h (b .count)), tt)) i)
+
+  broken-kept : (room : ℕ) (kid : ℕ → List Act) (f : Columns) → brokenActs b room kid f ≡ brokenActs b room kid (of (brokenHeeds b f))
+  broken-kept room kid f =
+      let t = nest-tests b (flats (n .kid)) (n .passes) in
+      let same : eqb (b .first) (b .first) ≡ true = eq-eqb (b .first) (b .first) refl in
+      broken-alike room kid f (of (brokenHeeds b f)) (row-kept f) (sym (row-on (b .width) (b .first ∷ b .count ∷ []) (t .range-so) (brokenHeeds b f) (set (b .first) (f (b .first)) (kept (layouts b) f blank)) refl (b .first) first-of ∙ rw same))
+
+  -- no column past the last is read
+  pub broken-row : (room : ℕ) (kid : ℕ → List Act) (f g : Columns) → row (b .width) f ≡ row (b .width) g → brokenActs b room kid f ≡ brokenActs b room kid g
+  broken-row room kid f g e =
+      let t = nest-tests b (flats (n .kid)) (n .passes) in
+      broken-alike room kid f g (on-all x f g (on (form-all x) (t .below-so))) (on (b .first ∷ b .count ∷ []) (t .range-so) (b .first) first-of)
+    where
+      on : (ks : List ℕ) → below (b .width) ks ≡ true → On ks f g
+      on ks l j h = sym (row-on (b .width) ks l (row (b .width) f) f refl j h) ∙ row-on (b .width) ks l (row (b .width) f) g (sym e) j h
 
   pub broken-heeds : (room : ℕ) (kid : ℕ → List Act) (f g : Columns) → brokenHeeds b f ≡ brokenHeeds b g → brokenActs b room kid f ≡ brokenActs b room kid g
   broken-heeds room kid f g e = broken-kept room kid f ∙ ap (λ (r : List ℕ). brokenActs b room kid (of r)) e ∙ sym (broken-kept room kid g)

@@ -14,9 +14,14 @@ pub mod Codec
 pub mod Cells
 pub mod Forms
 pub mod Rowed
+pub mod Borne
+pub mod Running
+pub mod Most
+pub mod Fronts
 pub mod Straight
 pub mod Spelling
 pub mod Plain
 pub mod Adding
 pub mod Heeds
 pub mod Families
+pub mod Bearers

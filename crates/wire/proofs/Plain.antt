@@ -1,22 +1,25 @@
 -- Rows that are plain, counted by a loop; the row that stopped it is looked at after the loop.
 use Prim.Native.Nat.{ℕ, zero, suc, _+_, _-_, _*_, _≤_, _<_}
 use mathlib.Core.Path.{_≡_, refl, sym, ap, subst, _∙_}
-use mathlib.Core.List.{List, [], _∷_, _++_, map, flatten}
-use mathlib.Core.Bool.{Bool, true, false, _&&_}
+use mathlib.Core.List.{List, [], _∷_, _++_, append-nil, map, flatten}
+use mathlib.Core.Bool.{Bool, true, false, _&&_, and-true}
 use native.Mathlib.Omega.{arith}
 use native.Mathlib.Nat.{add-zero, sub-zero, mul-suc, mul-le-mul-left}
 use native.Mathlib.Numerals.{add-one}
 use lib.ListN.{length}
 use lib.Seq.{length-sets}
+use lib.Dec.{eqb}
+use borrow.Author.Tests.{ne-eqb, leb-true}
 use Rattle.wire.specs.Lists.{each}
-use Rattle.wire.specs.Bits.{Field, fit}
+use Rattle.wire.specs.Bits.{Field, isFlag, fit}
 use Rattle.wire.specs.Act.{Act, demand, byte, when, pick, rows}
-use Rattle.wire.specs.Pen.{look, glance, looks, Checked, Quick, Filled, clean, bytes}
+use Rattle.wire.specs.Pen.{look, glance, looks, Checked, Quick, Ready, Filled, clean, bytes}
 use Rattle.wire.specs.declared.pen.Fault.{Fault}
+use Rattle.wire.specs.declared.pen.Fault.the-variants as F
 use Rattle.wire.specs.declared.pen.Pen.{Pen}
 use Rattle.wire.specs.declared.pen.Pen.the-variants.{At, Stop}
 use Rattle.wire.specs.Spell.{PlainRows, fitAll, Spelt, ChecksAll, ReadyAll, FillsAll}
-use Rattle.wire.proofs.Passes.{looks-append, rows-turn, rows-end, Checking, check-odd, check-end, Filling, fill-row, fill-turn}
+use Rattle.wire.proofs.Passes.{looks-append, then, more, rows-turn, rows-end, Checking, check-odd, check-end, quick-clean, quick-odd, Filling, fill-start, fill-demand, fill-row, fill-turn, fill-end}
 use Rattle.wire.proofs.Spelling.{spelt-long}
 
 -- before the row i, which makes no more than `most` bytes
@@ -24,6 +27,11 @@ pub record Going (f : ℕ → List Act) (most count i bytes : ℕ) : Type 0 wher
   pub within : i ≤ count
   pub few : bytes ≤ most * i
   pub passes : (n : ℕ) → looks (rows f 0 count) (At n) ≡ looks (rows f i (count - i)) (At (n + bytes))
+
+-- a quick test counts no more bytes than there can be
+pub quick-few : {q : List Act} {most k : ℕ} → Quick q most k → k ≤ most
+quick-few {k = zero} w = omega arith
+quick-few {k = suc k} w = let v = w .to (omega arith) 0 in omega (arith, v .near)
 
 pub going-start : (f : ℕ → List Act) (most count : ℕ) → Going f most count 0 0
 going-start f most count = record { within = omega arith; few = omega arith; passes = λ n. rw (sub-zero, add-zero) }
@@ -113,3 +121,49 @@ absorb false false h = refl
 
 pub no-quick : {a : Bool} → a ≡ false → a ≡ true → ⊥
 no-quick e f = let z : _≡_ {A = ℕ} 0 1 = cc (sym e ∙ f) in omega arith
+
+-- ---- rows that are bytes of fields and nothing else: no demand of theirs can fail
+
+abbrev pub lineActs : List (List Field) → List Act
+lineActs fss = demand F.Field true ∷ demand F.Empty true ∷ map byte fss
+
+-- `e` is refl, unfolding writes, shown, cells, matches, matched, every, flatten and the layout.
+module _ (acts : List Act) (fss : List (List Field)) (e : acts ≡ lineActs fss) where
+  pub line-clean : clean acts ≡ fitAll fss
+  unfolding clean
+  line-clean = ap clean e ∙ clean-all fss
+
+  -- it makes as many bytes as it has, or has a fault
+  pub line-plain : fitAll fss ≡ true → 0 < length fss → Quick acts (length fss) (length fss)
+  unfolding bytes
+  line-plain f p = quick-clean acts (length fss) (line-clean ∙ f) (ap (λ (q : List Act). length (bytes q)) e ∙ bytes-long fss) p (omega arith)
+
+  pub line-odd : fitAll fss ≡ false → Quick acts (length fss) 0
+  line-odd f = quick-odd acts (length fss) (λ z. no-quick f (sym line-clean ∙ z))
+
+  module _ {vs : List ℕ} (s : Spelt fss vs) where
+    pub line-checked : {p r : Pen} → ChecksAll true vs p r → Checked acts (length fss) p r
+    line-checked {p} {r} w = subst (λ (q : List Act). Checked q (length fss) p r) (sym e) (more (length fss) (then (met F.Field p) (then (met F.Empty p) (all-checked s w))) (omega arith))
+
+    module _ {n : ℕ} {l : List ℕ} (w : Ready acts n l) where
+      line-left : Filling (lineActs fss) (map byte fss ++ []) n l n l
+      line-left = subst (λ (q : List Act). Filling (lineActs fss) q n l n l) (sym (append-nil (map byte fss))) (fill-demand (fill-demand (fill-start (subst (λ (q : List Act). Ready q n l) e w))))
+
+      pub line-ready : ReadyAll true vs n l
+      line-ready = ready-part [] {there = true} s line-left
+
+      pub line-filled : {r : ℕ} {o : List ℕ} → FillsAll true vs n l r o → Filled acts n l r o
+      line-filled {r} {o} x = subst (λ (q : List Act). Filled q n l r o) (sym e) (fill-end (fill-part [] {there = true} s line-left x) refl)
+
+-- ---- a flag, and what is said of its part only where it is set
+
+pub flags-there : (v : ℕ) (a : Bool) → v ≡ 1 → isFlag v && pick (eqb v 1) a true ≡ a
+flags-there v a t = rw t
+
+pub flags-absent : (v : ℕ) (a : Bool) → (v ≡ 1 → ⊥) → isFlag v && pick (eqb v 1) a true ≡ isFlag v
+flags-absent v a t = rw (ne-eqb v 1 t) (and-true (isFlag v))
+
+pub bit-size : (v n : ℕ) → isFlag v ≡ true → pick (eqb v 1) n 0 ≡ v * n
+bit-size zero n e = omega arith
+bit-size (suc zero) n e = omega arith
+bit-size (suc (suc v)) n e = absurd (omega (arith, leb-true (suc (suc v)) 1 e))

@@ -13,7 +13,7 @@ use Rattle.wire.specs.Lists.{Every, all-nil, all-cons, each, sum, firsts
 use Rattle.wire.specs.Prog.{Prog, ret, many, _>>=_}
 use Rattle.wire.specs.Act.{Act, pick, rows}
 use Rattle.wire.specs.Pen.{clean, bytes}
-use Rattle.wire.specs.Layout.{Layout, end, line, word, choose, follows, judged, Columns, of, at, row, set, reads, writes, shown, cells, matches, matched, every, flagged, counted, has, mix, columns, blank, flat, flatActs, flatMeans, Broken, layouts, broken, brokenActs, brokenMeans, brokenRow, Family, parents, kids, familyActs, familyMeans}
+use Rattle.wire.specs.Layout.{Layout, end, line, word, choose, follows, judged, Columns, of, at, row, set, reads, writes, shown, cells, matches, matched, every, flagged, counted, has, mix, columns, blank, flat, flatActs, flatMeans, Broken, layouts, broken, brokenActs, brokenMeans, brokenRow, Family, parents, kids, familyActsOf, familyMeansOf, familyActs, familyMeans}
 use Rattle.wire.proofs.Lists.{every-and, every-as, every-map, every-flat, every-firsts}
 use Rattle.wire.proofs.Acts.{and-both, both-and, clean-append, clean-both, bytes-append}
 use Rattle.wire.proofs.Takes.{Takes, takes-split, map-takes, seen, Listed, no-more, one-more, many-takes, listed-every, listed-bound}
@@ -498,22 +498,13 @@ module _ (nest : Nest) where
       every-map (brokenRow b) (Every Column) (firsts size 0 xs) (every-as (λ y. F y × B y) (λ y. Every Column (brokenRow b y)) (λ y g. broken-columns b (flats (nest .kid)) (nest .passes) (y .1) (g .0 .0) (g .0 .1) (y .0) (omega (arith, g .1, k)))
       (every-and F B (every-firsts size 0 (Good families) xs h) (firsts-below size 0 xs)))
 
-  module _ (xs : List Family) (behind beneath : List ℕ) where
-    abbrev table : List ℕ
-    table = flatten (parents b xs) ++ behind
-
+  -- cols are the columns of row i, as writing reads them
+  module _ (xs : List Family) (cols : ℕ → Columns) (stand : each (λ i. row (b .width) (cols i)) 0 (length xs) ≡ parents b xs) (beneath : List ℕ) where
     abbrev lower : List ℕ
     lower = flatten (kids xs) ++ beneath
 
     abbrev Stand : ℕ × Family → Type 0
     Stand y = each (λ i. row n (at n lower i)) (y .0) (size (y .1)) ≡ y .1 .1
-
-    outer : each (λ i. row (b .width) (at (b .width) table i)) 0 (length (parents b xs)) ≡ parents b xs
-    outer = found (b .width) (parents b xs) (parents-wide xs) behind
-
-    -- the table has their rows
-    pub parents-room : 0 < b .width → length xs ≤ length table / b .width
-    parents-room z = omega (arith, room-for (b .width) (parents b xs) behind z (parents-wide xs), parents-long xs)
 
     abbrev Placed : ℕ × Family → Type 0
     Placed y = (Good families (y .1) × (y .0 + size (y .1) ≤ 0 + sum size xs)) × Stand y
@@ -524,19 +515,14 @@ module _ (nest : Nest) where
         let e : Every Stand (firsts size 0 xs) = kids-stand (λ i. row n (at n lower i)) (λ x. x .1) xs 0 (found n (kids xs) wide beneath) in
         every-and (λ y. Good families (y .1) × B y) Stand (every-and (λ y. Good families (y .1)) B (every-firsts size 0 (Good families) xs h) (firsts-below size 0 xs)) e
 
-    outer-so : each (λ i. row (b .width) (at (b .width) table i)) 0 (length xs) ≡ parents b xs
-    outer-so = subst (λ (m : ℕ). each (λ i. row (b .width) (at (b .width) table i)) 0 m ≡ parents b xs) (parents-long xs) outer
-
     -- they mean what was read
-    pub families-again : Every (Good families) xs → each (familyMeans b n l table lower) 0 (length xs) ≡ xs
-    families-again h =
-        each-as Placed (brokenRow b) (λ i. row (b .width) (at (b .width) table i)) (familyMeans b n l table lower) (λ y. y .1) one 0 (length xs) (firsts size 0 xs) outer-so (placed h (kids-wide xs h))
-        ∙ firsts-back size 0 xs
+    pub families-mean : Every (Good families) xs → each (λ i. familyMeansOf b n l lower (cols i)) 0 (length xs) ≡ xs
+    families-mean h = each-as Placed (brokenRow b) (λ i. row (b .width) (cols i)) (λ i. familyMeansOf b n l lower (cols i)) (λ y. y .1) one 0 (length xs) (firsts size 0 xs) stand (placed h (kids-wide xs h)) ∙ firsts-back size 0 xs
       where
-        one : (i : ℕ) (y : ℕ × Family) → row (b .width) (at (b .width) table i) ≡ brokenRow b y → Placed y → familyMeans b n l table lower i ≡ y .1
+        one : (i : ℕ) (y : ℕ × Family) → row (b .width) (cols i) ≡ brokenRow b y → Placed y → familyMeansOf b n l lower (cols i) ≡ y .1
         one i y e h =
             let m = flats (nest .kid) in
-            let g = at (b .width) table i in
+            let g = cols i in
             let k = broken-kids b m (nest .passes) (y .1) (h .0 .0 .0) (h .0 .0 .1) in
             let r = ranged (y .0) (y .1) g e (k .counted) in
             let a = broken-again b m (nest .passes) (y .1) (h .0 .0 .0) g (broken-on b m (nest .passes) (y .0) (y .1) g e) in
@@ -544,18 +530,36 @@ module _ (nest : Nest) where
             λ j. (a j, c j)
 
     -- and are written without a fault
-    pub families-ready : Every (Good families) xs → clean (rows (familyActs b n l table lower) 0 (length xs)) ≡ true
-    families-ready h =
+    pub families-sound : Every (Good families) xs → clean (rows (λ i. familyActsOf b n l lower (cols i)) 0 (length xs)) ≡ true
+    families-sound h =
         let wide = kids-wide xs h in
         let room : sum size xs ≤ length lower / n = omega (arith, room-for n (kids xs) beneath (flat-positive (nest .kid) .0) wide, flat-length (λ (x : Family). x .1) xs) in
-        each-clean Placed (brokenRow b) (λ i. row (b .width) (at (b .width) table i)) (familyActs b n l table lower) (λ i y e h. one room i y e h) 0 (length xs) (firsts size 0 xs) outer-so (placed h wide)
+        each-clean Placed (brokenRow b) (λ i. row (b .width) (cols i)) (λ i. familyActsOf b n l lower (cols i)) (λ i y e h. one room i y e h) 0 (length xs) (firsts size 0 xs) stand (placed h wide)
       where
-        one : sum size xs ≤ length lower / n → (i : ℕ) (y : ℕ × Family) → row (b .width) (at (b .width) table i) ≡ brokenRow b y → Placed y → clean (familyActs b n l table lower i) ≡ true
+        one : sum size xs ≤ length lower / n → (i : ℕ) (y : ℕ × Family) → row (b .width) (cols i) ≡ brokenRow b y → Placed y → clean (familyActsOf b n l lower (cols i)) ≡ true
         one room i y e h =
             let m = flats (nest .kid) in
-            let g = at (b .width) table i in
+            let g = cols i in
             let k = broken-kids b m (nest .passes) (y .1) (h .0 .0 .0) (h .0 .0 .1) in
             let r = ranged (y .0) (y .1) g e (k .counted) in
             let c = rows-ready (nest .kid) lower (y .0) (size (y .1)) (y .1 .1) (h .1) (good-list m (y .1 .1) (k .fit) (k .sound)) in
             let c′ : clean (rows (λ i. flatActs l (at n lower i)) (g (b .first)) (g (b .count))) ≡ true = (λ j. clean (rows (λ i. flatActs l (at n lower i)) (r .first j) (r .count j))) ∙ c in
             broken-ready b m (nest .passes) (y .1) (h .0 .0 .0) (h .0 .0 .1) g (broken-on b m (nest .passes) (y .0) (y .1) g e) (length lower / n) (λ i. flatActs l (at n lower i)) (omega (arith, h .0 .1, r .first, r .count, room)) c′
+
+  -- stored as the rows of a table
+  module _ (xs : List Family) (behind beneath : List ℕ) where
+    abbrev table : List ℕ
+    table = flatten (parents b xs) ++ behind
+
+    -- the table has their rows
+    pub parents-room : 0 < b .width → length xs ≤ length table / b .width
+    parents-room z = omega (arith, room-for (b .width) (parents b xs) behind z (parents-wide xs), parents-long xs)
+
+    pub parents-found : each (λ i. row (b .width) (at (b .width) table i)) 0 (length xs) ≡ parents b xs
+    parents-found = subst (λ (m : ℕ). each (λ i. row (b .width) (at (b .width) table i)) 0 m ≡ parents b xs) (parents-long xs) (found (b .width) (parents b xs) (parents-wide xs) behind)
+
+    pub families-again : Every (Good families) xs → each (familyMeans b n l table (lower xs (at (b .width) table) parents-found beneath)) 0 (length xs) ≡ xs
+    families-again = families-mean xs (at (b .width) table) parents-found beneath
+
+    pub families-ready : Every (Good families) xs → clean (rows (familyActs b n l table (lower xs (at (b .width) table) parents-found beneath)) 0 (length xs)) ≡ true
+    families-ready = families-sound xs (at (b .width) table) parents-found beneath

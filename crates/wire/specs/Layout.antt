@@ -4,11 +4,13 @@ use Prim.Native.Nat.{ℕ, _+_, _*_, _-_, _/_, _%_}
 use mathlib.Core.List.{List, [], _∷_, _++_, map, flatten, flatMap}
 use mathlib.Core.Bool.{Bool, true, false, _&&_, _||_}
 use lib.ListN.{length, getD, drop}
+use lib.Seq.{slice}
 use lib.Dec.{eqb, leb}
 use Rattle.wire.specs.Lists.{each, sum, firsts}
 use Rattle.wire.specs.Bits.{Field, field, split, fit, isFlag, zeros}
-use Rattle.wire.specs.Prog.{Prog, ret, look, many, _>>=_}
-use Rattle.wire.specs.Act.{Act, demand, byte, pick, rows}
+use Rattle.wire.specs.Prog.{Prog, ret, look, u8, pass, many, span, _>>=_}
+use Rattle.wire.specs.Act.{Act, demand, byte, copy, pick, rows}
+use Rattle.wire.specs.declared.rows.Payload.{Payload}
 use Rattle.wire.specs.declared.pen.Fault.{Fault}
 use Rattle.wire.specs.declared.pen.Fault.the-variants as F
 
@@ -275,9 +277,63 @@ kids l = flatMap (λ x. x .1) l
 abbrev pub familyTally : Broken → Layout → Family → ℕ
 familyTally b kid x = tally (layouts b) (of (x .0)) + sum (λ r. tally (kid ∷ []) (of r)) (x .1)
 
--- row i of table t, whose rows stand in table u and have n columns
+-- a row with the columns g, whose rows stand in table u and have n columns
+abbrev pub familyActsOf : Broken → ℕ → Layout → List ℕ → Columns → List Act
+familyActsOf b n kid u g = brokenActs b (length u / n) (λ j. flatActs kid (at n u j)) g
+
+abbrev pub familyMeansOf : Broken → ℕ → Layout → List ℕ → Columns → Family
+familyMeansOf b n kid u g = brokenMeans b (λ j. flatMeans n kid (at n u j)) g
+
+-- row i of table t
 abbrev pub familyActs : Broken → ℕ → Layout → List ℕ → List ℕ → ℕ → List Act
-familyActs b n kid t u i = brokenActs b (length u / n) (λ j. flatActs kid (at n u j)) (at (b .width) t i)
+familyActs b n kid t u i = familyActsOf b n kid u (at (b .width) t i)
 
 abbrev pub familyMeans : Broken → ℕ → Layout → List ℕ → List ℕ → ℕ → Family
-familyMeans b n kid t u i = brokenMeans b (λ j. flatMeans n kid (at n u j)) (at (b .width) t i)
+familyMeans b n kid t u i = familyMeansOf b n kid u (at (b .width) t i)
+
+-- ---- rows that end with a payload: a length byte and so many bytes of any content, whose offset and length are columns
+
+pub record Bearing : Type 0 where
+  pub width : ℕ
+  pub head : Layout
+  pub offset : ℕ
+  pub size : ℕ
+
+-- the columns that are read, and where the bytes stand
+abbrev pub Borne : Type 0
+Borne = List ℕ × Payload
+
+abbrev pub bearing : Bearing → Prog Borne
+bearing b = do
+  g ← reads (b .head) blank
+  n ← u8
+  p ← pass n
+  ret (row (b .width) g, span p n)
+
+-- the bytes of a row in the store
+abbrev pub borneBytes : Bearing → List ℕ → Columns → List ℕ
+borneBytes b store g = slice (g (b .offset)) (g (b .offset) + g (b .size)) store
+
+abbrev pub bearingActs : Bearing → List ℕ → Columns → List Act
+bearingActs b store g =
+    demand F.Range (leb (g (b .offset) + g (b .size)) (length store))
+    ∷ demands (b .head ∷ []) g
+    ++ (writes (b .head) g ++ (byte (field 8 (g (b .size)) ∷ []) ∷ copy (borneBytes b store g) ∷ []))
+
+abbrev pub bearingMeans : Bearing → List ℕ → Columns → List ℕ × List ℕ
+bearingMeans b store g = (row (b .width) (kept (b .head ∷ []) g blank), borneBytes b store g)
+
+-- the columns f with the place and the number of the bytes
+abbrev pub borne : Bearing → ℕ → ℕ → Columns → Columns
+borne b offset size f = set (b .offset) offset (set (b .size) size f)
+
+-- what writing reads of the row itself
+abbrev pub bearingHeeds : Bearing → Columns → List ℕ
+bearingHeeds b g = row (b .width) (borne b (g (b .offset)) (g (b .size)) (kept (b .head ∷ []) g blank))
+
+-- what was read, with the place of its bytes
+abbrev pub borneRow : Bearing → Borne → List ℕ
+borneRow b x = row (b .width) (borne b (x .1 .offset) (x .1 .length) (of (x .0)))
+
+abbrev pub borneTally : Bearing → Borne → ℕ
+borneTally b x = tally (b .head ∷ []) (of (x .0))

@@ -2,8 +2,8 @@
 use mathlib.Core.Path.{ap, _∙_}
 use native.Mathlib.Omega.{arith}
 use Rattle.wire.specs.Reads.{endsOut}
+use Rattle.wire.proofs.Straight.{Behind, behind-one, one-cut, one-more}
 use Rattle.conditions.specs.Rows.{behind}
-use Rattle.conditions.proofs.Taken.{Behind, behind-one, one-cut, one-more}
 use borrow.Author.Needs.{needs}
 use Rattle.conditions.proofs.parsing.detail_end.Statement.{statement}
 use Rattle.conditions.proofs.parsing.detail_end.Tie as tie

@@ -16,14 +16,14 @@ in-store-requires c κs = search needs
 check-fields-requires : tie.Need-check-fields-requires
 check-fields-requires c κs = search needs
 
-check-run-requires : tie.Need-check-run-requires
-check-run-requires c κs =
+payload-run-requires : tie.Need-payload-run-requires
+payload-run-requires c κs =
     omega (arith, c .check-fields .ensures .near)
 
 returns : tie.Need-returns
 unfolding whole kind
 returns c =
-    let e = sym (c .before .before .before .in-store .ensures) ∙ c .before .before .if1 .taken in rw e (passed _ 0 (more 71345 (then (written-as (c .before .before .before .before .before .before .before .before .before .before .before .args .m) _ _ (c .before .check-fields .ensures)) (run-looked _ _ _ (leb-true _ _ e) (c .check-run .ensures .0))) (omega (arith, c .check-run .ensures .1))))
+    let e = sym (c .before .before .before .in-store .ensures) ∙ c .before .before .if1 .taken in rw e (passed _ 0 (more 71345 (then (written-as (c .before .before .before .before .before .before .before .before .before .before .before .args .m) _ _ (c .before .check-fields .ensures)) (run-looked _ _ _ (leb-true _ _ e) (c .payload-run .ensures .0))) (omega (arith, c .payload-run .ensures .1))))
 
 returns-2 : tie.Need-returns-2
 unfolding whole kind
@@ -33,4 +33,4 @@ returns-2 c =
 pub check-spec : {M : Type 1} → statement M
 check-spec =
     tie.close
-    (tie.spec in-store-requires check-fields-requires check-run-requires returns returns-2)
+    (tie.spec in-store-requires check-fields-requires payload-run-requires returns returns-2)

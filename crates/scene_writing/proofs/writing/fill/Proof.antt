@@ -28,9 +28,9 @@ fill-fields-requires c κs =
     let z = c .before .before .before .before .before .before .before .before in
     ready-as (z .args .m) (lent z) (z .args .store .now) (fill-row (acts (z .args .m) (lent z) (z .args .store .now)) _ (fill-demand (fill-start (z .pre))) refl)
 
-fill-run-requires : tie.Need-fill-run-requires
+copy-payload-requires : tie.Need-copy-payload-requires
 unfolding whole kind
-fill-run-requires c κs =
+copy-payload-requires c κs =
     let d = c .before .before .before in
     let h = leb-true _ _ (demanded (start d .pre)) in
     (h, run-room _ _ _ h (fields d .ready))
@@ -40,7 +40,7 @@ same-length c = search needs
 
 returns : tie.Need-returns
 unfolding kind
-returns c = fill-last (fields (c .before .before .before .before .before .before)) (c .before .before .fill-run .ensures)
+returns c = fill-last (fields (c .before .before .before .before .before .before)) (c .before .before .copy-payload .ensures)
 
 pub fill-spec : {M : Type 1} → statement M
-fill-spec = tie.close (tie.spec fill-fields-requires fill-run-requires same-length returns)
+fill-spec = tie.close (tie.spec fill-fields-requires copy-payload-requires same-length returns)

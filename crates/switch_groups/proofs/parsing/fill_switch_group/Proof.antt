@@ -28,14 +28,14 @@ members-of-requires c κs = search needs
 add-begins : tie.Need-add-begins
 add-begins c = search needs
 
-cast-fill-members : tie.Need-cast-fill-members
-cast-fill-members c = search needs
+cast-fill-pairs : tie.Need-cast-fill-pairs
+cast-fill-pairs c = search needs
 
-mul-fill-members : tie.Need-mul-fill-members
-mul-fill-members c = search needs
+mul-fill-pairs : tie.Need-mul-fill-pairs
+mul-fill-pairs c = search needs
 
-fill-members-requires : tie.Need-fill-members-requires
-fill-members-requires c κs =
+fill-pairs-requires : tie.Need-fill-pairs-requires
+fill-pairs-requires c κs =
     members-ask _ _ _ _ (c .before .before .before .before .before .before .before .before .pre) (c .before .before .wide2 .ensures) (c .before .members-of .ensures .0)
 
 cast-last : tie.Need-cast-last
@@ -65,7 +65,7 @@ same-length c = search needs
 
 returns : tie.Need-returns
 returns c =
-    switch-filled _ _ _ _ (c .before .before .before .before .before .before .before .before .before .before .before .before .before .before .pre) (c .before .before .before .before .before .before .before .before .wide2 .ensures) (c .before .before .before .before .before .before .before .members-of .ensures .0) (c .before .before .before .before .before .before .before .before .before .before .wide .ensures) (c .before .wide3 .ensures) (c .switch-group-from .ensures) (c .before .before .before .before .before .fill-members .ensures)
+    switch-filled _ _ _ _ (c .before .before .before .before .before .before .before .before .before .before .before .before .before .before .pre) (c .before .before .before .before .before .before .before .before .wide2 .ensures) (c .before .before .before .before .before .before .before .members-of .ensures .0) (c .before .before .before .before .before .before .before .before .before .before .wide .ensures) (c .before .wide3 .ensures) (c .switch-group-from .ensures) (c .before .before .before .before .before .fill-pairs .ensures)
 
 pub fill-switch-group-spec : {M : Type 1} → statement M
 fill-switch-group-spec =
@@ -78,9 +78,9 @@ fill-switch-group-spec =
     wide-requires-2
     members-of-requires
     add-begins
-    cast-fill-members
-    mul-fill-members
-    fill-members-requires
+    cast-fill-pairs
+    mul-fill-pairs
+    fill-pairs-requires
     cast-last
     add-last
     cast-switch-group-from

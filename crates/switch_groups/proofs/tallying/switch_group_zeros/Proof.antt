@@ -34,8 +34,8 @@ cast-count c = search needs
 add-begins : tie.Need-add-begins
 add-begins c = search needs
 
-members-zeros-requires : tie.Need-members-zeros-requires
-members-zeros-requires c κs =
+pairs-zeros-requires : tie.Need-pairs-zeros-requires
+pairs-zeros-requires c κs =
     (two-known _ _ (c .before .before .before .before .before .before .pre .0) (c .before .before .before .before .before .before .pre .1), members-known _ _ (c .before .before .before .before .before .before .pre .0) (c .before .before .before .before .before .before .pre .1) (c .before .wide2 .ensures) (c .members-of .ensures .0), c .members-of .ensures .1)
 
 add-last : tie.Need-add-last
@@ -80,7 +80,7 @@ add-t14 c = search needs
 
 returns : tie.Need-returns
 returns c =
-    (switch-tallied _ _ (c .before .before .before .before .before .before .before .before .before .before .before .before .before .before .before .pre .0) (c .before .before .before .before .before .before .before .before .before .before .before .before .before .before .before .pre .1) (c .before .before .before .before .before .before .before .before .before .before .wide2 .ensures) (c .before .before .before .before .before .before .before .before .before .members-of .ensures .0) (c .before .before .before .before .before .before .before .before .before .before .before .before .wide .ensures) (c .before .before .before .before .before .before .wide3 .ensures) (λ i. (c .before .before .before .before .idle-bits .ensures ∙ ap (zeros 1) (c .before .before .before .before .before .part .ensures)) i + (c .before .before .idle-bits2 .ensures ∙ ap (zeros 3) (c .before .before .before .part2 .ensures)) i + (c .idle-bits3 .ensures ∙ ap (zeros 1) (c .before .part3 .ensures)) i) (c .before .before .before .before .before .before .before .before .members-zeros .ensures .0) refl, omega (arith, c .before .before .before .before .before .before .before .before .members-zeros .ensures .1, c .before .before .before .before .before .before .before .before .before .members-of .ensures .1))
+    (switch-tallied _ _ (c .before .before .before .before .before .before .before .before .before .before .before .before .before .before .before .pre .0) (c .before .before .before .before .before .before .before .before .before .before .before .before .before .before .before .pre .1) (c .before .before .before .before .before .before .before .before .before .before .wide2 .ensures) (c .before .before .before .before .before .before .before .before .before .members-of .ensures .0) (c .before .before .before .before .before .before .before .before .before .before .before .before .wide .ensures) (c .before .before .before .before .before .before .wide3 .ensures) (λ i. (c .before .before .before .before .idle-bits .ensures ∙ ap (zeros 1) (c .before .before .before .before .before .part .ensures)) i + (c .before .before .idle-bits2 .ensures ∙ ap (zeros 3) (c .before .before .before .part2 .ensures)) i + (c .idle-bits3 .ensures ∙ ap (zeros 1) (c .before .part3 .ensures)) i) (c .before .before .before .before .before .before .before .before .pairs-zeros .ensures .0) refl, omega (arith, c .before .before .before .before .before .before .before .before .pairs-zeros .ensures .1, c .before .before .before .before .before .before .before .before .before .members-of .ensures .1))
 
 pub switch-group-zeros-spec : {M : Type 1} → statement M
 switch-group-zeros-spec =
@@ -94,7 +94,7 @@ switch-group-zeros-spec =
     members-of-requires
     cast-count
     add-begins
-    members-zeros-requires
+    pairs-zeros-requires
     add-last
     shared-slice-read-wide-3
     wide-requires-3

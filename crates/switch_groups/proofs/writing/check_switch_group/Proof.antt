@@ -59,8 +59,8 @@ returns : tie.Need-returns
 returns c =
     front-stopped (c .before .before .before .before .before .before .before .before .before .before .before .before .before .args .members .now) (c .before .before .before .before .before .before .before .before .before .before .before .before .before .args .g) (before-all (c .before .before)) (c .enum-told .given .1)
 
-check-members-requires : tie.Need-check-members-requires
-check-members-requires c κs =
+check-pairs-requires : tie.Need-check-pairs-requires
+check-pairs-requires c κs =
     (front-behind (c .before .before .before .before .before .before .before .before .before .before .before .before .before .before .args .members .now) (c .before .before .before .before .before .before .before .before .before .before .before .before .before .before .args .g) (before-all (c .before .before .before)) (c .before .p3 .given .1) .inside, omega (arith, front-near (c .before .before .before .before .before .before .before .before .before .before .before .before .before .before .args .members .now) (c .before .before .before .before .before .before .before .before .before .before .before .before .before .before .args .g) (before-all (c .before .before .before)) (c .before .p3 .given .1)))
 
 default-bytes-requires : tie.Need-default-bytes-requires
@@ -71,11 +71,11 @@ slice-aggregate-check-all-2 c = search needs
 
 check-all-requires-2 : tie.Need-check-all-requires-2
 check-all-requires-2 c κs =
-    let h = front-behind (c .before .before .before .before .before .before .before .before .before .before .before .before .before .before .before .before .before .args .members .now) (c .before .before .before .before .before .before .before .before .before .before .before .before .before .before .before .before .before .args .g) (before-all (c .before .before .before .before .before .before)) (c .before .before .before .before .p3 .given .1) .few in (omega (arith, h, c .before .before .check-members .ensures .near, front-near (c .before .before .before .before .before .before .before .before .before .before .before .before .before .before .before .before .before .args .members .now) (c .before .before .before .before .before .before .before .before .before .before .before .before .before .before .before .before .before .args .g) (before-all (c .before .before .before .before .before .before)) (c .before .before .before .before .p3 .given .1)), omega arith)
+    let h = front-behind (c .before .before .before .before .before .before .before .before .before .before .before .before .before .before .before .before .before .args .members .now) (c .before .before .before .before .before .before .before .before .before .before .before .before .before .before .before .before .before .args .g) (before-all (c .before .before .before .before .before .before)) (c .before .before .before .before .p3 .given .1) .few in (omega (arith, h, c .before .before .check-pairs .ensures .near, front-near (c .before .before .before .before .before .before .before .before .before .before .before .before .before .before .before .before .before .args .members .now) (c .before .before .before .before .before .before .before .before .before .before .before .before .before .before .before .before .before .args .g) (before-all (c .before .before .before .before .before .before)) (c .before .before .before .before .p3 .given .1)), omega arith)
 
 returns-2 : tie.Need-returns-2
 returns-2 c =
-    row-checked (c .before .before .before .before .before .before .before .before .before .before .before .before .before .before .before .before .before .before .args .members .now) (c .before .before .before .before .before .before .before .before .before .before .before .before .before .before .before .before .before .before .args .g) (before-all (c .before .before .before .before .before .before .before)) (c .before .before .before .before .before .p3 .given .1) (c .before .before .before .check-members .ensures) (c .before .before .default-bytes .ensures) (c .check-all2 .ensures)
+    row-checked (c .before .before .before .before .before .before .before .before .before .before .before .before .before .before .before .before .before .before .args .members .now) (c .before .before .before .before .before .before .before .before .before .before .before .before .before .before .before .before .before .before .args .g) (before-all (c .before .before .before .before .before .before .before)) (c .before .before .before .before .before .p3 .given .1) (c .before .before .before .check-pairs .ensures) (c .before .before .default-bytes .ensures) (c .check-all2 .ensures)
 
 pub check-switch-group-spec : {M : Type 1} → statement M
 check-switch-group-spec =
@@ -93,7 +93,7 @@ check-switch-group-spec =
     enum-known-p3
     enum-told
     returns
-    check-members-requires
+    check-pairs-requires
     default-bytes-requires
     slice-aggregate-check-all-2
     check-all-requires-2

@@ -15,8 +15,8 @@ fill-all-requires : tie.Need-fill-all-requires
 fill-all-requires c κs =
     head-ready (c .before .before .before .before .before .args .members .now) (c .before .before .before .before .before .args .g) (c .before .before .before .before .before .pre) (c .before .head-bytes .ensures)
 
-fill-members-requires : tie.Need-fill-members-requires
-fill-members-requires c κs =
+fill-pairs-requires : tie.Need-fill-pairs-requires
+fill-pairs-requires c κs =
     (row-ready (c .before .before .before .before .before .before .before .before .before .args .members .now) (c .before .before .before .before .before .before .before .before .before .args .g) (c .before .before .before .before .before .before .before .before .before .pre) .inside, members-ready (c .before .before .before .before .before .before .before .before .before .args .members .now) (c .before .before .before .before .before .before .before .before .before .args .g) (c .before .before .before .before .before .before .before .before .before .pre) (c .before .before .before .before .before .head-bytes .ensures) (c .before .before .before .fill-all .ensures))
 
 default-bytes-requires : tie.Need-default-bytes-requires
@@ -27,15 +27,15 @@ slice-aggregate-fill-all-2 c = search needs
 
 fill-all-requires-2 : tie.Need-fill-all-requires-2
 fill-all-requires-2 c κs =
-    default-ready (c .before .before .before .before .before .before .before .before .before .before .before .before .before .before .before .args .members .now) (c .before .before .before .before .before .before .before .before .before .before .before .before .before .before .before .args .g) (c .before .before .before .before .before .before .before .before .before .before .before .before .before .before .before .pre) (c .before .before .before .before .before .before .before .before .before .before .before .head-bytes .ensures) (c .before .before .before .before .before .before .before .before .before .fill-all .ensures) (c .before .before .before .before .before .fill-members .ensures) (c .before .default-bytes .ensures)
+    default-ready (c .before .before .before .before .before .before .before .before .before .before .before .before .before .before .before .args .members .now) (c .before .before .before .before .before .before .before .before .before .before .before .before .before .before .before .args .g) (c .before .before .before .before .before .before .before .before .before .before .before .before .before .before .before .pre) (c .before .before .before .before .before .before .before .before .before .before .before .head-bytes .ensures) (c .before .before .before .before .before .before .before .before .before .fill-all .ensures) (c .before .before .before .before .before .fill-pairs .ensures) (c .before .default-bytes .ensures)
 
 same-length : tie.Need-same-length
 same-length c =
-    filled-long (row-filled (c .before .before .before .before .before .before .before .before .before .before .before .before .before .before .before .before .before .before .args .members .now) (c .before .before .before .before .before .before .before .before .before .before .before .before .before .before .before .before .before .before .args .g) (c .before .before .before .before .before .before .before .before .before .before .before .before .before .before .before .before .before .before .pre) (c .before .before .before .before .before .before .before .before .before .before .before .before .before .before .head-bytes .ensures) (c .before .before .before .before .before .before .before .before .before .before .before .before .fill-all .ensures) (c .before .before .before .before .before .before .before .before .fill-members .ensures) (c .before .before .before .before .default-bytes .ensures) (c .before .before .fill-all2 .ensures))
+    filled-long (row-filled (c .before .before .before .before .before .before .before .before .before .before .before .before .before .before .before .before .before .before .args .members .now) (c .before .before .before .before .before .before .before .before .before .before .before .before .before .before .before .before .before .before .args .g) (c .before .before .before .before .before .before .before .before .before .before .before .before .before .before .before .before .before .before .pre) (c .before .before .before .before .before .before .before .before .before .before .before .before .before .before .head-bytes .ensures) (c .before .before .before .before .before .before .before .before .before .before .before .before .fill-all .ensures) (c .before .before .before .before .before .before .before .before .fill-pairs .ensures) (c .before .before .before .before .default-bytes .ensures) (c .before .before .fill-all2 .ensures))
 
 returns : tie.Need-returns
 returns c =
-    row-filled (c .before .before .before .before .before .before .before .before .before .before .before .before .before .before .before .before .before .before .args .members .now) (c .before .before .before .before .before .before .before .before .before .before .before .before .before .before .before .before .before .before .args .g) (c .before .before .before .before .before .before .before .before .before .before .before .before .before .before .before .before .before .before .pre) (c .before .before .before .before .before .before .before .before .before .before .before .before .before .before .head-bytes .ensures) (c .before .before .before .before .before .before .before .before .before .before .before .before .fill-all .ensures) (c .before .before .before .before .before .before .before .before .fill-members .ensures) (c .before .before .before .before .default-bytes .ensures) (c .before .before .fill-all2 .ensures)
+    row-filled (c .before .before .before .before .before .before .before .before .before .before .before .before .before .before .before .before .before .before .args .members .now) (c .before .before .before .before .before .before .before .before .before .before .before .before .before .before .before .before .before .before .args .g) (c .before .before .before .before .before .before .before .before .before .before .before .before .before .before .before .before .before .before .pre) (c .before .before .before .before .before .before .before .before .before .before .before .before .before .before .head-bytes .ensures) (c .before .before .before .before .before .before .before .before .before .before .before .before .fill-all .ensures) (c .before .before .before .before .before .before .before .before .fill-pairs .ensures) (c .before .before .before .before .default-bytes .ensures) (c .before .before .fill-all2 .ensures)
 
 pub fill-switch-group-spec : {M : Type 1} → statement M
 fill-switch-group-spec =
@@ -44,7 +44,7 @@ fill-switch-group-spec =
     head-bytes-requires
     slice-aggregate-fill-all
     fill-all-requires
-    fill-members-requires
+    fill-pairs-requires
     default-bytes-requires
     slice-aggregate-fill-all-2
     fill-all-requires-2

@@ -28,8 +28,8 @@ fits-all-requires-2 c κs = search needs
 cast-count : tie.Need-cast-count
 cast-count c = search needs
 
-plain-members-requires : tie.Need-plain-members-requires
-plain-members-requires c κs =
+plain-pairs-requires : tie.Need-plain-pairs-requires
+plain-pairs-requires c κs =
     row-behind (c .before .before .before .before .before .before .before .before .before .before .before .args .members .now) (c .before .before .before .before .before .before .before .before .before .before .before .args .g) (c .before .before .before .before .before .before .before .before .before .in-table .ensures) (c .before .before .before .before .before .before .before .head-bytes .ensures) (c .before .before .before .before .before .fits-all .ensures) (c .before .before .before .before .default-bytes .ensures) (c .before .before .fits-all2 .ensures) (c .before .if1 .taken) .inside
 
 add-result : tie.Need-add-result
@@ -37,11 +37,11 @@ add-result c = search needs
 
 returns : tie.Need-returns
 returns c =
-    row-plain (c .before .before .before .before .before .before .before .before .before .before .before .before .before .args .members .now) (c .before .before .before .before .before .before .before .before .before .before .before .before .before .args .g) (c .before .before .before .before .before .before .before .before .before .before .before .in-table .ensures) (c .before .before .before .before .before .before .before .before .before .head-bytes .ensures) (c .before .before .before .before .before .before .before .fits-all .ensures) (c .before .before .before .before .before .before .default-bytes .ensures) (c .before .before .before .before .fits-all2 .ensures) (c .before .before .before .if1 .taken) (c .before .plain-members .ensures) (c .if2 .taken)
+    row-plain (c .before .before .before .before .before .before .before .before .before .before .before .before .before .args .members .now) (c .before .before .before .before .before .before .before .before .before .before .before .before .before .args .g) (c .before .before .before .before .before .before .before .before .before .before .before .in-table .ensures) (c .before .before .before .before .before .before .before .before .before .head-bytes .ensures) (c .before .before .before .before .before .before .before .fits-all .ensures) (c .before .before .before .before .before .before .default-bytes .ensures) (c .before .before .before .before .fits-all2 .ensures) (c .before .before .before .if1 .taken) (c .before .plain-pairs .ensures) (c .if2 .taken)
 
 returns-2 : tie.Need-returns-2
 returns-2 c =
-    row-odd-kid (c .before .before .before .before .before .before .before .before .before .before .before .before .before .args .members .now) (c .before .before .before .before .before .before .before .before .before .before .before .before .before .args .g) (c .before .before .before .before .before .before .before .before .before .before .before .in-table .ensures) (c .before .before .before .before .before .before .before .before .before .head-bytes .ensures) (c .before .before .before .before .before .before .before .fits-all .ensures) (c .before .before .before .before .before .before .default-bytes .ensures) (c .before .before .before .before .fits-all2 .ensures) (c .before .before .before .if1 .taken) (c .before .plain-members .ensures) (c .if2 .left)
+    row-odd-kid (c .before .before .before .before .before .before .before .before .before .before .before .before .before .args .members .now) (c .before .before .before .before .before .before .before .before .before .before .before .before .before .args .g) (c .before .before .before .before .before .before .before .before .before .before .before .in-table .ensures) (c .before .before .before .before .before .before .before .before .before .head-bytes .ensures) (c .before .before .before .before .before .before .before .fits-all .ensures) (c .before .before .before .before .before .before .default-bytes .ensures) (c .before .before .before .before .fits-all2 .ensures) (c .before .before .before .if1 .taken) (c .before .plain-pairs .ensures) (c .if2 .left)
 
 returns-3 : tie.Need-returns-3
 returns-3 c =
@@ -59,7 +59,7 @@ plain-bytes-spec =
     slice-aggregate-fits-all-2
     fits-all-requires-2
     cast-count
-    plain-members-requires
+    plain-pairs-requires
     add-result
     returns
     returns-2

@@ -1,7 +1,7 @@
--- `parsing::member_at` meets its contract.
+-- `parsing::pair_at` meets its contract.
 use borrow.Author.Needs.{needs}
-use Rattle.switch_groups.proofs.parsing.member_at.Statement.{statement}
-use Rattle.switch_groups.proofs.parsing.member_at.Tie as tie
+use Rattle.pairs.proofs.parsing.pair_at.Statement.{statement}
+use Rattle.pairs.proofs.parsing.pair_at.Tie as tie
 
 shared-slice-read-wide : tie.Need-shared-slice-read-wide
 shared-slice-read-wide c = search needs
@@ -19,6 +19,6 @@ returns : tie.Need-returns
 returns c =
     rw (c .part2 .ensures, c .before .part .ensures, c .before .before .wide .ensures)
 
-pub member-at-spec : {M : Type 1} → statement M
-member-at-spec =
+pub pair-at-spec : {M : Type 1} → statement M
+pair-at-spec =
     tie.close (tie.spec shared-slice-read-wide wide-requires part-requires part-requires-2 returns)

@@ -1,0 +1,52 @@
+-- How many bytes a layout makes at most, whatever its columns are.
+use Prim.Native.Nat.{ℕ, _+_, _≤_}
+use mathlib.Core.Path.{_≡_, refl, ap, _∙_}
+use mathlib.Core.List.{List, [], _∷_, _++_, map}
+use mathlib.Core.Bool.{Bool, true, false}
+use native.Mathlib.Omega.{arith}
+use lib.ListN.{length, length-append}
+use lib.Dec.{leb}
+use borrow.Author.Tests.{leb-true, leb-false}
+use Rattle.wire.specs.Act.{Act, pick}
+use Rattle.wire.specs.Pen.{bytes}
+use Rattle.wire.specs.Layout.{Cell, Layout, end, line, word, choose, follows, judged, Columns, byteOf, writes}
+use Rattle.wire.proofs.Acts.{bytes-append}
+
+abbrev larger : ℕ → ℕ → ℕ
+larger a b = pick (leb a b) b a
+
+unfoldable pub most : Layout → ℕ
+most end = 0
+most (line css l) = length css + most l
+most (word k l) = 2 + most l
+most (choose k is p q l) = larger (most p) (most q) + most l
+most (follows c j t x l) = most l
+most (judged p l) = most p + most l
+
+larger-so : (a b : ℕ) → (a ≤ larger a b) × (b ≤ larger a b)
+larger-so a b = go (leb a b) refl
+  where
+    go : (x : Bool) → leb a b ≡ x → (a ≤ pick x b a) × (b ≤ pick x b a)
+    go true e = let h = leb-true a b e in (omega arith, omega arith)
+    go false e = let h = leb-false a b e in (omega arith, omega arith)
+
+line-long : (g : Columns) (css : List (List Cell)) → length (bytes (map (byteOf g) css)) ≡ length css
+unfolding bytes
+line-long g [] = refl
+line-long g (cs ∷ css) = omega (arith, line-long g css)
+
+pub both-long : (a b : List Act) → length (bytes (a ++ b)) ≡ length (bytes a) + length (bytes b)
+both-long a b = ap length (bytes-append a b) ∙ length-append (bytes a) (bytes b)
+
+pub writes-most : (l : Layout) (g : Columns) → length (bytes (writes l g)) ≤ most l
+unfolding writes most bytes
+writes-most end g = omega arith
+writes-most (line css l) g = omega (arith, both-long (map (byteOf g) css) (writes l g), line-long g css, writes-most l g)
+writes-most (word k l) g = omega (arith, writes-most l g)
+writes-most (choose k is p q l) g = omega (arith, both-long (pick (is (g k)) (writes p g) (writes q g)) (writes l g), one (is (g k)) (writes-most p g) (writes-most q g), writes-most l g)
+  where
+    one : (b : Bool) → length (bytes (writes p g)) ≤ most p → length (bytes (writes q g)) ≤ most q → length (bytes (pick b (writes p g) (writes q g))) ≤ larger (most p) (most q)
+    one true x y = omega (arith, x, larger-so (most p) (most q) .0)
+    one false x y = omega (arith, y, larger-so (most p) (most q) .1)
+writes-most (follows c j t x l) g = writes-most l g
+writes-most (judged p l) g = omega (arith, both-long (writes p g) (writes l g), writes-most p g, writes-most l g)
