@@ -12,8 +12,8 @@ use borrow.Author.Tests.{eqb-true, eq-eqb, ne-eqb}
 use Rattle.wire.specs.Lists.{each}
 use Rattle.wire.specs.Bits.{part, split, total}
 use Rattle.wire.specs.Act.{pick}
-use Rattle.wire.specs.Layout.{num, reserved, put, set, row, blank, has}
-use Rattle.wire.specs.Straight.{putsAt, took, taken}
+use Rattle.wire.specs.Layout.{num, reserved, Columns, put, set, row, blank, has}
+use Rattle.wire.specs.Straight.{ones, putsAt, took, taken, spans}
 use Rattle.wire.proofs.Fields.{part-below}
 use Rattle.scopes.specs.Layout.{caseOf, caseAt, ids, scope}
 use Rattle.scopes.specs.Rows.{idBytes, scopeRow, scopeAt}
@@ -31,7 +31,7 @@ has-end k l i h = rw (drop-of-length-le l h) refl
 
 -- ---- the case of a type
 
-case-at : (types : List ℕ) (k : ℕ) → k < 4 → caseAt types k ≡ caseOf types k
+pub case-at : (types : List ℕ) (k : ℕ) → k < 4 → caseAt types k ≡ caseOf types k
 unfolding each
 case-at types zero h = refl
 case-at types (suc zero) h = refl
@@ -95,3 +95,20 @@ scope-taken types s at = subst (λ (v : ℕ). of-case v ≡ as-case v) (sym (cas
     go true y e = refl
     go false true e = ap (λ (k : ℕ). part 2 6 (getD s at 0) ∷ 2 ∷ k ∷ part 5 3 (getD s (at + 1) 0) ∷ part 0 5 (getD s (at + 1) 0) ∷ []) (eqb-true kind 3 e)
     go false false e = refl
+
+-- ---- the sizes: the type, and the ID where it has one
+
+pub scope-spans : (types : List ℕ) (f : Columns) (s : List ℕ) (at : ℕ) → spans (scope types) f s at ≡ ones (1 + idBytes types (part 0 2 (getD s at 0)))
+unfolding scope took putsAt put split total ones
+scope-spans types f s at = subst (λ (v : ℕ). 1 ∷ of-case v ≡ ones (1 + pick (eqb v 0) 0 1)) (sym (case-at types kind (part-below 0 2 (getD s at 0)))) (go (has kind types) (eqb kind 3))
+  where
+    kind : ℕ
+    kind = part 0 2 (getD s at 0)
+
+    of-case : ℕ → List ℕ
+    of-case v = took ids (set 1 v (putsAt ((reserved 6 0 ∷ num 2 2 ∷ []) ∷ []) s at 0 f)) s at 1 .1
+
+    go : (x y : Bool) → 1 ∷ of-case (pick x 1 (pick y 2 0)) ≡ ones (1 + pick (eqb (pick x 1 (pick y 2 0)) 0) 0 1)
+    go true y = refl
+    go false true = refl
+    go false false = refl

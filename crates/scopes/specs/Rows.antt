@@ -5,17 +5,38 @@ use lib.ListN.{getD}
 use lib.Dec.{eqb}
 use Rattle.wire.specs.Bits.{part}
 use Rattle.wire.specs.Act.{pick}
+use Rattle.wire.specs.Layout.{Columns, set}
 use Rattle.scopes.specs.Layout.{caseAt}
 use Rattle.scopes.specs.declared.parsing.Typed.{Typed}
 use Rattle.scopes.specs.declared.rows.DrcScope.{DrcScope}
 use Rattle.scopes.specs.declared.rows.DrcScope.the-variants.{Plain, Group, Preset, Unknown}
 
--- case, kind, reserved, ID
+abbrev pub caseIs : DrcScope → ℕ
+caseIs (Plain k) = 0
+caseIs (Group k r i) = 1
+caseIs (Preset r i) = 2
+caseIs Unknown = 3
+
+abbrev pub kindIs : DrcScope → ℕ
+kindIs (Plain k) = k
+kindIs (Group k r i) = k
+kindIs (Preset r i) = 3
+kindIs Unknown = 0
+
+abbrev pub reservedIs : DrcScope → ℕ
+reservedIs (Plain k) = 0
+reservedIs (Group k r i) = r
+reservedIs (Preset r i) = r
+reservedIs Unknown = 0
+
+abbrev pub idIs : DrcScope → ℕ
+idIs (Plain k) = 0
+idIs (Group k r i) = i .0
+idIs (Preset r i) = i .0
+idIs Unknown = 0
+
 abbrev pub scopeRow : DrcScope → List ℕ
-scopeRow (Plain k) = 0 ∷ k ∷ 0 ∷ 0 ∷ []
-scopeRow (Group k r i) = 1 ∷ k ∷ r ∷ i .0 ∷ []
-scopeRow (Preset r i) = 2 ∷ 3 ∷ r ∷ i .0 ∷ []
-scopeRow Unknown = 3 ∷ 0 ∷ 0 ∷ 0 ∷ []
+scopeRow s = caseIs s ∷ kindIs s ∷ reservedIs s ∷ idIs s ∷ []
 
 -- the scope of such columns
 abbrev pub scopeIs : (case kind reserved id : ℕ) → DrcScope
@@ -24,6 +45,13 @@ scopeIs c k r i = pick (eqb c 0) (Plain k) (pick (eqb c 1) (Group k r (record { 
 -- of the four columns of a table from b on
 abbrev pub scopeOf : List ℕ → ℕ → DrcScope
 scopeOf t b = scopeIs (getD t b 0) (getD t (b + 1) 0) (getD t (b + 2) 0) (getD t (b + 3) 0)
+
+-- A row whose columns 1 to 4 are a scope, as writing reads it: through the scope that they make. So a plain scope's reserved bits and ID, a preset's kind, and
+-- all but the case where that is above 2, are not read.
+abbrev pub scoped : Columns → Columns
+scoped g =
+    let s = scopeIs (g 1) (g 2) (g 3) (g 4) in
+    set 1 (caseIs s) (set 2 (kindIs s) (set 3 (reservedIs s) (set 4 (idIs s) g)))
 
 -- the bytes of an ID behind a type
 abbrev pub idBytes : List ℕ → ℕ → ℕ

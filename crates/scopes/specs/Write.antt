@@ -6,7 +6,7 @@ use Rattle.wire.specs.Bits.{Field, field}
 use Rattle.wire.specs.Act.{Act}
 use Rattle.wire.specs.Layout.{end, judged, _▹_, Columns, of, writes, matches}
 use Rattle.scopes.specs.Layout.{scope}
-use Rattle.scopes.specs.Rows.{scopeRow}
+use Rattle.scopes.specs.Rows.{caseIs, kindIs, scopeRow}
 use Rattle.scopes.specs.declared.rows.DrcScope.{DrcScope}
 use Rattle.scopes.specs.declared.rows.DrcScope.the-variants.{Plain, Group, Preset, Unknown}
 
@@ -22,18 +22,6 @@ abbrev pub scopeActs : List ℕ → ℕ → DrcScope → List Act
 scopeActs types rt s = matches (scope types) (scopeCols rt s) ++ writes (judged (scope types) ▹ end) (scopeCols rt s)
 
 -- ---- in parts: the type that is written, and the fields of the ID byte
-
-abbrev pub caseIs : DrcScope → ℕ
-caseIs (Plain k) = 0
-caseIs (Group k r i) = 1
-caseIs (Preset r i) = 2
-caseIs Unknown = 3
-
-abbrev pub kindIs : DrcScope → ℕ
-kindIs (Plain k) = k
-kindIs (Group k r i) = k
-kindIs (Preset r i) = 3
-kindIs Unknown = 0
 
 abbrev pub hasId : DrcScope → Bool
 hasId (Plain k) = false

@@ -2,10 +2,11 @@
 ghost use mathlib.Core.Path.{_≡_};
 ghost use Prim.Native.Nat.{_<_, _^_};
 ghost use lib.Dec.{eqb};
-ghost use Rattle.wire.specs.Pen.{reach, Checked, Ready, Filled};
+ghost use Rattle.wire.specs.Pen.{reach, Checked, Quick, Ready, Filled};
 ghost use Rattle.wire.specs.Spell.{Spells};
 ghost use Rattle.scopes.specs.Layout.{caseAt};
-ghost use Rattle.scopes.specs.Write.{scopeActs, scopeBytes, caseIs, kindIs, hasId, typeFields, idFields};
+ghost use Rattle.scopes.specs.Rows.{caseIs, kindIs};
+ghost use Rattle.scopes.specs.Write.{scopeActs, scopeBytes, hasId, typeFields, idFields};
 use super::parsing::case_of;
 use super::rows::DrcScope;
 use wire::pen;
@@ -88,6 +89,19 @@ pub fn check_scope(p: Pen, reserved_type: u16, scope: DrcScope, types: &[u16]) -
     let p1 = pen::demand(p0, Fault::Field, fits_all(&[kind, id]));
     let p2 = check_all(p1, true, &[kind]);
     check_all(p2, has_id(scope), &[id])
+}
+
+// How many bytes it makes, or 0 if it has a fault.
+pub fn plain_scope(reserved_type: u16, scope: DrcScope, types: &[u16]) -> usize
+    ensures { λ r. ⌜ Quick (scopeActs (now (types .entry)) «reserved_type» scope) 2 r ⌝ }
+{
+    let kind = type_byte(reserved_type, scope);
+    let id = id_byte(scope);
+    if agrees(scope, types) & fits_all(&[kind, id]) {
+        if has_id(scope) { 2 } else { 1 }
+    } else {
+        0
+    }
 }
 
 // Its bytes.

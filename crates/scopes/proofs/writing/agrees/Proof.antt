@@ -2,7 +2,7 @@
 use mathlib.Core.Path.{sym, ap, _∙_}
 use lib.Dec.{eqb}
 use Rattle.scopes.specs.Layout.{caseAt}
-use Rattle.scopes.specs.Write.{caseIs}
+use Rattle.scopes.specs.Rows.{caseIs}
 use borrow.Author.Needs.{needs}
 use Rattle.scopes.proofs.writing.agrees.Statement.{statement}
 use Rattle.scopes.proofs.writing.agrees.Tie as tie

@@ -30,7 +30,8 @@ returns-3 c =
     ap scopeRow (sym (c .before .self3 .given .1))
 
 returns-4 : tie.Need-returns-4
-returns-4 c = search needs
+returns-4 c =
+    ap scopeRow (sym (c .enum-told .given .1))
 
 pub columns-spec : {M : Type 1} → statement M
 columns-spec =

@@ -1,0 +1,72 @@
+-- `writing::plain_rows` meets its contract: the plain rows passed, and their bytes.
+use Prim.Native.Nat.{_-_}
+use native.Mathlib.Omega.{arith}
+use Rattle.wire.proofs.Plain.{Going, going-start, going-turn, going-odd, going-end}
+use Rattle.instruction_writing.specs.Write.{rowActs}
+use Rattle.instruction_writing.proofs.Writes.{row-quick}
+use borrow.Author.Needs.{needs}
+use Rattle.instruction_writing.proofs.writing.plain_rows.Statement.{statement}
+use Rattle.instruction_writing.proofs.writing.plain_rows.Tie as tie
+
+abbrev Inv-loop : tie.InvT-loop
+Inv-loop instructions additional count bytes₀ i₀ bytes i = Going (rowActs instructions additional) 18 count i bytes
+
+abbrev μ-loop : tie.MeasureT-loop
+μ-loop instructions additional count bytes₀ i₀ bytes i = count - i
+
+loop-holds : tie.Need-loop-holds Inv-loop μ-loop
+loop-holds c =
+    going-start _ 18 _
+
+mul-of-columns : tie.Need-mul-of-columns Inv-loop μ-loop
+mul-of-columns c =
+    search needs
+
+of-columns-requires : tie.Need-of-columns-requires Inv-loop μ-loop
+of-columns-requires c κs =
+    omega arith
+
+plain-bytes-requires : tie.Need-plain-bytes-requires Inv-loop μ-loop
+plain-bytes-requires c κs =
+    search needs
+
+returns : tie.Need-returns Inv-loop μ-loop
+returns c =
+    going-odd (c .before .before .before .before .loop .inv) (row-quick (c .before .before .before .before .before .before .before .args .instructions .now) (c .before .before .before .before .before .before .before .args .additional .now) (c .before .before .before .before .loop .i) (c .before .before .of-columns .ensures) (c .before .plain-bytes .ensures)) (c .if1 .taken)
+
+add-bytes : tie.Need-add-bytes Inv-loop μ-loop
+add-bytes c =
+    let q = row-quick (c .before .before .before .before .before .before .before .args .instructions .now) (c .before .before .before .before .before .before .before .args .additional .now) (c .before .before .before .before .loop .i) (c .before .before .of-columns .ensures) (c .before .plain-bytes .ensures) in let l = c .if1 .left in omega (arith, going-turn (c .before .before .before .before .loop .inv) q (c .before .before .before .loop-test .taken) (omega (arith, l)) .few, c .before .before .before .loop-test .taken, c .before .before .before .before .before .before .before .pre .1)
+
+add-i : tie.Need-add-i Inv-loop μ-loop
+add-i c =
+    search needs
+
+loop-less : tie.Need-loop-less Inv-loop μ-loop
+loop-less c =
+    search needs
+
+loop-again : tie.Need-loop-again Inv-loop μ-loop
+loop-again c =
+    going-turn (c .before .before .before .before .loop .inv) (row-quick (c .before .before .before .before .before .before .before .args .instructions .now) (c .before .before .before .before .before .before .before .args .additional .now) (c .before .before .before .before .loop .i) (c .before .before .of-columns .ensures) (c .before .plain-bytes .ensures)) (c .before .before .before .loop-test .taken) (let l = c .if1 .left in omega (arith, l))
+
+returns-2 : tie.Need-returns-2 Inv-loop μ-loop
+returns-2 c =
+    going-end (c .before .loop .inv) (c .loop-test .left)
+
+pub plain-rows-spec : {M : Type 1} → statement M
+plain-rows-spec =
+    tie.close
+    (tie.spec
+    Inv-loop
+    μ-loop
+    loop-holds
+    mul-of-columns
+    of-columns-requires
+    plain-bytes-requires
+    returns
+    add-bytes
+    add-i
+    loop-less
+    loop-again
+    returns-2)

@@ -1,0 +1,158 @@
+-- `parsing::instruction_at` meets its contract: where the additional IDs begin follows from the type byte, and what stands behind them from the byte before them.
+use Prim.Native.Nat.{_+_, _≤_}
+use mathlib.Core.Path.{_≡_}
+use native.Mathlib.Omega.{arith}
+use lib.ListN.{length}
+use Rattle.wire.specs.Bits.{total}
+use Rattle.wire.specs.Layout.{blank}
+use Rattle.wire.specs.Straight.{spans}
+use Rattle.instructions.specs.Layout.{settings}
+use Rattle.instructions.proofs.Taken.{idOf, settings-total, begins-are, settings-there, effect-there, instruction-taken}
+use borrow.Author.Needs.{needs}
+use Rattle.instructions.proofs.parsing.instruction_at.Statement.{statement}
+use Rattle.instructions.proofs.parsing.instruction_at.Tie as tie
+
+abbrev start : tie.After-id-bytes → tie.Start
+start c = c .before .before .before .before .before .before
+
+-- where the additional IDs begin
+begins-so : (c : tie.After-id-bytes) → start c .args .at + 4 + c .id-bytes .result ≡ start c .args .at + total (spans settings blank (start c .args .body .now) (start c .args .at))
+begins-so c = begins-are _ _ (c .before .before .wide .ensures) (c .before .part .ensures) (c .id-bytes .ensures .0)
+
+there : (c : tie.Start) → c .args .at + (1 + (idOf (c .args .body .now) (c .args .at) + 3)) ≤ length (c .args .body .now)
+there c = settings-there _ _ (c .pre .0) (c .pre .1)
+
+before-ids : (c : tie.After-id-bytes) → start c .args .at + 4 + c .id-bytes .result ≤ length (start c .args .body .now)
+before-ids c = omega (arith, there (start c), begins-so c, settings-total (start c .args .body .now) (start c .args .at))
+
+add-begins : tie.Need-add-begins
+add-begins c = search needs
+
+slice-aggregate-id-bytes : tie.Need-slice-aggregate-id-bytes
+slice-aggregate-id-bytes c = search needs
+
+shared-slice-read-wide : tie.Need-shared-slice-read-wide
+shared-slice-read-wide c =
+    omega (arith, there (c .before .before .before))
+
+wide-requires : tie.Need-wide-requires
+wide-requires c κs = search needs
+
+part-requires : tie.Need-part-requires
+part-requires c κs = search needs
+
+id-bytes-requires : tie.Need-id-bytes-requires
+id-bytes-requires c κs = search needs
+
+add-begins-2 : tie.Need-add-begins-2
+add-begins-2 c = search needs
+
+sub-wide : tie.Need-sub-wide
+sub-wide c = search needs
+
+shared-slice-read-wide-2 : tie.Need-shared-slice-read-wide-2
+shared-slice-read-wide-2 c =
+    omega (arith, before-ids (c .before))
+
+wide-requires-2 : tie.Need-wide-requires-2
+wide-requires-2 c κs = search needs
+
+sub-wide-2 : tie.Need-sub-wide-2
+sub-wide-2 c = search needs
+
+shared-slice-read-wide-3 : tie.Need-shared-slice-read-wide-3
+shared-slice-read-wide-3 c =
+    omega (arith, before-ids (c .before .before .before))
+
+wide-requires-3 : tie.Need-wide-requires-3
+wide-requires-3 c κs = search needs
+
+sub-wide-3 : tie.Need-sub-wide-3
+sub-wide-3 c = search needs
+
+shared-slice-read-wide-4 : tie.Need-shared-slice-read-wide-4
+shared-slice-read-wide-4 c =
+    omega (arith, before-ids (c .before .before .before .before .before))
+
+wide-requires-4 : tie.Need-wide-requires-4
+wide-requires-4 c κs = search needs
+
+part-requires-2 : tie.Need-part-requires-2
+part-requires-2 c κs = search needs
+
+cast-effect-at : tie.Need-cast-effect-at
+cast-effect-at c = search needs
+
+add-effect-at : tie.Need-add-effect-at
+add-effect-at c = search needs
+
+part-requires-3 : tie.Need-part-requires-3
+part-requires-3 c κs = search needs
+
+part-requires-4 : tie.Need-part-requires-4
+part-requires-4 c κs = search needs
+
+effect-at-requires : tie.Need-effect-at-requires
+effect-at-requires c κs =
+    effect-there _ _ (c .before .before .before .before .before .before .before .before .before .before .before .before .before .before .before .pre .0) (c .before .before .before .before .before .before .before .before .before .before .before .before .before .before .before .pre .1) (begins-so (c .before .before .before .before .before .before .before .before .before)) (c .before .before .before .wide4 .ensures) (c .before .before .part2 .ensures) (c .before .part3 .ensures) (c .part4 .ensures)
+
+slice-aggregate-scope-at : tie.Need-slice-aggregate-scope-at
+slice-aggregate-scope-at c = search needs
+
+scope-at-requires : tie.Need-scope-at-requires
+scope-at-requires c κs =
+    omega (arith, there (c .before .before .before .before .before .before .before .before .before .before .before .before .before .before .before .before .before))
+
+part-requires-5 : tie.Need-part-requires-5
+part-requires-5 c κs = search needs
+
+part-requires-6 : tie.Need-part-requires-6
+part-requires-6 c κs = search needs
+
+part-requires-7 : tie.Need-part-requires-7
+part-requires-7 c κs = search needs
+
+part-requires-8 : tie.Need-part-requires-8
+part-requires-8 c κs = search needs
+
+part-requires-9 : tie.Need-part-requires-9
+part-requires-9 c κs = search needs
+
+returns : tie.Need-returns
+returns c =
+    (rw (c .before .before .before .before .part5 .ensures, c .before .before .before .part6 .ensures, c .before .before .part7 .ensures, c .before .part8 .ensures, c .part9 .ensures) (instruction-taken _ _ (c .before .before .before .before .before .before .before .before .before .before .before .before .before .before .before .before .before .before .before .before .before .before .before .before .before .pre .0) (c .before .before .before .before .before .before .before .before .before .before .before .before .before .before .before .before .before .before .before .before .before .before .before .before .before .pre .1) (begins-so (c .before .before .before .before .before .before .before .before .before .before .before .before .before .before .before .before .before .before .before)) (c .before .before .before .before .before .before .before .before .before .before .before .before .before .wide4 .ensures) (c .before .before .before .before .before .before .before .before .before .before .before .before .part2 .ensures) (c .before .before .before .before .before .before .before .before .before .before .before .part3 .ensures) (c .before .before .before .before .before .before .before .before .before .before .part4 .ensures) _ (c .before .before .before .before .before .before .before .scope-at .ensures) (c .before .before .before .before .before .before .before .before .before .before .before .before .before .before .before .before .before .wide2 .ensures) (c .before .before .before .before .before .before .before .before .before .before .before .before .before .before .before .wide3 .ensures) (c .before .before .before .before .before .before .before .before .before .effect-at .ensures .0) (c .before .before .before .before .before .before .before .before .before .effect-at .ensures .1)), begins-so (c .before .before .before .before .before .before .before .before .before .before .before .before .before .before .before .before .before .before .before))
+
+pub instruction-at-spec : {M : Type 1} → statement M
+instruction-at-spec =
+    tie.close
+    (tie.spec
+    add-begins
+    slice-aggregate-id-bytes
+    shared-slice-read-wide
+    wide-requires
+    part-requires
+    id-bytes-requires
+    add-begins-2
+    sub-wide
+    shared-slice-read-wide-2
+    wide-requires-2
+    sub-wide-2
+    shared-slice-read-wide-3
+    wide-requires-3
+    sub-wide-3
+    shared-slice-read-wide-4
+    wide-requires-4
+    part-requires-2
+    cast-effect-at
+    add-effect-at
+    part-requires-3
+    part-requires-4
+    effect-at-requires
+    slice-aggregate-scope-at
+    scope-at-requires
+    part-requires-5
+    part-requires-6
+    part-requires-7
+    part-requires-8
+    part-requires-9
+    returns)

@@ -1,0 +1,61 @@
+-- `tallying::tally_instructions` meets its contract: what is summed up, and what is left, come to the whole.
+use mathlib.Core.Path.{sym}
+use native.Mathlib.Omega.{arith}
+use Rattle.wire.specs.Layout.{familyTally}
+use Rattle.wire.specs.Prog.{run}
+use Rattle.wire.proofs.Walk.{as-done}
+use Rattle.wire.proofs.Loops.{first-done}
+use Rattle.wire.proofs.Adding.{Adding, adding-start, adding-turn, adding-end}
+use Rattle.instructions.specs.Layout.{additional, instruction, instructions}
+use borrow.Author.Needs.{needs}
+use Rattle.instructions.proofs.tallying.tally_instructions.Statement.{statement}
+use Rattle.instructions.proofs.tallying.tally_instructions.Tie as tie
+
+abbrev Inv-loop : tie.InvT-loop
+Inv-loop body at count pos₀ left₀ zeros₀ pos left zeros = Adding instructions (familyTally instruction additional) 26 body at count pos left zeros
+
+abbrev μ-loop : tie.MeasureT-loop
+μ-loop body at count pos₀ left₀ zeros₀ pos left zeros = left
+
+loop-holds : tie.Need-loop-holds Inv-loop μ-loop
+loop-holds c =
+    adding-start instructions _ 26 _ _ _ (c .before .pre .0) (c .before .pre .1)
+
+instruction-zeros-requires : tie.Need-instruction-zeros-requires Inv-loop μ-loop
+instruction-zeros-requires c κs =
+    (c .before .loop .inv .inside, first-done instructions _ _ _ (c .loop-test .taken) (c .before .loop .inv .sound))
+
+add-zeros : tie.Need-add-zeros Inv-loop μ-loop
+add-zeros c =
+    omega (arith, c .before .instruction-zeros .ensures .1, c .before .before .before .loop .inv .small, c .before .before .loop-test .taken, c .before .before .before .before .before .pre .2)
+
+sub-left : tie.Need-sub-left Inv-loop μ-loop
+sub-left c =
+    search needs
+
+loop-less : tie.Need-loop-less Inv-loop μ-loop
+loop-less c =
+    search needs
+
+loop-again : tie.Need-loop-again Inv-loop μ-loop
+loop-again c =
+    let (x, e, q) = as-done (familyTally instruction additional) (run instructions _ _) (sym (c .before .instruction-zeros .ensures .0)) in
+    adding-turn instructions _ 26 _ _ _ (c .before .before .before .loop .inv) (c .before .before .loop-test .taken) (sym e) (sym q) (c .before .instruction-zeros .ensures .1)
+
+returns : tie.Need-returns Inv-loop μ-loop
+returns c =
+    adding-end instructions _ 26 _ _ _ (c .before .loop .inv) (c .loop-test .left)
+
+pub tally-instructions-spec : {M : Type 1} → statement M
+tally-instructions-spec =
+    tie.close
+    (tie.spec
+    Inv-loop
+    μ-loop
+    loop-holds
+    instruction-zeros-requires
+    add-zeros
+    sub-left
+    loop-less
+    loop-again
+    returns)
