@@ -1,0 +1,8 @@
+pub mod Format
+pub mod Laws
+pub mod Heeds
+pub mod Lawful
+pub mod Mirrored
+pub mod Claims
+pub mod Largest
+pub mod Bodies

@@ -1,0 +1,102 @@
+-- Filling the tables of a body whose lists were found: what the functions that fill ask for, and that they leave the rows of the tree.
+use Prim.Native.Nat.{ℕ, _+_, _*_, _≤_, _<_}
+use mathlib.Core.Path.{_≡_, refl, sym, ap, _∙_}
+use mathlib.Core.List.{List, [], _∷_, _++_, map-id, map, flatten, flatMap}
+use mathlib.Core.Bool.{true}
+use native.Mathlib.Omega.{arith}
+use lib.ListN.{length, drop, length-map}
+use lib.Seq.{sets, slice}
+use Rattle.wire.specs.Prog.{Out, done, run, many}
+use Rattle.wire.specs.Reads.{rowsOf, isDone}
+use Rattle.wire.specs.Nest.{Fillable, Nests}
+use Rattle.wire.specs.Layout.{flat, Borne, kids, brokenRow, borneRow}
+use Rattle.wire.proofs.Takes.{run-takes}
+use Rattle.wire.proofs.Tables.{flat-map}
+use Rattle.wire.proofs.Rowed.{parents-long}
+use Rattle.wire.proofs.Fronts.{front, Both, both}
+use Rattle.wire.proofs.Borne.{borne-wide}
+use Rattle.frame.specs.Entry.{needs, room, first, others, filled}
+use Rattle.frame.proofs.MoreRoom.{none-fit, fit-head}
+use Rattle.instructions.specs.Layout.{instruction, instructions}
+use Rattle.loudness.specs.Layout.{entry, entries}
+use Rattle.downmixes.specs.Layout.{downmix}
+use Rattle.drc_kind.specs.declared.rows.DrcLoudnessInfo.{DrcLoudnessInfo}
+use Rattle.drc_kind.specs.Rows.{tables}
+use Rattle.drc_kind.specs.Kind.{parse}
+use Rattle.drc_kind.proofs.Format.{instructionRows, entryRows}
+use Rattle.drc_kind.proofs.Laws.{Few, few}
+use Rattle.drc_loudness.specs.declared.parsing.Places.{Places}
+use Rattle.drc_loudness.specs.Walk.{rowsAt, Found, tree, Rooms, Stored}
+use Rattle.drc_loudness.proofs.Walked.{infoIn, found-reads}
+use Rattle.drc_loudness.proofs.Found.{instructions-counted, entries-counted, downmixes-counted, at-entries, at-downmixes}
+
+-- ---- the room of all tables
+
+module _ {s : List ℕ} {p : Places} (f : Found s p) (t₁ t₂ t₃ t₄ : List ℕ) (r : Rooms s p (t₁ ∷ t₂ ∷ t₃ ∷ t₄ ∷ [])) where
+  record Space : Type 0 where
+    instructions : length (f .in-instructions) * 24 ≤ length t₁
+    additional : length (kids (f .in-instructions)) * 2 ≤ length t₂
+    entries : length (f .in-entries) * 7 ≤ length t₃
+    downmixes : length (f .in-downmixes) * 4 ≤ length t₄
+
+  space : Space
+  unfolding needs tables room first others
+  space =
+      let h₁ = fit-head (none-fit (needs (tables (tree f))) (t₁ ∷ t₂ ∷ t₃ ∷ t₄ ∷ []) (r .has f)) in
+      let h₂ = fit-head (h₁ .1) in
+      let h₃ = fit-head (h₂ .1) in
+      let h₄ = fit-head (h₃ .1) in
+      record {
+        instructions = omega (arith, h₁ .0, parents-long instructionRows (f .in-instructions));
+        additional = omega (arith, h₂ .0);
+        entries = omega (arith, h₃ .0, length-map (f .in-entries) (borneRow entry));
+        downmixes = omega (arith, h₄ .0);
+      }
+
+  module _ {i : DrcLoudnessInfo} (e : i ≡ infoIn s) where
+    -- what is asked for before each list is stored, with the counts as code has them
+    pub instructions-ask : {at : ℕ} → at ≡ rowsAt s → length s < 65536 → Fillable (many (i .«drc_instructions») instructions) 2 (λ l. length (kids l)) s at 0 t₂ × (24 * i .«drc_instructions» ≤ length t₁)
+    instructions-ask q short = rw (q, e) (record { value = f .in-instructions; end = p .loudness; reads = f .instructions-read; begun = f .head; all = short; before = omega arith; room = omega (arith, space .additional) }, omega (arith, space .instructions, instructions-counted f))
+
+    pub entries-ask : length s < 65536 → (p .loudness ≤ length s) × (length s < 65536) × (isDone (run (many (i .«loudness_infos») entries) s (p .loudness)) ≡ true) × (7 * i .«loudness_infos» ≤ length t₃)
+    entries-ask short = rw e (at-entries f, short, ap isDone (f .entries-read), omega (arith, space .entries, entries-counted f))
+
+    pub downmixes-ask : (p .downmixes ≤ length s) × (isDone (run (many (i .«downmix_definitions») (flat 4 downmix)) s (p .downmixes)) ≡ true) × (4 * i .«downmix_definitions» ≤ length t₄)
+    downmixes-ask = rw e (at-downmixes f, ap isDone (f .downmixes-read), omega (arith, space .downmixes, downmixes-counted f))
+
+    -- ---- and what they leave
+
+    wide : Few (tree f) (slice 0 (p .k) s)
+    wide = few (tree f) (slice 0 (p .k) s) (run-takes parse s 0 (found-reads s p f) (omega arith))
+
+    instructions-stored : {at : ℕ} {t′ u′ : List ℕ} → at ≡ rowsAt s → Nests instructions (λ x. length (x .1)) (λ n x. brokenRow instruction (n, x)) (λ x. flatten (x .1)) s at (i .«drc_instructions») t₁ t₂ t′ u′
+        → Both instruction (f .in-instructions) t₁ t₂ t′ u′
+    instructions-stored q v = both instructionRows instructions {end = p .loudness} (f .in-instructions) t₁ t₂ v (rw (q, e) (f .instructions-read)) (wide .additional) (space .instructions) (space .additional)
+
+    entries-stored : {t′ : List ℕ} → t′ ≡ sets t₃ 0 (flatMap (borneRow entry) (rowsOf (run (many (i .«loudness_infos») entries) s (p .loudness)))) → t′ ≡ flatten (map (borneRow entry) (f .in-entries)) ++ drop (length (flatten (map (borneRow entry) (f .in-entries)))) t₃
+    entries-stored q =
+        let l = f .in-entries in
+        let n = space .entries in
+        q ∙ (λ j. sets t₃ 0 (flatMap (borneRow entry) (rowsOf (run (many (e j .«loudness_infos») entries) s (p .loudness))))) ∙ ap (λ (o : Out (List Borne)). sets t₃ 0 (flatMap (borneRow entry) (rowsOf o))) (f .entries-read)
+        ∙ ap (sets t₃ 0) (flat-map (borneRow entry) l) ∙ front 7 (map (borneRow entry) l) t₃ (borne-wide entryRows l) (omega (arith, n, length-map l (borneRow entry)))
+
+    downmixes-stored : {t′ : List ℕ} → t′ ≡ sets t₄ 0 (flatMap (λ r. r) (rowsOf (run (many (i .«downmix_definitions») (flat 4 downmix)) s (p .downmixes)))) → t′ ≡ flatten (f .in-downmixes) ++ drop (length (flatten (f .in-downmixes))) t₄
+    downmixes-stored q =
+        let l = f .in-downmixes in
+        q ∙ (λ j. sets t₄ 0 (flatMap (λ r. r) (rowsOf (run (many (e j .«downmix_definitions») (flat 4 downmix)) s (p .downmixes))))) ∙ ap (λ (o : Out (List (List ℕ))). sets t₄ 0 (flatMap (λ r. r) (rowsOf o))) (f .downmixes-read)
+        ∙ ap (sets t₄ 0) (flat-map (λ (r : List ℕ). r) l ∙ ap flatten (map-id l)) ∙ front 4 l t₄ (wide .downmixes) (space .downmixes)
+
+-- all four tables
+pub stored : {s : List ℕ} {p : Places} (t₁ t₂ t₃ t₄ : List ℕ) {u₁ u₂ u₃ u₄ : List ℕ} {i : DrcLoudnessInfo} {at : ℕ} → i ≡ infoIn s → at ≡ rowsAt s → Rooms s p (t₁ ∷ t₂ ∷ t₃ ∷ t₄ ∷ [])
+    → Nests instructions (λ x. length (x .1)) (λ n x. brokenRow instruction (n, x)) (λ x. flatten (x .1)) s at (i .«drc_instructions») t₁ t₂ u₁ u₂
+    → u₃ ≡ sets t₃ 0 (flatMap (borneRow entry) (rowsOf (run (many (i .«loudness_infos») entries) s (p .loudness))))
+    → u₄ ≡ sets t₄ 0 (flatMap (λ r. r) (rowsOf (run (many (i .«downmix_definitions») (flat 4 downmix)) s (p .downmixes))))
+    → Stored s p (t₁ ∷ t₂ ∷ t₃ ∷ t₄ ∷ []) (u₁ ∷ u₂ ∷ u₃ ∷ u₄ ∷ [])
+unfolding filled tables first others
+stored {s} {p} t₁ t₂ t₃ t₄ e q r a b c = record {
+  is = λ f.
+      let x = instructions-stored f t₁ t₂ t₃ t₄ r e q a in
+      let y = entries-stored f t₁ t₂ t₃ t₄ r e b in
+      let z = downmixes-stored f t₁ t₂ t₃ t₄ r e c in
+      λ j. x .outer j ∷ x .inner j ∷ y j ∷ z j ∷ [];
+}

@@ -1,0 +1,272 @@
+-- The walk along a DRC and loudness body, list after list, is its program; and what it finds decides the record, the rows and the sizes.
+use Prim.Native.Nat.{ℕ, _+_, _*_, _≤_, _<_}
+use mathlib.Core.Path.{_≡_, refl, sym, ap, subst, _∙_}
+use mathlib.Core.List.{List, [], _∷_, _++_, flatMap}
+use mathlib.Core.Bool.{Bool, true, false}
+use native.Mathlib.Omega.{arith}
+use lib.ListN.{length, getD}
+use lib.Dec.{eqb}
+use borrow.Author.Tests.{eq-eqb, ne-eqb, eqb-true}
+use Rattle.wire.specs.Bits.{part, total, split}
+use Rattle.wire.specs.Prog.{Prog, ret, Out, done, short, run, u8, many, _>>=_}
+use Rattle.wire.specs.Reads.{mapOut, endOf, shortOf, Summed}
+use Rattle.wire.specs.Act.{pick}
+use Rattle.wire.specs.Straight.{ends, ones, took, putsAt, taken, spans}
+use Rattle.wire.specs.Layout.{reserved, flag, Columns, blank, put, reads, flat, Family, Borne, kids}
+use Rattle.wire.specs.declared.reads.Short.{Short}
+use Rattle.wire.specs.declared.reads.Sum.{Sum}
+use Rattle.wire.specs.declared.reads.Sum.the-variants as S
+use Rattle.wire.proofs.Runs.{andThen, run-bind}
+use Rattle.wire.proofs.Walk.{From, byte-next, onward, as-done, cut-off-as, finished}
+use Rattle.wire.proofs.Walk.{ends as ends-in}
+use Rattle.wire.proofs.Fields.{part-below}
+use Rattle.wire.proofs.Loops.{Went-on, sum-onward, sum-cut-off, sum-small}
+use Rattle.wire.proofs.Straight.{read-so, ones-got, ends-at, ends-within, ends-on, ends-cut}
+use Rattle.instructions.specs.Layout.{instructions}
+use Rattle.loudness.specs.Layout.{entries}
+use Rattle.downmixes.specs.Layout.{downmix}
+use Rattle.drc_kind.specs.declared.rows.DrcLoudnessInfo.{DrcLoudnessInfo}
+use Rattle.drc_kind.specs.declared.rows.Info.{Info}
+use Rattle.drc_kind.specs.Layout.{head, counts}
+use Rattle.drc_kind.specs.Rows.{noInfo, Tree}
+use Rattle.drc_kind.specs.Read.{bodyOver}
+use Rattle.drc_kind.specs.Kind.{parse}
+use Rattle.drc_kind.proofs.Mirrored.{parse-over}
+use Rattle.drc_loudness.specs.declared.parsing.Places.{Places}
+use Rattle.drc_loudness.specs.Walk.{flagAt, infoThere, infoAt, rowsAt, Found, treeOf, tree}
+
+-- ---- the program from list to list
+
+abbrev pub infoIn : List ℕ → DrcLoudnessInfo
+infoIn s = infoAt s .part
+
+abbrev pub behind-entries : List ℕ → List Family → List Borne → Prog Tree
+behind-entries s is ls = many (infoIn s .«downmix_definitions») (flat 4 downmix) >>= λ ds. ret (treeOf s is ls ds)
+
+abbrev pub behind-instructions : List ℕ → List Family → Prog Tree
+behind-instructions s is = many (infoIn s .«loudness_infos») entries >>= λ ls. behind-entries s is ls
+
+abbrev pub behind-head : List ℕ → Prog Tree
+behind-head s = many (infoIn s .«drc_instructions») instructions >>= λ is. behind-instructions s is
+
+-- ---- the first bytes
+
+pub head-there : (s : List ℕ) → 1 ≤ length s → rowsAt s ≤ length s → From parse s 0 (behind-head s) (rowsAt s)
+unfolding rowsAt infoAt bodyOver run many _>>=_
+head-there s h l = record { same = ap (λ (p : Prog Tree). run p s 0) parse-over ∙ first ∙ go (eqb (flagAt s) 1) l; inside = l }
+  where
+    info : Bool → DrcLoudnessInfo
+    info x = pick x (infoThere s) (noInfo .part)
+
+    top : Bool → List ℕ
+    top x =
+        part 1 7 (getD s 0 0) ∷ flagAt s ∷ info x .«reserved_drc» ∷ info x .«reserved_loudness» ∷ info x .«reserved_downmix» ∷ info x .«drc_instructions» ∷ info x .«loudness_infos» ∷ info x .«downmix_definitions» ∷ []
+
+    lists : Bool → Prog Tree
+    lists x =
+        many (info x .«drc_instructions») instructions >>= λ is. many (info x .«loudness_infos») entries >>= λ ls. many (info x .«downmix_definitions») (flat 4 downmix) >>= λ ds.
+        ret (record { top = top x; «drc_instructions» = is; «loudness_infos» = ls; «downmix_definitions» = ds })
+
+    counts : ℕ → Prog Tree
+    counts b0 =
+        u8 >>= λ a. u8 >>= λ l. u8 >>= λ d. many (part 0 6 a) instructions >>= λ is. many (part 0 6 l) entries >>= λ ls. many (part 0 5 d) (flat 4 downmix) >>= λ ds.
+        ret (record { top = part 1 7 b0 ∷ part 0 1 b0 ∷ part 6 2 a ∷ part 6 2 l ∷ part 5 3 d ∷ part 0 6 a ∷ part 0 6 l ∷ part 0 5 d ∷ []; «drc_instructions» = is; «loudness_infos» = ls; «downmix_definitions» = ds })
+
+    missing : ℕ → Prog Tree
+    missing b0 = ret (record { top = part 1 7 b0 ∷ part 0 1 b0 ∷ 0 ∷ 0 ∷ 0 ∷ 0 ∷ 0 ∷ 0 ∷ []; «drc_instructions» = []; «loudness_infos» = []; «downmix_definitions» = [] })
+
+    first : run (bodyOver instructions entries (flat 4 downmix)) s 0 ≡ run (pick (eqb (flagAt s) 1) (counts (getD s 0 0)) (missing (getD s 0 0))) s 1
+    first = byte-next _ s 0 (omega arith) refl
+
+    go : (x : Bool) → pick x 4 1 ≤ length s → run (pick x (counts (getD s 0 0)) (missing (getD s 0 0))) s 1 ≡ run (lists x) s (pick x 4 1)
+    go true l = byte-next _ s 1 (omega arith) refl ∙ byte-next _ s 2 (omega arith) refl ∙ byte-next _ s 3 (omega arith) refl
+    go false l = refl
+
+-- a read that is cut there
+bind-cut : {A B : Type 0} (p : Prog A) (k : A → Prog B) (s : List ℕ) (at : ℕ) {x : Short} → run p s at ≡ short x → run (p >>= k) s at ≡ short x
+bind-cut {A} p k s at e = run-bind p k s at ∙ ap (λ (o : Out A). andThen o (λ a n. run (k a) s n)) e
+
+head-cut : (s : List ℕ) {x : Short} → ends (spans head blank s 0) s 0 ≡ short x → run parse s 0 ≡ short x
+unfolding parse
+head-cut s e = bind-cut (reads head blank) _ s 0 (read-so head blank s 0 ∙ ap (mapOut (λ (u : Unit {0}). taken head blank s 0)) e)
+
+head-spans : (s : List ℕ) → spans head blank s 0 ≡ ones 1 ++ pick (eqb (flagAt s) 1) (ones 3) []
+unfolding head took putsAt put split total ones
+head-spans s = go (eqb (flagAt s) 1)
+  where
+    go : (x : Bool) → _≡_ {A = List ℕ} (1 ∷ (pick x (took counts (putsAt ((reserved 7 0 ∷ flag 1 ∷ []) ∷ []) s 0 0 blank) s 1 0) (putsAt ((reserved 7 0 ∷ flag 1 ∷ []) ∷ []) s 0 0 blank, []) .1 ++ [])) (1 ∷ pick x (1 ∷ 1 ∷ 1 ∷ []) [])
+    go true = refl
+    go false = refl
+
+-- behind the first byte
+pub record One (s : List ℕ) (n : ℕ) : Type 0 where
+  pub at-one : n ≡ 1
+  pub inside : 1 ≤ length s
+
+module _ (s : List ℕ) {o : Out (Unit {0})} (e : o ≡ ends (ones 1) s 0) where
+  pub one-there : {n : ℕ} → o ≡ done tt n → One s n
+  unfolding ones total
+  one-there d = let q = ends-at (ones 1) s 0 (sym e ∙ d) in let l = ends-within (ones 1) s 0 (omega arith) (sym e ∙ d) in record { at-one = q; inside = omega arith }
+
+  pub one-cut : {x y : Short} → o ≡ short x → y ≡ shortOf o → run parse s 0 ≡ short y
+  one-cut {x} d q =
+      let w : ends (spans head blank s 0) s 0 ≡ short x = ap (λ (l : List ℕ). ends l s 0) (head-spans s) ∙ sym (ends-cut (ones 1) (pick (eqb (flagAt s) 1) (ones 3) []) s 0 e d) ∙ d in
+      head-cut s w ∙ ap short (sym (q ∙ ap shortOf d))
+
+-- the flag, as code has it
+pub flag-zero : (s : List ℕ) {v w : ℕ} → v ≡ getD s 0 0 → w ≡ part 0 1 v → w ≡ 0 → eqb (flagAt s) 1 ≡ false
+flag-zero s e q z = ne-eqb (flagAt s) 1 (λ t. let k : _≡_ {A = ℕ} 0 1 = sym z ∙ q ∙ ap (part 0 1) e ∙ t in absurd (omega arith))
+
+pub flag-one : (s : List ℕ) {v w : ℕ} → v ≡ getD s 0 0 → w ≡ part 0 1 v → (w ≡ 0 → ⊥) → flagAt s ≡ 1
+flag-one s e q z = let k = q ∙ ap (part 0 1) e in omega (arith, part-below 0 1 (getD s 0 0), z, k)
+
+pub flag-taken : (s : List ℕ) {v w : ℕ} → v ≡ getD s 0 0 → w ≡ part 0 1 v → w ≡ 1 → flagAt s ≡ 1
+flag-taken s e q t = sym (q ∙ ap (part 0 1) e) ∙ t
+
+pub flag-left : (s : List ℕ) {v w : ℕ} → v ≡ getD s 0 0 → w ≡ part 0 1 v → (w ≡ 1 → ⊥) → eqb (flagAt s) 1 ≡ false
+flag-left s e q t = ne-eqb (flagAt s) 1 (λ z. t (q ∙ ap (part 0 1) e ∙ z))
+
+-- behind the counts
+pub counts-cut : (s : List ℕ) {n : ℕ} → One s n → flagAt s ≡ 1 → {o : Out (Unit {0})} {x y : Short} → o ≡ ends (ones 3) s n → o ≡ short x → y ≡ shortOf o → run parse s 0 ≡ short y
+unfolding ones total
+counts-cut s {n} h t {o} {x} e d q =
+    let a : ends (ones 1) s 0 ≡ done tt 1 = ones-got 1 s 0 (h .inside) in
+    let w : ends (spans head blank s 0) s 0 ≡ short x = ap (λ (l : List ℕ). ends l s 0) (head-spans s) ∙ ap (λ (b : Bool). ends (ones 1 ++ pick b (ones 3) []) s 0) (eq-eqb (flagAt s) 1 t) ∙ ends-on (ones 1) (ones 3) s 0 refl a ∙ ap (ends (ones 3) s) (sym (h .at-one)) ∙ sym e ∙ d in
+    head-cut s w ∙ ap short (sym (q ∙ ap shortOf d))
+
+pub counts-there : (s : List ℕ) {n m : ℕ} → One s n → {o : Out (Unit {0})} → o ≡ ends (ones 3) s n → o ≡ done tt m → 4 ≤ length s
+unfolding ones total
+counts-there s {n} h e d = let q = ends-at (ones 3) s n (sym e ∙ d) in let l = ends-within (ones 3) s n (omega (arith, h .at-one, h .inside)) (sym e ∙ d) in omega (arith, q, l, h .at-one)
+
+pub rows-four : (s : List ℕ) → flagAt s ≡ 1 → rowsAt s ≡ 4
+unfolding rowsAt
+rows-four s t = ap (λ (b : Bool). pick b 4 1) (eq-eqb (flagAt s) 1 t)
+
+pub info-there : (s : List ℕ) → flagAt s ≡ 1 → infoIn s ≡ infoThere s
+unfolding infoAt
+info-there s t = ap (λ (b : Bool). pick b (infoThere s) (noInfo .part)) (eq-eqb (flagAt s) 1 t)
+
+-- the info and the place of the first list, as code has them
+pub rows-one : (s : List ℕ) → eqb (flagAt s) 1 ≡ false → rowsAt s ≡ 1
+unfolding rowsAt
+rows-one s t = ap (λ (b : Bool). pick b 4 1) t
+
+pub info-of : (s : List ℕ) → flagAt s ≡ 1 → {i : DrcLoudnessInfo} → i ≡ infoThere s → {r : Info} → r ≡ record { present = true; part = i } → r ≡ infoAt s
+unfolding infoAt
+info-of s t e q = q ∙ (λ j. record { present = true; part = e j }) ∙ sym (ap (λ (b : Bool). record { present = b; part = pick b (infoThere s) (noInfo .part) }) (eq-eqb (flagAt s) 1 t))
+
+pub info-none : (s : List ℕ) → eqb (flagAt s) 1 ≡ false → {r : Info} → r ≡ noInfo → r ≡ infoAt s
+unfolding infoAt
+info-none s t q = q ∙ sym (ap (λ (b : Bool). record { present = b; part = pick b (infoThere s) (noInfo .part) }) t)
+
+-- without info the lists are empty
+pub none-found : (s : List ℕ) {n : ℕ} → One s n → eqb (flagAt s) 1 ≡ false → Found s (record { loudness = n; downmixes = n; additional = 0; k = n })
+unfolding rowsAt infoAt run many flatMap
+none-found s {n} h f =
+    let q : pick (eqb (flagAt s) 1) 4 1 ≡ n = ap (λ (b : Bool). pick b 4 1) f ∙ sym (h .at-one) in
+    let i : pick (eqb (flagAt s) 1) (infoThere s) (noInfo .part) ≡ noInfo .part = ap (λ (b : Bool). pick b (infoThere s) (noInfo .part)) f in
+    record {
+      in-instructions = [];
+      in-entries = [];
+      in-downmixes = [];
+      head = omega (arith, q, h .at-one, h .inside);
+      instructions-read = λ j. run (many (i j .«drc_instructions») instructions) s (q j);
+      entries-read = λ j. run (many (i j .«loudness_infos») entries) s n;
+      downmixes-read = λ j. run (many (i j .«downmix_definitions») (flat 4 downmix)) s n;
+      additional-are = refl;
+      additional-few = omega arith;
+    }
+
+-- ---- list after list, with the counts as code has them
+
+abbrev ids : List Family → ℕ
+ids l = length (kids l)
+
+-- behind the instructions
+pub record InInstructions (s : List ℕ) (v m : ℕ) : Type 0 where
+  pub flagged : flagAt s ≡ 1
+  pub four : 4 ≤ length s
+  pub small : v ≤ 441
+  pub on : Went-on (many (infoIn s .«drc_instructions») instructions) ids (behind-instructions s) parse s 0 (rowsAt s) v m
+
+module _ (s : List ℕ) (t : flagAt s ≡ 1) (h : 4 ≤ length s) {i : DrcLoudnessInfo} (e : i ≡ infoThere s) where
+  start : From parse s 0 (behind-head s) (rowsAt s)
+  start = head-there s (omega arith) (omega (arith, rows-four s t))
+
+  same : i ≡ infoIn s
+  same = e ∙ sym (info-there s t)
+
+  module _ {r : Sum} (x : Summed (many (i .«drc_instructions») instructions) ids (7 * i .«drc_instructions») s 4 r) where
+    summed : Summed (many (infoIn s .«drc_instructions») instructions) ids (7 * infoIn s .«drc_instructions») s (rowsAt s) r
+    summed = subst (λ (at : ℕ). Summed (many (infoIn s .«drc_instructions») instructions) ids (7 * infoIn s .«drc_instructions») s at r) (sym (rows-four s t)) (subst (λ (i : DrcLoudnessInfo). Summed (many (i .«drc_instructions») instructions) ids (7 * i .«drc_instructions») s 4 r) same x)
+
+    pub instructions-found : {v m : ℕ} → r ≡ S.Got v m → InInstructions s v m
+    instructions-found g =
+        let n : infoIn s .«drc_instructions» < 64 = subst (λ (i : DrcLoudnessInfo). i .«drc_instructions» < 64) (sym (info-there s t)) (part-below 0 6 (getD s 1 0)) in
+        record { flagged = t; four = h; small = omega (arith, sum-small summed g, n); on = sum-onward (many (infoIn s .«drc_instructions») instructions) (behind-instructions s) start summed g }
+
+    pub instructions-cut : {y : Short} → r ≡ S.Short y → run parse s 0 ≡ short y
+    instructions-cut g = sym (sum-cut-off (many (infoIn s .«drc_instructions») instructions) (behind-instructions s) start summed g)
+
+-- behind the entries
+pub record InEntries (s : List ℕ) (v m n : ℕ) : Type 0 where
+  pub before : InInstructions s v m
+  pub value : List Borne
+  pub reads : run (many (infoIn s .«loudness_infos») entries) s m ≡ done value n
+  pub place : From parse s 0 (behind-entries s (before .on .value) value) n
+
+module _ {s : List ℕ} {v m : ℕ} (w : InInstructions s v m) {i : DrcLoudnessInfo} (e : i ≡ infoThere s) {o : Out (Unit {0})} (q : o ≡ endOf (run (many (i .«loudness_infos») entries) s m)) where
+  same-entries : o ≡ endOf (run (many (infoIn s .«loudness_infos») entries) s m)
+  same-entries = q ∙ (λ j. endOf (run (many ((e ∙ sym (info-there s (w .flagged))) j .«loudness_infos») entries) s m))
+
+  pub entries-found : {n : ℕ} → o ≡ done tt n → InEntries s v m n
+  entries-found d =
+      let (x, r, _) = as-done (λ (x : List Borne). tt) (run (many (infoIn s .«loudness_infos») entries) s m) (sym same-entries ∙ d) in
+      record { before = w; value = x; reads = r; place = onward (many (infoIn s .«loudness_infos») entries) (behind-entries s (w .on .value)) (w .on .place) refl r }
+
+  pub entries-cut : {x y : Short} → o ≡ short x → y ≡ shortOf o → run parse s 0 ≡ short y
+  entries-cut d z = sym (cut-off-as (many (infoIn s .«loudness_infos») entries) (λ x. tt) (behind-entries s (w .on .value)) (w .on .place) same-entries d z)
+
+module _ {s : List ℕ} {v m n : ℕ} (w : InEntries s v m n) {i : DrcLoudnessInfo} (e : i ≡ infoThere s) {o : Out (Unit {0})} (q : o ≡ endOf (run (many (i .«downmix_definitions») (flat 4 downmix)) s n)) where
+  same-downmixes : o ≡ endOf (run (many (infoIn s .«downmix_definitions») (flat 4 downmix)) s n)
+  same-downmixes = q ∙ (λ j. endOf (run (many ((e ∙ sym (info-there s (w .before .flagged))) j .«downmix_definitions») (flat 4 downmix)) s n))
+
+  pub all-found : {k : ℕ} → o ≡ done tt k → Found s (record { loudness = m; downmixes = n; additional = v; k = k })
+  all-found d =
+      let (x, r, _) = as-done (λ (x : List (List ℕ)). tt) (run (many (infoIn s .«downmix_definitions») (flat 4 downmix)) s n) (sym same-downmixes ∙ d) in
+      record {
+        in-instructions = w .before .on .value;
+        in-entries = w .value;
+        in-downmixes = x;
+        head = omega (arith, w .before .four, rows-four s (w .before .flagged));
+        instructions-read = w .before .on .reads;
+        entries-read = w .reads;
+        downmixes-read = r;
+        additional-are = sym (w .before .on .is);
+        additional-few = w .before .small;
+      }
+
+  pub downmixes-cut : {x y : Short} → o ≡ short x → y ≡ shortOf o → run parse s 0 ≡ short y
+  downmixes-cut d z = sym (cut-off-as (many (infoIn s .«downmix_definitions») (flat 4 downmix)) (λ x. tt) (λ ds. ret (treeOf s (w .before .on .value) (w .value) ds)) (w .place) same-downmixes d z)
+
+-- ---- what was found
+
+-- the first byte is there
+pub one-before : (s : List ℕ) → 1 ≤ rowsAt s
+unfolding rowsAt
+one-before s = some (eqb (flagAt s) 1)
+  where
+    some : (x : Bool) → 1 ≤ pick x 4 1
+    some true = omega arith
+    some false = omega arith
+
+pub first-there : {s : List ℕ} {p : Places} → Found s p → 1 ≤ length s
+first-there {s} f = omega (arith, f .head, one-before s)
+
+pub found-reads : (s : List ℕ) (p : Places) (f : Found s p) → run parse s 0 ≡ done (tree f) (p .k)
+found-reads s p f =
+    let w₀ = head-there s (first-there f) (f .head) in
+    let w₁ = onward (many (infoIn s .«drc_instructions») instructions) (behind-instructions s) w₀ refl (f .instructions-read) in
+    let w₂ = onward (many (infoIn s .«loudness_infos») entries) (behind-entries s (f .in-instructions)) w₁ refl (f .entries-read) in
+    let w₃ = onward (many (infoIn s .«downmix_definitions») (flat 4 downmix)) (λ ds. ret (treeOf s (f .in-instructions) (f .in-entries) ds)) w₂ refl (f .downmixes-read) in
+    sym (finished w₃ refl)

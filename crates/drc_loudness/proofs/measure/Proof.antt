@@ -1,0 +1,46 @@
+-- `drc_loudness::measure` meets its contract: the lists, or why there are none.
+use native.Mathlib.Omega.{arith}
+use Rattle.frame.proofs.Entries.{measures-long, measures-short}
+use Rattle.drc_kind.specs.Kind.{kind}
+use Rattle.drc_loudness.proofs.Found.{measures-so}
+use borrow.Author.Needs.{needs}
+use Rattle.drc_loudness.proofs.measure.Statement.{statement}
+use Rattle.drc_loudness.proofs.measure.Tie as tie
+
+returns : tie.Need-returns
+returns c =
+    measures-long kind _ (c .if1 .taken)
+
+find-lists-requires : tie.Need-find-lists-requires
+find-lists-requires c κs = search needs
+
+enum-known-w : tie.Need-enum-known-w
+enum-known-w c = search needs
+
+sizes-at-requires : tie.Need-sizes-at-requires
+sizes-at-requires c κs =
+    rw (c .before .w .given .1) at (c .before .before .before .find-lists .ensures) .finds
+
+enum-known-w-2 : tie.Need-enum-known-w-2
+enum-known-w-2 c = search needs
+
+returns-2 : tie.Need-returns-2
+returns-2 c =
+    measures-so (rw (c .before .before .w .given .1) at (c .before .before .before .before .find-lists .ensures) .finds) (omega (arith, c .before .before .before .before .before .if1 .left)) (c .sizes-at .ensures)
+
+returns-3 : tie.Need-returns-3
+unfolding kind
+returns-3 c =
+    measures-short kind _ (omega (arith, c .before .before .before .before .if1 .left)) (rw (c .before .w2 .given .1) at (c .before .before .before .find-lists .ensures) .finds)
+
+pub measure-spec : {M : Type 1} → statement M
+measure-spec =
+    tie.close
+    (tie.spec
+    returns
+    find-lists-requires
+    enum-known-w
+    sizes-at-requires
+    enum-known-w-2
+    returns-2
+    returns-3)

@@ -1,0 +1,54 @@
+-- `drc_writing::writing::check_info` meets its contract: the bytes of the counts, then the lists, whose counts are small since their bytes fit.
+use native.Mathlib.Omega.{arith}
+use Rattle.wire.proofs.Plain.{all-checked}
+use Rattle.drc_writing.proofs.Writes.{listed, passed-clean, info-stops, info-goes, info-absent}
+use borrow.Author.Needs.{needs}
+use Rattle.drc_writing.proofs.writing.check_info.Statement.{statement}
+use Rattle.drc_writing.proofs.writing.check_info.Tie as tie
+
+count-bytes-requires : tie.Need-count-bytes-requires
+count-bytes-requires c κs = search needs
+
+slice-aggregate-check-all : tie.Need-slice-aggregate-check-all
+slice-aggregate-check-all c = search needs
+
+check-all-requires : tie.Need-check-all-requires
+check-all-requires c κs = search needs
+
+enum-known-p1 : tie.Need-enum-known-p1
+enum-known-p1 c = search needs
+
+enum-told : tie.Need-enum-told
+enum-told c = search needs
+
+returns : tie.Need-returns
+returns c =
+    info-stops _ _ _ 17453 (c .before .before .before .before .before .before .if1 .taken) (all-checked (c .before .before .before .before .count-bytes .ensures) (c .before .before .check-all .ensures)) (c .enum-told .given .1) (omega arith)
+
+check-lists-requires : tie.Need-check-lists-requires
+check-lists-requires c κs =
+    let w = all-checked (c .before .before .before .before .before .count-bytes .ensures) (c .before .before .before .check-all .ensures) in
+    let n = rw (c .before .p1 .given .1) at (w .near) in
+    (listed _ _ _ _ (c .before .before .before .before .before .before .before .if1 .taken) (c .before .before .before .before .before .before .before .before .before .before .before .before .before .pre .0) (passed-clean _ w (c .before .p1 .given .1)), omega (arith, n, c .before .before .before .before .before .before .before .before .before .before .before .before .before .pre .1))
+
+returns-2 : tie.Need-returns-2
+returns-2 c =
+    info-goes _ _ _ 17453 (c .before .before .before .before .before .before .before .before .if1 .taken) (all-checked (c .before .before .before .before .before .before .count-bytes .ensures) (c .before .before .before .before .check-all .ensures)) (c .before .before .p1 .given .1) (c .check-lists .ensures) (omega arith)
+
+returns-3 : tie.Need-returns-3
+returns-3 c =
+    info-absent _ _ _ 17453 _ (c .if1 .left)
+
+pub check-info-spec : {M : Type 1} → statement M
+check-info-spec =
+    tie.close
+    (tie.spec
+    count-bytes-requires
+    slice-aggregate-check-all
+    check-all-requires
+    enum-known-p1
+    enum-told
+    returns
+    check-lists-requires
+    returns-2
+    returns-3)
