@@ -92,6 +92,21 @@ static uint64_t multi_stream_write(const struct value *v, uint8_t *out, size_t o
     return mpegh_multi_stream_write_from(&m, v->table[0], v->columns[0], v->body, v->length, out, out_length);
 }
 
+static uint64_t drc_loudness_read(struct value *v)
+{
+    return mpegh_drc_loudness_read(
+        v->body, v->length, v->top, MOST_COLUMNS, v->table[0], v->columns[0], v->table[1], v->columns[1], v->table[2], v->columns[2],
+        v->table[3], v->columns[3]);
+}
+
+static uint64_t drc_loudness_write(const struct value *v, uint8_t *out, size_t out_length)
+{
+    struct mpegh_drc_loudness m = mpegh_drc_loudness_of(v->top);
+    return mpegh_drc_loudness_write_from(
+        &m, v->table[0], v->columns[0], v->table[1], v->columns[1], v->table[2], v->columns[2], v->table[3], v->columns[3], v->body,
+        v->length, out, out_length);
+}
+
 static const struct kind kinds[] = {
     {1, "base",
      {0, "top record", MPEGH_BASE_COLUMNS,
@@ -145,6 +160,25 @@ static const struct kind kinds[] = {
      {{8, "groups", MPEGH_GROUP_COLUMNS,
        {"group_id", "is_in_main_stream", "auxiliary_present", "is_in_ts", "auxiliary_stream_id"}}},
      mpegh_multi_stream_measure, mpegh_multi_stream_tally, multi_stream_read, multi_stream_write},
+    {5, "drc_loudness",
+     {0, "top record", MPEGH_DRC_LOUDNESS_COLUMNS,
+      {"reserved", "info_present", "reserved_drc", "reserved_loudness", "reserved_downmix", "drc_instructions", "loudness_infos",
+       "downmix_definitions", "trailing.offset", "trailing.length"}},
+     MPEGH_DRC_LOUDNESS_TABLES,
+     {{9, "instructions", MPEGH_DRC_INSTRUCTIONS_COLUMNS,
+       {"reserved_type", "scope.scope_case", "scope.kind", "scope.reserved", "scope.id", "reserved_set", "drc_set_id",
+        "reserved_downmix", "downmix_id", "reserved_additional", "additional_downmix_ids.first", "additional_downmix_ids.count",
+        "drc_set_effect", "limiter_peak_target_present", "limiter_peak_target", "target_loudness_present",
+        "target_loudness.reserved_upper", "target_loudness.upper", "target_loudness.lower_present",
+        "target_loudness.reserved_lower", "target_loudness.lower", "target_loudness.reserved_depends",
+        "target_loudness.depends_on_drc_set", "target_loudness.no_independent_use_or_reserved"}},
+      {10, "additional", MPEGH_ADDITIONAL_DOWNMIX_ID_COLUMNS, {"reserved", "id"}},
+      {11, "loudness", MPEGH_LOUDNESS_INFO_COLUMNS,
+       {"reserved_type", "scope.scope_case", "scope.kind", "scope.reserved", "scope.id", "loudness_info.offset",
+        "loudness_info.length"}},
+      {12, "downmix", MPEGH_DOWNMIX_DEFINITION_COLUMNS,
+       {"reserved", "downmix_id", "downmix_type", "cicp_speaker_layout_idx"}}},
+     mpegh_drc_loudness_measure, mpegh_drc_loudness_tally, drc_loudness_read, drc_loudness_write},
 };
 
 static const size_t kind_count = sizeof kinds / sizeof kinds[0];

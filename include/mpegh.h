@@ -1,5 +1,6 @@
 /*
- * The MPEG-H 3D audio descriptor bodies of Rec. ITU-T H.222.0 for C and C++: base (kind 1), scene (2), text label (3), multi-stream (4).
+ * The MPEG-H 3D audio descriptor bodies of Rec. ITU-T H.222.0 for C and C++: base (kind 1), scene (2), text label (3), multi-stream (4), DRC
+ * and loudness (5).
  * Link with target/staticlib/libmpegh_c.a (`rt staticlib mpegh_c`, x86-64). Of the C library the archive needs memmove and nothing else.
  *
  * Every kind has four functions:
@@ -19,9 +20,9 @@
  *   - No pointer is null, also where the length is 0, and its whole length can be read, or written where it is not const.
  *   - What a function writes (top, rows, tables, out) overlaps nothing else that the call was lent. What it only reads may overlap.
  *
- * A table is its rows end to end, a row is its columns, a column is a uint16_t. A payload (sets, a label, the trailing run) is an offset
- * and a length: after reading it counts from the start of the body; writing takes it from the store. So the body itself serves as
- * the store of what was read from it.
+ * A table is its rows end to end, a row is its columns, a column is a uint16_t. A payload (sets, a label, loudness info, the trailing run)
+ * is an offset and a length: after reading it counts from the start of the body; writing takes it from the store. So the body itself
+ * serves as the store of what was read from it.
  */
 #ifndef MPEGH_H
 #define MPEGH_H
@@ -890,6 +891,327 @@ static inline void mpegh_multi_stream_group_put(uint16_t *groups, size_t row, co
     c[2] = g->auxiliary_present;
     c[3] = g->is_in_ts;
     c[4] = g->auxiliary_stream_id;
+}
+
+/* ------------------------------------------ kind 5: DRC and loudness */
+
+enum {
+    MPEGH_DRC_LOUDNESS_COLUMNS = 10,         /* of the top record */
+    MPEGH_DRC_LOUDNESS_TABLES = 4,           /* 9 to 12, as below: the columns that measure puts into `rows` */
+    MPEGH_DRC_INSTRUCTIONS_COLUMNS = 24,     /* of a row of table 9 */
+    MPEGH_ADDITIONAL_DOWNMIX_ID_COLUMNS = 2, /* of a row of table 10 */
+    MPEGH_LOUDNESS_INFO_COLUMNS = 7,         /* of a row of table 11 */
+    MPEGH_DOWNMIX_DEFINITION_COLUMNS = 4,    /* of a row of table 12 */
+    MPEGH_MOST_DRC_INSTRUCTIONS = 63,        /* no body has more rows */
+    MPEGH_MOST_ADDITIONAL_DOWNMIX_IDS = 441, /* 63 instructions with 7 each */
+    MPEGH_MOST_LOUDNESS_INFOS = 63,
+    MPEGH_MOST_DOWNMIX_DEFINITIONS = 31
+};
+
+/*
+ * The top record (the Rust's MpegH3dAudioDrcLoudness). Its DRC instructions, loudness infos and downmix definitions are the first rows of
+ * tables 9, 11 and 12.
+ */
+struct mpegh_drc_loudness {
+    uint8_t reserved;             /* 7 bits */
+    bool info_present;            /* the next six are 0 where it is false, and writing does not look at them then */
+    uint8_t reserved_drc;         /* 2 bits */
+    uint8_t reserved_loudness;    /* 2 bits */
+    uint8_t reserved_downmix;     /* 3 bits */
+    uint16_t drc_instructions;    /* their count */
+    uint16_t loudness_infos;      /* their count */
+    uint16_t downmix_definitions; /* their count */
+    struct mpegh_payload trailing;
+};
+
+/* The cases of a scope. */
+enum mpegh_scopes {
+    MPEGH_SCOPE_PLAIN = 0, /* no ID; kind 0 or 1 of an instruction, 0 of a loudness info */
+    MPEGH_SCOPE_GROUP = 1, /* a group ID; kind 2 of an instruction, 1 or 2 of a loudness info */
+    MPEGH_SCOPE_PRESET = 2 /* a group preset ID; kind 3 of both */
+};
+
+/* What a row is about, in the order of its columns. */
+struct mpegh_drc_scope {
+    uint16_t scope_case; /* one of mpegh_scopes */
+    uint16_t kind;       /* 2 bits; of a preset it is read as 3, and writing does not look at it */
+    uint16_t reserved;   /* 1 bit of a group, 3 of a preset; of a plain scope it is read as 0, and writing does not look at it */
+    uint16_t id;         /* 7 bits of a group, 5 of a preset; of a plain scope as the reserved bits */
+};
+
+/* In a row a part is there where the flag before it is 1. Where that is 0 its columns are 0, and writing does not look at them. */
+
+struct mpegh_drc_target_loudness {
+    uint16_t reserved_upper;                 /* 1 bit */
+    uint16_t upper;                          /* 6 bits */
+    uint16_t lower_present;                  /* 0 or 1 */
+    uint16_t reserved_lower;                 /* 2 bits */
+    uint16_t lower;                          /* 6 bits */
+    uint16_t reserved_depends;               /* 1 bit */
+    uint16_t depends_on_drc_set;             /* 6 bits */
+    uint16_t no_independent_use_or_reserved; /* 1 bit */
+};
+
+/* A row of table 9. Its additional downmix IDs, 0 to 7, are rows of table 10. */
+struct mpegh_drc_instructions {
+    uint16_t reserved_type; /* 6 bits */
+    struct mpegh_drc_scope scope;
+    uint16_t reserved_set;        /* 2 bits */
+    uint16_t drc_set_id;          /* 6 bits */
+    uint16_t reserved_downmix;    /* 1 bit */
+    uint16_t downmix_id;          /* 7 bits */
+    uint16_t reserved_additional; /* 3 bits */
+    struct mpegh_range additional_downmix_ids;
+    uint16_t drc_set_effect;              /* 16 bits */
+    uint16_t limiter_peak_target_present; /* 0 or 1 */
+    uint16_t limiter_peak_target;         /* 8 bits */
+    uint16_t target_loudness_present;     /* 0 or 1 */
+    struct mpegh_drc_target_loudness target_loudness;
+};
+
+/* A row of table 10. */
+struct mpegh_additional_downmix_id {
+    uint16_t reserved; /* 1 bit */
+    uint16_t id;       /* 7 bits */
+};
+
+/* A row of table 11. Its payload has at most 255 bytes. */
+struct mpegh_loudness_info {
+    uint16_t reserved_type; /* 6 bits */
+    struct mpegh_drc_scope scope;
+    struct mpegh_payload loudness_info;
+};
+
+/* A row of table 12. */
+struct mpegh_downmix_definition {
+    uint16_t reserved;                /* 1 bit */
+    uint16_t downmix_id;              /* 7 bits */
+    uint16_t downmix_type;            /* 2 bits */
+    uint16_t cicp_speaker_layout_idx; /* 6 bits */
+};
+
+/*
+ * Answers 0 and puts the top record into the first MPEGH_DRC_LOUDNESS_COLUMNS columns of `top`, the DRC instructions into the first rows of
+ * `instructions` (table 9), their additional downmix IDs into those of `additional` (10), the loudness infos of `loudness` (11) and the
+ * downmix definitions of `downmix` (12), or refuses with 2, 1, or 3 (of table 0, 9 to 12), judged in this order.
+ */
+uint64_t mpegh_drc_loudness_read(
+    const uint8_t *body, size_t body_length,
+    uint16_t *top, size_t top_length,
+    uint16_t *instructions, size_t instructions_length,
+    uint16_t *additional, size_t additional_length,
+    uint16_t *loudness, size_t loudness_length,
+    uint16_t *downmix, size_t downmix_length);
+
+/*
+ * Answers k and puts the rows needed of tables 9 to 12 into the first MPEGH_DRC_LOUDNESS_TABLES columns of `rows`, or refuses with 2, 1, or 3
+ * (table 0, 1 row) where `rows` is shorter, judged in this order.
+ */
+uint64_t mpegh_drc_loudness_measure(const uint8_t *body, size_t body_length, uint16_t *rows, size_t rows_length);
+
+/* Answers the number of reserved bits that are 0, or refuses with 2 or 1. `no_independent_use_or_reserved` is not counted. */
+uint64_t mpegh_drc_loudness_tally(const uint8_t *body, size_t body_length);
+
+/*
+ * Answers the length and puts the body at the front of `out`, or refuses with the first of 5, 6 and 8 in the order of the body, then 10, then
+ * 4. So many rows of `instructions`, `loudness` and `downmix` are written as the counts say; instructions may share rows of `additional`, and
+ * loudness infos bytes of the store.
+ */
+uint64_t mpegh_drc_loudness_write(
+    uint8_t reserved,
+    bool info_present,
+    uint8_t reserved_drc,
+    uint8_t reserved_loudness,
+    uint8_t reserved_downmix,
+    uint16_t drc_instructions,
+    uint16_t loudness_infos,
+    uint16_t downmix_definitions,
+    uint16_t trailing_offset,
+    uint16_t trailing_length,
+    const uint16_t *instructions, size_t instructions_length,
+    const uint16_t *additional, size_t additional_length,
+    const uint16_t *loudness, size_t loudness_length,
+    const uint16_t *downmix, size_t downmix_length,
+    const uint8_t *store, size_t store_length,
+    uint8_t *out, size_t out_length);
+
+/* The top record of columns that mpegh_drc_loudness_read filled. */
+static inline struct mpegh_drc_loudness mpegh_drc_loudness_of(const uint16_t *top)
+{
+    struct mpegh_drc_loudness m;
+    m.reserved = (uint8_t)top[0];
+    m.info_present = top[1] != 0;
+    m.reserved_drc = (uint8_t)top[2];
+    m.reserved_loudness = (uint8_t)top[3];
+    m.reserved_downmix = (uint8_t)top[4];
+    m.drc_instructions = top[5];
+    m.loudness_infos = top[6];
+    m.downmix_definitions = top[7];
+    m.trailing = mpegh_payload_of(top + 8);
+    return m;
+}
+
+/* mpegh_drc_loudness_read into a struct. A refusal leaves it as it was. */
+static inline uint64_t mpegh_drc_loudness_read_into(
+    struct mpegh_drc_loudness *m, const uint8_t *body, size_t body_length,
+    uint16_t *instructions, size_t instructions_length,
+    uint16_t *additional, size_t additional_length,
+    uint16_t *loudness, size_t loudness_length,
+    uint16_t *downmix, size_t downmix_length)
+{
+    uint16_t top[MPEGH_DRC_LOUDNESS_COLUMNS];
+    uint64_t answer = mpegh_drc_loudness_read(
+        body, body_length, top, MPEGH_DRC_LOUDNESS_COLUMNS, instructions, instructions_length, additional, additional_length,
+        loudness, loudness_length, downmix, downmix_length);
+    if (mpegh_number(answer) == MPEGH_DONE)
+        *m = mpegh_drc_loudness_of(top);
+    return answer;
+}
+
+/* mpegh_drc_loudness_write from a struct. */
+static inline uint64_t mpegh_drc_loudness_write_from(
+    const struct mpegh_drc_loudness *m,
+    const uint16_t *instructions, size_t instructions_length,
+    const uint16_t *additional, size_t additional_length,
+    const uint16_t *loudness, size_t loudness_length,
+    const uint16_t *downmix, size_t downmix_length,
+    const uint8_t *store, size_t store_length,
+    uint8_t *out, size_t out_length)
+{
+    return mpegh_drc_loudness_write(
+        m->reserved, m->info_present, m->reserved_drc, m->reserved_loudness, m->reserved_downmix, m->drc_instructions,
+        m->loudness_infos, m->downmix_definitions, m->trailing.offset, m->trailing.length, instructions, instructions_length,
+        additional, additional_length, loudness, loudness_length, downmix, downmix_length, store, store_length, out, out_length);
+}
+
+static inline struct mpegh_drc_scope mpegh_drc_scope_of(const uint16_t *columns)
+{
+    struct mpegh_drc_scope s;
+    s.scope_case = columns[0];
+    s.kind = columns[1];
+    s.reserved = columns[2];
+    s.id = columns[3];
+    return s;
+}
+
+static inline void mpegh_drc_scope_to(uint16_t *columns, const struct mpegh_drc_scope *s)
+{
+    columns[0] = s->scope_case;
+    columns[1] = s->kind;
+    columns[2] = s->reserved;
+    columns[3] = s->id;
+}
+
+/* A row of table 9, counted from 0. */
+static inline struct mpegh_drc_instructions mpegh_drc_instructions_get(const uint16_t *instructions, size_t row)
+{
+    const uint16_t *c = instructions + row * MPEGH_DRC_INSTRUCTIONS_COLUMNS;
+    struct mpegh_drc_instructions d;
+    d.reserved_type = c[0];
+    d.scope = mpegh_drc_scope_of(c + 1);
+    d.reserved_set = c[5];
+    d.drc_set_id = c[6];
+    d.reserved_downmix = c[7];
+    d.downmix_id = c[8];
+    d.reserved_additional = c[9];
+    d.additional_downmix_ids = mpegh_range_of(c + 10);
+    d.drc_set_effect = c[12];
+    d.limiter_peak_target_present = c[13];
+    d.limiter_peak_target = c[14];
+    d.target_loudness_present = c[15];
+    d.target_loudness.reserved_upper = c[16];
+    d.target_loudness.upper = c[17];
+    d.target_loudness.lower_present = c[18];
+    d.target_loudness.reserved_lower = c[19];
+    d.target_loudness.lower = c[20];
+    d.target_loudness.reserved_depends = c[21];
+    d.target_loudness.depends_on_drc_set = c[22];
+    d.target_loudness.no_independent_use_or_reserved = c[23];
+    return d;
+}
+
+static inline void mpegh_drc_instructions_put(uint16_t *instructions, size_t row, const struct mpegh_drc_instructions *d)
+{
+    uint16_t *c = instructions + row * MPEGH_DRC_INSTRUCTIONS_COLUMNS;
+    c[0] = d->reserved_type;
+    mpegh_drc_scope_to(c + 1, &d->scope);
+    c[5] = d->reserved_set;
+    c[6] = d->drc_set_id;
+    c[7] = d->reserved_downmix;
+    c[8] = d->downmix_id;
+    c[9] = d->reserved_additional;
+    c[10] = d->additional_downmix_ids.first;
+    c[11] = d->additional_downmix_ids.count;
+    c[12] = d->drc_set_effect;
+    c[13] = d->limiter_peak_target_present;
+    c[14] = d->limiter_peak_target;
+    c[15] = d->target_loudness_present;
+    c[16] = d->target_loudness.reserved_upper;
+    c[17] = d->target_loudness.upper;
+    c[18] = d->target_loudness.lower_present;
+    c[19] = d->target_loudness.reserved_lower;
+    c[20] = d->target_loudness.lower;
+    c[21] = d->target_loudness.reserved_depends;
+    c[22] = d->target_loudness.depends_on_drc_set;
+    c[23] = d->target_loudness.no_independent_use_or_reserved;
+}
+
+/* A row of table 10, counted from 0. */
+static inline struct mpegh_additional_downmix_id mpegh_additional_downmix_id_get(const uint16_t *additional, size_t row)
+{
+    const uint16_t *c = additional + row * MPEGH_ADDITIONAL_DOWNMIX_ID_COLUMNS;
+    struct mpegh_additional_downmix_id a;
+    a.reserved = c[0];
+    a.id = c[1];
+    return a;
+}
+
+static inline void mpegh_additional_downmix_id_put(uint16_t *additional, size_t row, const struct mpegh_additional_downmix_id *a)
+{
+    uint16_t *c = additional + row * MPEGH_ADDITIONAL_DOWNMIX_ID_COLUMNS;
+    c[0] = a->reserved;
+    c[1] = a->id;
+}
+
+/* A row of table 11, counted from 0. */
+static inline struct mpegh_loudness_info mpegh_loudness_info_get(const uint16_t *loudness, size_t row)
+{
+    const uint16_t *c = loudness + row * MPEGH_LOUDNESS_INFO_COLUMNS;
+    struct mpegh_loudness_info l;
+    l.reserved_type = c[0];
+    l.scope = mpegh_drc_scope_of(c + 1);
+    l.loudness_info = mpegh_payload_of(c + 5);
+    return l;
+}
+
+static inline void mpegh_loudness_info_put(uint16_t *loudness, size_t row, const struct mpegh_loudness_info *l)
+{
+    uint16_t *c = loudness + row * MPEGH_LOUDNESS_INFO_COLUMNS;
+    c[0] = l->reserved_type;
+    mpegh_drc_scope_to(c + 1, &l->scope);
+    c[5] = l->loudness_info.offset;
+    c[6] = l->loudness_info.length;
+}
+
+/* A row of table 12, counted from 0. */
+static inline struct mpegh_downmix_definition mpegh_downmix_definition_get(const uint16_t *downmix, size_t row)
+{
+    const uint16_t *c = downmix + row * MPEGH_DOWNMIX_DEFINITION_COLUMNS;
+    struct mpegh_downmix_definition m;
+    m.reserved = c[0];
+    m.downmix_id = c[1];
+    m.downmix_type = c[2];
+    m.cicp_speaker_layout_idx = c[3];
+    return m;
+}
+
+static inline void mpegh_downmix_definition_put(uint16_t *downmix, size_t row, const struct mpegh_downmix_definition *m)
+{
+    uint16_t *c = downmix + row * MPEGH_DOWNMIX_DEFINITION_COLUMNS;
+    c[0] = m->reserved;
+    c[1] = m->downmix_id;
+    c[2] = m->downmix_type;
+    c[3] = m->cicp_speaker_layout_idx;
 }
 
 #ifdef __cplusplus

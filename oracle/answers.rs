@@ -1,8 +1,9 @@
 //! The Rust's answers in document 01's numbers, columns and places: what `parse` gives as columns, and what `write` makes of columns.
-//! What the Rust has no word for is document 01's and stands in the modules `document_01`, here and in scene.rs, which has the scene.
+//! What the Rust has no word for is document 01's and stands in the modules `document_01`, here, in scene.rs, which has the scene, and in
+//! drc_loudness.rs, which has DRC and loudness.
 use crate::rust::error::{Error, Result};
 use crate::rust::mpegh_3d_audio::*;
-use crate::scene;
+use crate::{drc_loudness, scene};
 
 /// A number of document 01 and what it returns. Number 3 returns a table, `value`, and the rows that it needs.
 #[derive(Debug, Clone, Copy, PartialEq, Eq)]
@@ -27,7 +28,7 @@ pub struct Kind {
     pub tables: &'static [(u64, usize)],
 }
 
-pub const KINDS: [Kind; 4] = [
+pub const KINDS: [Kind; 5] = [
     Kind {
         number: 1,
         top: 10,
@@ -47,6 +48,11 @@ pub const KINDS: [Kind; 4] = [
         number: 4,
         top: 8,
         tables: &[(8, 5)],
+    },
+    Kind {
+        number: 5,
+        top: 10,
+        tables: &[(9, 24), (10, 2), (11, 7), (12, 4)],
     },
 ];
 
@@ -91,6 +97,42 @@ impl Along<'_> {
 
 pub fn zeros(field: u8, width: u32) -> usize {
     (width - u32::from(field).count_ones()) as usize
+}
+
+/// Goes along a body of a kind with many rows, fills its tables, and counts the reserved bits at 0.
+pub struct Walk<'a> {
+    pub along: Along<'a>,
+    pub tables: Vec<Vec<u16>>,
+    pub tally: usize,
+}
+
+impl Walk<'_> {
+    /// Behind the first bytes, `at` of them, with so many tables.
+    pub fn new(body: &[u8], at: usize, tables: usize) -> Walk<'_> {
+        Walk {
+            along: Along { body, at },
+            tables: vec![vec![]; tables],
+            tally: 0,
+        }
+    }
+
+    pub fn reserved(&mut self, field: u8, width: u32) -> u16 {
+        self.tally += zeros(field, width);
+        field.into()
+    }
+
+    /// The record of a body that ends with the trailing run: the top record's columns but for that run's, which are the last.
+    pub fn record(mut self, mut top: Vec<u16>, trailing: &[u8]) -> Record {
+        let k = self.along.at;
+        top.extend(self.along.payload(trailing));
+        assert_eq!(self.along.at, self.along.body.len(), "the end");
+        Record {
+            top,
+            tables: self.tables,
+            k,
+            tally: self.tally,
+        }
+    }
 }
 
 fn base_record(m: &MpegH3dAudio, body: &[u8]) -> Record {
@@ -230,7 +272,8 @@ fn parse(kind: &Kind, body: &[u8]) -> std::result::Result<Record, usize> {
         1 => MpegH3dAudio::parse(r).map(|m| base_record(&m, body)),
         2 => MpegH3dAudioScene::parse(r).map(|m| scene::record(&m, body)),
         3 => MpegH3dAudioTextLabel::parse(r).map(|m| text_label_record(&m, body)),
-        _ => MpegH3dAudioMultiStream::parse(r).map(|m| multi_stream_record(&m, body)),
+        4 => MpegH3dAudioMultiStream::parse(r).map(|m| multi_stream_record(&m, body)),
+        _ => MpegH3dAudioDrcLoudness::parse(r).map(|m| drc_loudness::record(&m, body)),
     };
     record.map_err(|e| match e {
         Error::BufferTooShort { need, .. } => need,
@@ -286,7 +329,7 @@ pub struct Value<'a> {
 
 impl Value<'_> {
     /// A payload of the store, or one that is as much too long.
-    fn payload(&self, offset: u16, length: u16) -> Vec<u8> {
+    pub fn payload(&self, offset: u16, length: u16) -> Vec<u8> {
         let (offset, length) = (usize::from(offset), usize::from(length).min(256));
         self.store[offset..offset + length].to_vec()
     }
@@ -301,6 +344,13 @@ impl Value<'_> {
 /// A column as the Rust's byte. One over 255 becomes 255, which is over the width of every field but a full byte.
 pub fn byte(column: u16) -> u8 {
     column.min(255) as u8
+}
+
+/// What stands behind the row with a fault that the Rust has no word for: as many plain rows as there are, or nothing.
+#[derive(Clone, Copy, PartialEq)]
+pub enum Behind {
+    Plain,
+    Nothing,
 }
 
 fn base_value(v: &Value) -> MpegH3dAudio {
@@ -442,6 +492,7 @@ pub fn image(
         Ok(()) => return Ok(out),
         Err(Error::FieldOverflow(_)) => 5,
         Err(Error::InvalidDescriptor { reason, .. }) if reason.contains("needs at least one") => 7,
+        Err(Error::InvalidDescriptor { reason, .. }) if reason.starts_with("DrcScope::") => 8,
         Err(Error::InvalidDescriptor { .. }) => 9,
         Err(e) => panic!("writing refuses by {e:?}"),
     };
@@ -497,7 +548,8 @@ pub fn write(kind: &Kind, v: &Value, room: usize) -> (Answer, Option<Vec<u8>>) {
         }
         2 => scene::write(v),
         3 => write_text_label(v),
-        _ => write_multi_stream(v),
+        4 => write_multi_stream(v),
+        _ => drc_loudness::write(v),
     };
     match image {
         Err(a) => (a, None),
@@ -544,17 +596,22 @@ pub mod document_01 {
     /// 6 at place 0: the ranges of the top record, of parts that are there.
     pub fn top_range(kind: &Kind, v: &Value) -> Option<Answer> {
         let (t, store) = (v.top, v.store.len());
+        let rows = |i: usize| v.tables[i].len() / kind.tables[i].1;
         let out = match kind.number {
             1 => (t[2] != 0 && passes(t[3], t[4], store)) || passes(t[8], t[9], store),
             2 => {
-                let rows = |i: usize, columns: usize| v.tables[i].len() / columns;
-                (t[2] != 0 && passes(0, t[3], rows(0, 27)))
-                    || (t[5] != 0 && passes(0, t[6], rows(1, 9)))
-                    || (t[8] != 0 && passes(0, t[9], rows(3, 7)))
+                (t[2] != 0 && passes(0, t[3], rows(0)))
+                    || (t[5] != 0 && passes(0, t[6], rows(1)))
+                    || (t[8] != 0 && passes(0, t[9], rows(3)))
                     || passes(t[11], t[12], store)
             }
-            3 => passes(0, t[2], v.tables[0].len() / 12) || passes(t[3], t[4], store),
-            _ => (t[1] != 0 && passes(0, t[5], v.tables[0].len() / 5)) || passes(t[6], t[7], store),
+            3 => passes(0, t[2], rows(0)) || passes(t[3], t[4], store),
+            4 => (t[1] != 0 && passes(0, t[5], rows(0))) || passes(t[6], t[7], store),
+            _ => {
+                let counts = [(t[5], 0), (t[6], 2), (t[7], 3)];
+                (t[1] != 0 && counts.iter().any(|&(n, i)| passes(0, n, rows(i))))
+                    || passes(t[8], t[9], store)
+            }
         };
         out.then(|| answer(6, 0))
     }

@@ -84,7 +84,7 @@ pub fn text_label(r: &mut Random, counts: &[[usize; 3]], most: usize, trailing: 
     b
 }
 
-/// How the reserved bits of a scene body are set.
+/// How the reserved bits of a scene body or of a DRC and loudness body are set.
 #[derive(Clone, Copy)]
 pub enum Reserved {
     Mixed,
@@ -116,14 +116,14 @@ impl Scene {
     }
 }
 
-/// The bytes of a scene body that are written so far.
-struct SceneBytes<'a> {
+/// The bytes of a body that are written so far.
+struct Bytes<'a> {
     r: &'a mut Random,
     reserved: Reserved,
     bytes: Vec<u8>,
 }
 
-impl SceneBytes<'_> {
+impl Bytes<'_> {
     fn put(&mut self, byte: u8, reserved_bits: u8) {
         self.bytes.push(match self.reserved {
             Reserved::Mixed => byte,
@@ -187,7 +187,7 @@ impl SceneBytes<'_> {
 
 pub fn scene(r: &mut Random, s: &Scene, reserved: Reserved) -> Vec<u8> {
     let bytes = vec![];
-    let mut b = SceneBytes { r, reserved, bytes };
+    let mut b = Bytes { r, reserved, bytes };
     let flag = |present: bool, bit: u8| if present { bit } else { 0 };
     let flags = flag(s.groups.is_some(), 0x80)
         | flag(s.switch_groups.is_some(), 0x40)
@@ -229,6 +229,136 @@ pub fn scene_shape(r: &mut Random, trailing: usize) -> Scene {
         groups: (r.to(4) > 0).then(|| (0..groups).map(|_| r.byte() & 7).collect()),
         switch_groups: (r.to(4) > 0).then(|| (0..switch_groups).map(|_| 1 + r.to(most)).collect()),
         presets: (r.to(4) > 0).then(|| (0..presets).map(|_| conditions(r)).collect()),
+        trailing,
+    }
+}
+
+/// The widths of the fields in the rows of tables 9 to 12. A 0 stands for a flag, a column of a scope, or one of a range.
+pub const DRC_LOUDNESS_WIDTHS: [&[u32]; 4] = [
+    &[
+        6, 0, 0, 0, 0, 2, 6, 1, 7, 3, 0, 0, 16, 0, 8, 0, 1, 6, 0, 2, 6, 1, 6, 1,
+    ],
+    &[1, 7],
+    &[6, 0, 0, 0, 0, 0, 0],
+    &[1, 7, 2, 6],
+];
+
+/// An instruction's shape: its type, the number of its additional IDs, and its parts (1 target loudness, 2 limiter, 4 lower value, which is in
+/// a target loudness).
+#[derive(Clone, Copy)]
+pub struct Instruction {
+    pub kind: u8,
+    pub ids: usize,
+    pub parts: u8,
+}
+
+/// A loudness entry's shape: its type and the bytes of its payload.
+#[derive(Clone, Copy)]
+pub struct Loudness {
+    pub kind: u8,
+    pub length: usize,
+}
+
+/// The shape of a DRC and loudness body: its rows, or no info.
+#[derive(Clone)]
+pub struct DrcLoudness {
+    pub info: bool,
+    pub instructions: Vec<Instruction>,
+    pub loudness: Vec<Loudness>,
+    pub definitions: usize,
+    pub trailing: usize,
+}
+
+impl DrcLoudness {
+    /// The rows of tables 9 to 12.
+    pub fn rows(&self) -> [usize; 4] {
+        [
+            self.instructions.len(),
+            self.instructions.iter().map(|i| i.ids).sum(),
+            self.loudness.len(),
+            self.definitions,
+        ]
+    }
+}
+
+impl Bytes<'_> {
+    /// A type, and the ID that follows some.
+    fn scope(&mut self, kind: u8, group_types: &[u8]) {
+        self.number(kind.into(), 0x03);
+        if group_types.contains(&kind) {
+            self.any(&[0x80]);
+        } else if kind == 3 {
+            self.any(&[0xE0]);
+        }
+    }
+
+    fn instruction(&mut self, i: &Instruction) {
+        self.scope(i.kind, &[2]);
+        self.any(&[0xC0, 0x80]);
+        self.number(i.ids << 2 | usize::from(i.parts & 3), 0x1F);
+        self.any(&vec![0x80; i.ids]);
+        self.any(&[0, 0]);
+        if i.parts & 2 != 0 {
+            self.any(&[0]);
+        }
+        if i.parts & 1 != 0 {
+            let lower = i.parts >> 2;
+            let upper = self.r.byte() & 0xFE | lower;
+            self.put(upper, 0x80);
+            self.any(&vec![0xC0; usize::from(lower)]);
+            self.any(&[0x80]);
+        }
+    }
+
+    fn loudness(&mut self, l: &Loudness) {
+        self.scope(l.kind, &[1, 2]);
+        self.number(l.length, 0xFF);
+        self.any(&vec![0; l.length]);
+    }
+}
+
+pub fn drc_loudness(r: &mut Random, s: &DrcLoudness, reserved: Reserved) -> Vec<u8> {
+    let bytes = vec![];
+    let mut b = Bytes { r, reserved, bytes };
+    b.number(s.info.into(), 0x01);
+    if s.info {
+        b.number(s.instructions.len(), 0x3F);
+        b.number(s.loudness.len(), 0x3F);
+        b.number(s.definitions, 0x1F);
+        s.instructions.iter().for_each(|i| b.instruction(i));
+        s.loudness.iter().for_each(|l| b.loudness(l));
+        (0..s.definitions).for_each(|_| b.any(&[0x80, 0]));
+    }
+    b.any(&vec![0; s.trailing]);
+    b.bytes
+}
+
+/// A shape with lists that are empty, of a few rows and now and then full, or now and then with no info.
+pub fn drc_loudness_shape(r: &mut Random, trailing: usize) -> DrcLoudness {
+    let count = |r: &mut Random, full: usize| match r.to(40) {
+        0 => full,
+        n if n < 10 => 0,
+        _ => 1 + r.to(4),
+    };
+    let info = r.to(12) > 0;
+    let full = if info { [63, 63, 31] } else { [0; 3] };
+    let [instructions, loudness, definitions] = full.map(|n| count(r, n).min(n));
+    let most = r.one_of(&[0, 1, 1, 2, 3, 12, 255]);
+    let instruction = |r: &mut Random| Instruction {
+        kind: r.byte() & 3,
+        ids: r.one_of(&[0, 0, 1, 1, 2, 3, 4, 5, 6, 7]),
+        parts: r.one_of(&[0, 1, 2, 3, 5, 7]),
+    };
+    DrcLoudness {
+        info,
+        instructions: (0..instructions).map(|_| instruction(r)).collect(),
+        loudness: (0..loudness)
+            .map(|_| Loudness {
+                kind: r.byte() & 3,
+                length: r.to(most + 1),
+            })
+            .collect(),
+        definitions,
         trailing,
     }
 }

@@ -4,11 +4,12 @@
 extern crate alloc;
 mod answers;
 mod bodies;
+mod drc_loudness;
 mod library;
 mod rust;
 mod scene;
 use answers::{Answer, Kind, Record, Value, KINDS};
-use bodies::{Random, Reserved};
+use bodies::{Random, Reserved, DRC_LOUDNESS_WIDTHS};
 use library::Lent;
 use rust::error;
 use std::panic::{catch_unwind, AssertUnwindSafe};
@@ -136,6 +137,11 @@ fn counts_of(r: &mut Random) -> Vec<[usize; 3]> {
         .collect()
 }
 
+fn any_reserved(r: &mut Random) -> Reserved {
+    let (mixed, ones, zeros) = (Reserved::Mixed, Reserved::Ones, Reserved::Zeros);
+    r.one_of(&[mixed, mixed, mixed, mixed, ones, zeros])
+}
+
 /// A whole body.
 fn whole_body(r: &mut Random, kind: &Kind) -> Vec<u8> {
     let trailing = r.one_of(&[0, 0, 0, 1, 2, 7, 30]);
@@ -147,9 +153,8 @@ fn whole_body(r: &mut Random, kind: &Kind) -> Vec<u8> {
         }
         2 => {
             let shape = bodies::scene_shape(r, trailing);
-            let all = [Reserved::Mixed, Reserved::Ones, Reserved::Zeros];
-            let reserved = r.one_of(&[0, 0, 0, 0, 1, 2]);
-            bodies::scene(r, &shape, all[reserved])
+            let reserved = any_reserved(r);
+            bodies::scene(r, &shape, reserved)
         }
         3 => {
             let counts = counts_of(r);
@@ -160,10 +165,15 @@ fn whole_body(r: &mut Random, kind: &Kind) -> Vec<u8> {
             }
             b
         }
-        _ => {
+        4 => {
             let count = r.one_of(&[0, 1, 2, 3, 5, 9, 30, 126, 127]);
             let aux = r.to(4);
             bodies::multi_stream(r, count, aux, trailing)
+        }
+        _ => {
+            let shape = bodies::drc_loudness_shape(r, trailing);
+            let reserved = any_reserved(r);
+            bodies::drc_loudness(r, &shape, reserved)
         }
     }
 }
@@ -211,6 +221,7 @@ fn columns_of(kind: &Kind, body: &[u8]) -> Option<Vec<Vec<u16>>> {
 fn one_row(kind: &Kind) -> Vec<usize> {
     match kind.number {
         2 => vec![kind.top, 27, 9, 2, 7, 13, 6],
+        5 => vec![kind.top, 24, 2, 7, 4, 5],
         _ => vec![kind.top, 12, 8, 3],
     }
 }
@@ -264,8 +275,10 @@ fn top_limits(kind: &Kind) -> (&'static [usize], &'static [usize]) {
 
 /// Columns that make lists share rows, flags of a row at 0, 1 or 2, and a trailing run that brings the image to about 65,535 bytes.
 fn change_more(r: &mut Random, kind: &Kind, columns: &mut [Vec<u16>], store: &mut Vec<u8>) {
-    if kind.number == 2 {
-        change_scene(r, columns);
+    match kind.number {
+        2 => change_scene(r, columns),
+        5 => change_drc_loudness(r, columns, store),
+        _ => {}
     }
     let rows = columns[1].len() / 5;
     if kind.number == 4 && rows > 0 && r.to(2) == 0 {
@@ -311,6 +324,57 @@ fn change_scene(r: &mut Random, columns: &mut [Vec<u16>]) {
         let first = r.to(children + 1);
         columns[table][at] = first as u16;
         columns[table][at + 1] = r.to(children + 1 - first) as u16;
+    }
+}
+
+/// A flag of an instruction at 0, 1 or 2, additional IDs that others may have, a scope whose case or kind may no longer fit the other, a field
+/// at its width or over it, a payload of about 255 bytes, and a list of about as many rows as its count can hold.
+fn change_drc_loudness(r: &mut Random, columns: &mut [Vec<u16>], store: &mut Vec<u8>) {
+    let (rows, ids) = (columns[1].len() / 24, columns[2].len() / 2);
+    if rows > 0 && r.to(3) == 0 {
+        columns[1][24 * r.to(rows) + r.one_of(&[13, 15, 18])] = r.one_of(&[0, 1, 0, 1, 0, 1, 2]);
+    }
+    if rows > 0 && r.to(3) == 0 {
+        let at = 24 * r.to(rows) + 10;
+        let first = r.to(ids + 1);
+        columns[1][at] = first as u16;
+        columns[1][at + 1] = r.to((ids - first).min(8) + 1) as u16;
+    }
+    let (table, width) = r.one_of(&[(1, 24), (3, 7)]);
+    let rows = columns[table].len() / width;
+    if rows > 0 && r.to(3) == 0 {
+        let at = width * r.to(rows);
+        if r.to(3) > 0 {
+            columns[table][at + 1] = r.one_of(&[0, 1, 2, 0, 1, 2, 3]);
+        }
+        if r.to(3) > 0 {
+            columns[table][at + 2] = r.one_of(&[0, 1, 2, 3, 0, 1, 2, 3, 4]);
+        }
+        if r.to(3) == 0 {
+            columns[table][at + r.one_of(&[0, 3, 4])] = r.one_of(&[2, 8, 32, 64, 128]);
+        }
+    }
+    let table = r.one_of(&[0, 0, 0, 1, 2, 3]);
+    let widths = DRC_LOUDNESS_WIDTHS[table];
+    let rows = columns[table + 1].len() / widths.len();
+    let at = r.to(widths.len());
+    if rows > 0 && (1..16).contains(&widths[at]) {
+        let row = widths.len() * r.to(rows);
+        columns[table + 1][row + at] = (1 << widths[at]) - r.to(2) as u16;
+    }
+    let rows = columns[3].len() / 7;
+    if rows > 0 && r.to(10) == 0 {
+        store.resize(store.len().max(300), 9);
+        let at = 7 * r.to(rows) + 5;
+        columns[3][at] = r.to(40) as u16;
+        columns[3][at + 1] = 254 + r.to(4) as u16;
+    }
+    let (column, table, width, most) = r.one_of(&[(5, 1, 24, 63), (6, 3, 7, 63), (7, 4, 4, 31)]);
+    if columns[table].len() >= width && r.to(10) == 0 {
+        let count = most + r.to(3);
+        let row = columns[table][..width].to_vec();
+        columns[table] = row.repeat(count);
+        columns[0][column] = count as u16;
     }
 }
 
@@ -375,14 +439,15 @@ fn main() {
         panic!("compare SEED COUNT");
     };
     std::panic::set_hook(Box::new(|_| {}));
-    // the scene came later: with numbers of its own it leaves the cases of the other kinds as they were
+    // the scene came later, then DRC and loudness: with numbers of their own they leave the cases of the other kinds as they were
     let (others, scene) = (&mut Random(seed), &mut Random(!seed));
+    let drc_loudness = &mut Random(seed.rotate_left(32));
     let mut differences = 0;
     for kind in &KINDS {
-        let r = if kind.number == 2 {
-            &mut *scene
-        } else {
-            &mut *others
+        let r = match kind.number {
+            2 => &mut *scene,
+            5 => &mut *drc_loudness,
+            _ => &mut *others,
         };
         let (mut reads, mut writes) = (Counts::default(), Counts::default());
         read_cases(r, kind, count as usize, &mut reads);

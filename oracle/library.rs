@@ -121,6 +121,46 @@ extern "C" {
         o: *mut u8,
         ol: usize,
     ) -> u64;
+    fn mpegh_drc_loudness_read(
+        b: *const u8,
+        bl: usize,
+        t: *mut u16,
+        tl: usize,
+        instructions: *mut u16,
+        instructions_length: usize,
+        additional: *mut u16,
+        additional_length: usize,
+        loudness: *mut u16,
+        loudness_length: usize,
+        downmix: *mut u16,
+        downmix_length: usize,
+    ) -> u64;
+    fn mpegh_drc_loudness_measure(b: *const u8, bl: usize, r: *mut u16, rl: usize) -> u64;
+    fn mpegh_drc_loudness_tally(b: *const u8, bl: usize) -> u64;
+    fn mpegh_drc_loudness_write(
+        reserved: u8,
+        info_present: bool,
+        reserved_drc: u8,
+        reserved_loudness: u8,
+        reserved_downmix: u8,
+        drc_instructions: u16,
+        loudness_infos: u16,
+        downmix_definitions: u16,
+        trailing_offset: u16,
+        trailing_length: u16,
+        instructions: *const u16,
+        instructions_length: usize,
+        additional: *const u16,
+        additional_length: usize,
+        loudness: *const u16,
+        loudness_length: usize,
+        downmix: *const u16,
+        downmix_length: usize,
+        s: *const u8,
+        sl: usize,
+        o: *mut u8,
+        ol: usize,
+    ) -> u64;
 }
 
 /// The answer that one number of the library stands for.
@@ -185,10 +225,17 @@ pub fn read(kind: &Kind, body: &[u8], lent: &mut [Lent<u16>]) -> [Answer; 3] {
                 mpegh_text_label_measure(b, bl, rows, rl),
                 mpegh_text_label_tally(b, bl),
             ],
-            _ => [
+            4 => [
                 mpegh_multi_stream_read(b, bl, p[0], n[0], p[1], n[1]),
                 mpegh_multi_stream_measure(b, bl, rows, rl),
                 mpegh_multi_stream_tally(b, bl),
+            ],
+            _ => [
+                mpegh_drc_loudness_read(
+                    b, bl, p[0], n[0], p[1], n[1], p[2], n[2], p[3], n[3], p[4], n[4],
+                ),
+                mpegh_drc_loudness_measure(b, bl, rows, rl),
+                mpegh_drc_loudness_tally(b, bl),
             ],
         }
     };
@@ -203,7 +250,8 @@ pub fn write(kind: &Kind, v: &Value, out: &mut Lent<u8>) -> Answer {
             1 => write_base(v.top, s, sl, o, ol),
             2 => write_scene(v, s, sl, o, ol),
             3 => write_text_label(v, s, sl, o, ol),
-            _ => write_multi_stream(v, s, sl, o, ol),
+            4 => write_multi_stream(v, s, sl, o, ol),
+            _ => write_drc_loudness(v, s, sl, o, ol),
         }
     })
 }
@@ -297,6 +345,35 @@ unsafe fn write_multi_stream(v: &Value, s: *const u8, sl: usize, o: *mut u8, ol:
         t[7],
         groups.as_ptr(),
         groups.len(),
+        s,
+        sl,
+        o,
+        ol,
+    )
+}
+
+unsafe fn write_drc_loudness(v: &Value, s: *const u8, sl: usize, o: *mut u8, ol: usize) -> u64 {
+    let (t, p) = (v.top, |i: usize| v.tables[i].as_ptr());
+    let (b, n) = (|i: usize| t[i] as u8, |i: usize| v.tables[i].len());
+    mpegh_drc_loudness_write(
+        b(0),
+        t[1] != 0,
+        b(2),
+        b(3),
+        b(4),
+        t[5],
+        t[6],
+        t[7],
+        t[8],
+        t[9],
+        p(0),
+        n(0),
+        p(1),
+        n(1),
+        p(2),
+        n(2),
+        p(3),
+        n(3),
         s,
         sl,
         o,

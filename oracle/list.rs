@@ -1,6 +1,7 @@
 //! Prints the list of cases that crates/vectors answers and oracle/judge judges: the same list every time. docs/ORACLE.md says what the
 //! letters mean. Nothing of the Rust and nothing of the library is used here.
 mod bodies;
+mod list_drc_loudness;
 mod list_scene;
 use bodies::Random;
 use std::fmt::Display;
@@ -803,4 +804,7 @@ fn main() {
     say("---- scene");
     line('k', &[2]);
     list_scene::cases(&mut Random(2));
+    say("---- DRC and loudness");
+    line('k', &[5]);
+    list_drc_loudness::cases(&mut Random(5));
 }

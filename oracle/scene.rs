@@ -1,23 +1,11 @@
 //! The scene body: what the Rust's `parse` gives as columns of tables 1 to 5, and what its `write` makes of such columns.
-use crate::answers::{answer, byte, image, zeros, Along, Image, Record, Value};
+use crate::answers::{answer, byte, image, Behind, Image, Record, Value, Walk};
 use crate::rust::mpegh_3d_audio::*;
 use document_01::{Fault, Part, Row};
 
 // ---- reading
 
-/// Goes along the body and fills the five tables, and counts the reserved bits at 0.
-struct Walk<'a> {
-    along: Along<'a>,
-    tables: [Vec<u16>; 5],
-    tally: usize,
-}
-
 impl Walk<'_> {
-    fn reserved(&mut self, field: u8, width: u32) -> u16 {
-        self.tally += zeros(field, width);
-        field.into()
-    }
-
     fn position(&mut self, p: &Option<PositionInteractivity>) -> [u16; 11] {
         let Some(p) = p else { return [0; 11] };
         self.along.at += 5;
@@ -146,11 +134,7 @@ impl Walk<'_> {
 }
 
 pub fn record(m: &MpegH3dAudioScene, body: &[u8]) -> Record {
-    let mut w = Walk {
-        along: Along { body, at: 2 },
-        tables: Default::default(),
-        tally: 0,
-    };
+    let mut w = Walk::new(body, 2, 5);
     let flags = w.reserved(m.reserved_flags, 5);
     let g = w.section(m.reserved_groups, 1, &m.groups);
     m.groups.iter().flatten().for_each(|g| w.group(g));
@@ -159,17 +143,9 @@ pub fn record(m: &MpegH3dAudioScene, body: &[u8]) -> Record {
     switch_groups.for_each(|g| w.switch_group(g));
     let p = w.section(m.reserved_presets, 3, &m.presets);
     m.presets.iter().flatten().for_each(|p| w.preset(p));
-    let k = w.along.at;
-    let trailing = w.along.payload(&m.trailing);
-    assert_eq!(w.along.at, body.len(), "the end");
     let mut top = vec![flags, m.scene_info_id.into(), g[1], g[2]];
-    top.extend(s.into_iter().chain(p).chain([g[0]]).chain(trailing));
-    Record {
-        top,
-        tables: w.tables.into(),
-        k,
-        tally: w.tally,
-    }
+    top.extend(s.into_iter().chain(p).chain([g[0]]));
+    w.record(top, &m.trailing)
 }
 
 // ---- writing
@@ -290,13 +266,6 @@ fn plain_preset() -> GroupPreset {
         reserved_conditions: 0,
         conditions: vec![plain_condition()],
     }
-}
-
-/// What stands behind the row with the fault: as many plain rows as there are, or nothing.
-#[derive(Clone, Copy, PartialEq)]
-enum Behind {
-    Plain,
-    Nothing,
 }
 
 /// The rows of a list up to the one with the fault, that one by `at`, and what stands behind; or all of them.

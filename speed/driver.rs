@@ -8,7 +8,8 @@ mod rust;
 
 use rust::error;
 use rust::mpegh_3d_audio::{
-    MpegH3dAudio, MpegH3dAudioMultiStream, MpegH3dAudioScene, MpegH3dAudioTextLabel, Reader,
+    DrcScope, MpegH3dAudio, MpegH3dAudioDrcLoudness, MpegH3dAudioMultiStream, MpegH3dAudioScene,
+    MpegH3dAudioTextLabel, Reader,
 };
 use std::hint::black_box;
 
@@ -127,6 +128,44 @@ extern "C" {
         out: *mut u8,
         out_len: usize,
     ) -> u64;
+    fn mpegh_drc_loudness_read(
+        body: *const u8,
+        body_len: usize,
+        top: *mut u16,
+        top_len: usize,
+        instructions: *mut u16,
+        instructions_len: usize,
+        additional: *mut u16,
+        additional_len: usize,
+        loudness: *mut u16,
+        loudness_len: usize,
+        downmix: *mut u16,
+        downmix_len: usize,
+    ) -> u64;
+    fn mpegh_drc_loudness_write(
+        reserved: u8,
+        info_present: bool,
+        reserved_drc: u8,
+        reserved_loudness: u8,
+        reserved_downmix: u8,
+        drc_instructions: u16,
+        loudness_infos: u16,
+        downmix_definitions: u16,
+        trailing_offset: u16,
+        trailing_length: u16,
+        instructions: *const u16,
+        instructions_len: usize,
+        additional: *const u16,
+        additional_len: usize,
+        loudness: *const u16,
+        loudness_len: usize,
+        downmix: *const u16,
+        downmix_len: usize,
+        store: *const u8,
+        store_len: usize,
+        out: *mut u8,
+        out_len: usize,
+    ) -> u64;
 }
 
 /// What the library is lent: a top record, and tables with more rows than any body needs.
@@ -138,7 +177,8 @@ struct Lent {
 /// A kind of body, on both sides.
 trait Kind {
     type Value;
-    /// The number of `Error::InvalidDescriptor`, where the kind has it: 7 for an empty list, 9 for an auxiliary part that does not fit.
+    /// The number of `Error::InvalidDescriptor`, where the kind has it: 7 for an empty list, 8 for a scope whose type and case disagree, 9 for
+    /// an auxiliary part that does not fit.
     const INVALID: u64;
     fn parse(r: &mut Reader<'_>) -> error::Result<Self::Value>;
     fn write(value: &Self::Value, out: &mut Vec<u8>) -> error::Result<()>;
@@ -439,6 +479,97 @@ impl Kind for MultiStream {
     }
 }
 
+struct DrcLoudness;
+
+impl Kind for DrcLoudness {
+    type Value = MpegH3dAudioDrcLoudness;
+    const INVALID: u64 = 8;
+    #[inline(always)]
+    fn parse(r: &mut Reader<'_>) -> error::Result<MpegH3dAudioDrcLoudness> {
+        MpegH3dAudioDrcLoudness::parse(r)
+    }
+    #[inline(always)]
+    fn write(value: &MpegH3dAudioDrcLoudness, out: &mut Vec<u8>) -> error::Result<()> {
+        value.write(out)
+    }
+    #[inline(always)]
+    fn our_read(body: &[u8], lent: &mut Lent) -> u64 {
+        let top = &mut lent.top;
+        let [instructions, additional, loudness, downmix, _] = &mut lent.tables;
+        unsafe {
+            mpegh_drc_loudness_read(
+                body.as_ptr(),
+                body.len(),
+                top.as_mut_ptr(),
+                top.len(),
+                instructions.as_mut_ptr(),
+                instructions.len(),
+                additional.as_mut_ptr(),
+                additional.len(),
+                loudness.as_mut_ptr(),
+                loudness.len(),
+                downmix.as_mut_ptr(),
+                downmix.len(),
+            )
+        }
+    }
+    #[inline(always)]
+    fn our_write(lent: &Lent, store: &[u8], out: &mut [u8]) -> u64 {
+        let t = &lent.top;
+        let [instructions, additional, loudness, downmix, _] = &lent.tables;
+        unsafe {
+            mpegh_drc_loudness_write(
+                t[0] as u8,
+                t[1] != 0,
+                t[2] as u8,
+                t[3] as u8,
+                t[4] as u8,
+                t[5],
+                t[6],
+                t[7],
+                t[8],
+                t[9],
+                instructions.as_ptr(),
+                instructions.len(),
+                additional.as_ptr(),
+                additional.len(),
+                loudness.as_ptr(),
+                loudness.len(),
+                downmix.as_ptr(),
+                downmix.len(),
+                store.as_ptr(),
+                store.len(),
+                out.as_mut_ptr(),
+                out.len(),
+            )
+        }
+    }
+    fn spoil(fault: &str, value: &mut MpegH3dAudioDrcLoudness, lent: &mut Lent) {
+        let last = |count: usize| usize::from(lent.top[count]).saturating_sub(1);
+        let (instruction, entry, definition) = (24 * last(5), 7 * last(6), 4 * last(7));
+        let [instructions, _, loudness, downmix, _] = &mut lent.tables;
+        let info = value.info.as_mut().unwrap();
+        match fault {
+            "instruction" => {
+                let last = info.drc_instructions.last_mut().unwrap();
+                last.target_loudness.as_mut().unwrap().depends_on_drc_set = 64;
+                instructions[instruction + 22] = 64;
+            }
+            "scope" => {
+                info.loudness_infos.last_mut().unwrap().scope = DrcScope::Plain(3);
+                loudness[entry + 1] = 0;
+                loudness[entry + 2] = 3;
+            }
+            "field" => {
+                let last = info.downmix_definitions.last_mut().unwrap();
+                last.cicp_speaker_layout_idx = 64;
+                downmix[definition + 3] = 64;
+            }
+            _ => panic!("the DRC and loudness body has no fault {fault}"),
+        }
+    }
+}
+
 /// The number of the Rust's answer, with the need of number 1. It does not name the place of a fault in a value.
 fn number<K: Kind>(e: error::Error) -> u64 {
     match e {
@@ -579,6 +710,7 @@ fn main() {
         "2" => measure::<Scene>(fault, &body),
         "3" => measure::<TextLabel>(fault, &body),
         "4" => measure::<MultiStream>(fault, &body),
+        "5" => measure::<DrcLoudness>(fault, &body),
         _ => panic!("no kind {kind}"),
     }
 }

@@ -10,7 +10,7 @@ use Rattle.frame.specs.Numbers.{Answer, numbered}
 use Rattle.frame.specs.Kind.{Kind}
 use Rattle.frame.specs.Entry.{Sizes, measuring, tallying}
 use Rattle.bench.specs.declared.line.Line.{Line}
-use Rattle.bench.specs.Line.{refusedLine, tooLongLine, judgedLine, bodyLine, baseLine, sceneLine, textLabelLine, multiStreamLine, kindLine, lineOf}
+use Rattle.bench.specs.Line.{refusedLine, tooLongLine, judgedLine, bodyLine, baseLine, sceneLine, textLabelLine, multiStreamLine, drcLoudnessLine, kindLine, lineOf}
 
 pub nothing : (s : List ℕ) → length s ≡ 0 → lineOf s ≡ refusedLine (numbered 11 (0 ∷ []))
 unfolding lineOf kindLine
@@ -40,9 +40,13 @@ is-4 : (k : ℕ) (body : List ℕ) → (k ≡ 1 → ⊥) → (k ≡ 2 → ⊥) �
 unfolding kindLine
 is-4 k body n m o e = rw (ne-eqb k 1 n, ne-eqb k 2 m, ne-eqb k 3 o, eq-eqb k 4 e, kindLine) refl
 
-is-other : (k : ℕ) (body : List ℕ) → (k ≡ 1 → ⊥) → (k ≡ 2 → ⊥) → (k ≡ 3 → ⊥) → (k ≡ 4 → ⊥) → kindLine k body ≡ refusedLine (numbered 11 (k ∷ []))
+is-5 : (k : ℕ) (body : List ℕ) → (k ≡ 1 → ⊥) → (k ≡ 2 → ⊥) → (k ≡ 3 → ⊥) → (k ≡ 4 → ⊥) → k ≡ 5 → kindLine k body ≡ drcLoudnessLine body
 unfolding kindLine
-is-other k body n m o p = rw (ne-eqb k 1 n, ne-eqb k 2 m, ne-eqb k 3 o, ne-eqb k 4 p, kindLine) refl
+is-5 k body n m o p e = rw (ne-eqb k 1 n, ne-eqb k 2 m, ne-eqb k 3 o, ne-eqb k 4 p, eq-eqb k 5 e, kindLine) refl
+
+is-other : (k : ℕ) (body : List ℕ) → (k ≡ 1 → ⊥) → (k ≡ 2 → ⊥) → (k ≡ 3 → ⊥) → (k ≡ 4 → ⊥) → (k ≡ 5 → ⊥) → kindLine k body ≡ refusedLine (numbered 11 (k ∷ []))
+unfolding kindLine
+is-other k body n m o p q = rw (ne-eqb k 1 n, ne-eqb k 2 m, ne-eqb k 3 o, ne-eqb k 4 p, ne-eqb k 5 q, kindLine) refl
 
 -- the body is lent as the part of the input behind the kind byte
 module _ (s : List ℕ) {k : ℕ} (h : 0 < length s) (e : k ≡ getD s 0 0) where
@@ -63,8 +67,11 @@ module _ (s : List ℕ) {k : ℕ} (h : 0 < length s) (e : k ≡ getD s 0 0) wher
   pub as-multi-stream : {line : Line} → (k ≡ 1 → ⊥) → (k ≡ 2 → ⊥) → (k ≡ 3 → ⊥) → k ≡ 4 → line ≡ multiStreamLine (take (length s - 1) (drop 1 s)) → line ≡ lineOf s
   as-multi-stream {line} n m o q r = by-kind line multiStreamLine (is-4 k (drop 1 s) n m o q) r
 
-  pub unknown : {line : Line} → (k ≡ 1 → ⊥) → (k ≡ 2 → ⊥) → (k ≡ 3 → ⊥) → (k ≡ 4 → ⊥) → line ≡ refusedLine (numbered 11 (k ∷ [])) → line ≡ lineOf s
-  unknown {line} n m o p r = by-kind line (λ body. refusedLine (numbered 11 (k ∷ []))) (is-other k (drop 1 s) n m o p) r
+  pub as-drc-loudness : {line : Line} → (k ≡ 1 → ⊥) → (k ≡ 2 → ⊥) → (k ≡ 3 → ⊥) → (k ≡ 4 → ⊥) → k ≡ 5 → line ≡ drcLoudnessLine (take (length s - 1) (drop 1 s)) → line ≡ lineOf s
+  as-drc-loudness {line} n m o p q r = by-kind line drcLoudnessLine (is-5 k (drop 1 s) n m o p q) r
+
+  pub unknown : {line : Line} → (k ≡ 1 → ⊥) → (k ≡ 2 → ⊥) → (k ≡ 3 → ⊥) → (k ≡ 4 → ⊥) → (k ≡ 5 → ⊥) → line ≡ refusedLine (numbered 11 (k ∷ [])) → line ≡ lineOf s
+  unknown {line} n m o p q r = by-kind line (λ body. refusedLine (numbered 11 (k ∷ []))) (is-other k (drop 1 s) n m o p q) r
 
 -- ---- a body
 

@@ -11,6 +11,7 @@ use Rattle.base.specs.Write as Base
 use Rattle.scene_kind.specs.Kind as Scene
 use Rattle.text_label.specs.Write as TextLabel
 use Rattle.multi_stream.specs.Write as MultiStream
+use Rattle.drc_kind.specs.Kind as DrcLoudness
 use Rattle.bench.specs.declared.line.Line.{Line}
 
 -- k and tally are 0 on refusal
@@ -45,7 +46,10 @@ textLabelLine body = bodyLine TextLabel.kind body
 abbrev pub multiStreamLine : List ℕ → Line
 multiStreamLine body = bodyLine MultiStream.kind body
 
--- the kinds that exist: 1 base, 2 scene, 3 text label, 4 multi-stream
+abbrev pub drcLoudnessLine : List ℕ → Line
+drcLoudnessLine body = bodyLine DrcLoudness.kind body
+
+-- the five kinds: 1 base, 2 scene, 3 text label, 4 multi-stream, 5 DRC and loudness
 unfoldable pub kindLine : ℕ → List ℕ → Line
 kindLine k body = elim (eqb k 1) [
   | true ↦ baseLine body
@@ -55,7 +59,10 @@ kindLine k body = elim (eqb k 1) [
       | true ↦ textLabelLine body
       | false ↦ elim (eqb k 4) [
         | true ↦ multiStreamLine body
-        | false ↦ refusedLine (numbered 11 (k ∷ []))
+        | false ↦ elim (eqb k 5) [
+          | true ↦ drcLoudnessLine body
+          | false ↦ refusedLine (numbered 11 (k ∷ []))
+        ]
       ]
     ]
   ]

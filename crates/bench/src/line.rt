@@ -1,7 +1,7 @@
 // The four numbers that the bench program prints (document 01, "The bench program"), decided from its input: one kind byte, then the body.
 ghost use mathlib.Core.Path.{_≡_};
 ghost use Rattle.frame.specs.Numbers.{refusal, tallied};
-ghost use Rattle.bench.specs.Line.{lineOf, baseLine, sceneLine, textLabelLine, multiStreamLine, talliedLine, refusedLine, tooLongLine};
+ghost use Rattle.bench.specs.Line.{lineOf, baseLine, sceneLine, textLabelLine, multiStreamLine, drcLoudnessLine, talliedLine, refusedLine, tooLongLine};
 use frame::Refusal;
 use frame::Tallied;
 
@@ -32,6 +32,9 @@ pub fn decide(input: &[u8]) -> Line
     }
     if kind == 4 {
         return multi_stream_line(&input[1..]);
+    }
+    if kind == 5 {
+        return drc_loudness_line(&input[1..]);
     }
     refused(11, kind as usize)
 }
@@ -91,6 +94,20 @@ fn multi_stream_line(body: &[u8]) -> Line
     match m {
         multi_stream::Measured::Refused(r) => refusal_line(r),
         multi_stream::Measured::Done(s) => tallied_line(s.k, t),
+    }
+}
+
+fn drc_loudness_line(body: &[u8]) -> Line
+    ensures { λ r. ⌜ r ≡ drcLoudnessLine (now (body .entry)) ⌝ }
+{
+    if 4096 < body.len() {
+        return too_long();
+    }
+    let m = drc_loudness::measure(body);
+    let t = drc_loudness::tally(body);
+    match m {
+        drc_loudness::Measured::Refused(r) => refusal_line(r),
+        drc_loudness::Measured::Done(s) => tallied_line(s.k, t),
     }
 }
 

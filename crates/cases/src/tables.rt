@@ -29,7 +29,11 @@ pub fn place(table: usize, at: usize) -> usize {
 
 // What measuring is lent: a column more than it needs, and three for the kinds with fewer tables.
 pub fn rows_lent(kind: usize) -> usize {
-    if kind == 2 { 6 } else { 3 }
+    match kind {
+        2 => 6,
+        5 => 5,
+        _ => 3,
+    }
 }
 
 pub fn pick(first: bool, a: usize, b: usize) -> usize {

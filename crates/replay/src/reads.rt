@@ -5,6 +5,7 @@ use cases::tables::Columns;
 use cases::tables::copy_columns;
 use cases::tables::front_mut;
 use mpegh_c::base_body;
+use mpegh_c::drc_loudness_body;
 use mpegh_c::multi_stream_body;
 use mpegh_c::scene_body;
 use mpegh_c::text_label_body;
@@ -82,13 +83,37 @@ fn read_multi_stream(s: State, body: &[u8], columns: &mut Columns) -> u64 {
     answer
 }
 
+fn read_drc_loudness(s: State, body: &[u8], columns: &mut Columns) -> u64 {
+    let n = s.lent;
+    let mut top = [43981u16; 32];
+    let mut instructions = [43981u16; 2048];
+    let mut additional = [43981u16; 1024];
+    let mut loudness = [43981u16; 512];
+    let mut downmixes = [43981u16; 256];
+    let answer = drc_loudness_body::mpegh_drc_loudness_read(
+        body,
+        front_mut(&mut top, n[0]),
+        front_mut(&mut instructions, n[1]),
+        front_mut(&mut additional, n[2]),
+        front_mut(&mut loudness, n[3]),
+        front_mut(&mut downmixes, n[4]),
+    );
+    copy_columns(columns, 0, &top, n[0]);
+    copy_columns(columns, 1, &instructions, n[1]);
+    copy_columns(columns, 2, &additional, n[2]);
+    copy_columns(columns, 3, &loudness, n[3]);
+    copy_columns(columns, 4, &downmixes, n[4]);
+    answer
+}
+
 fn read(s: State, body: &[u8], columns: &mut Columns) -> u64 {
     let kind = s.kind;
     match kind {
         1 => read_base(s, body, columns),
         2 => read_scene(s, body, columns),
         3 => read_text_label(s, body, columns),
-        _ => read_multi_stream(s, body, columns),
+        4 => read_multi_stream(s, body, columns),
+        _ => read_drc_loudness(s, body, columns),
     }
 }
 
@@ -97,7 +122,8 @@ fn measure_into(kind: usize, body: &[u8], rows: &mut [u16]) -> u64 {
         1 => base_body::mpegh_base_measure(body, rows),
         2 => scene_body::mpegh_scene_measure(body, rows),
         3 => text_label_body::mpegh_text_label_measure(body, rows),
-        _ => multi_stream_body::mpegh_multi_stream_measure(body, rows),
+        4 => multi_stream_body::mpegh_multi_stream_measure(body, rows),
+        _ => drc_loudness_body::mpegh_drc_loudness_measure(body, rows),
     }
 }
 
@@ -114,7 +140,8 @@ fn tally(kind: usize, body: &[u8]) -> u64 {
         1 => base_body::mpegh_base_tally(body),
         2 => scene_body::mpegh_scene_tally(body),
         3 => text_label_body::mpegh_text_label_tally(body),
-        _ => multi_stream_body::mpegh_multi_stream_tally(body),
+        4 => multi_stream_body::mpegh_multi_stream_tally(body),
+        _ => drc_loudness_body::mpegh_drc_loudness_tally(body),
     }
 }
 

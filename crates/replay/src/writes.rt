@@ -5,6 +5,7 @@ use cases::tables::Columns;
 use cases::tables::column;
 use cases::tables::part;
 use mpegh_c::base_body;
+use mpegh_c::drc_loudness_body;
 use mpegh_c::multi_stream_body;
 use mpegh_c::scene_body;
 use mpegh_c::text_label_body;
@@ -92,12 +93,35 @@ fn write_multi_stream(s: State, columns: &Columns, store: &[u8], out: &mut [u8])
     )
 }
 
+fn write_drc_loudness(s: State, columns: &Columns, store: &[u8], out: &mut [u8]) -> u64 {
+    let n = s.lent;
+    drc_loudness_body::mpegh_drc_loudness_write(
+        byte(columns, 0),
+        flag(columns, 1),
+        byte(columns, 2),
+        byte(columns, 3),
+        byte(columns, 4),
+        column(columns, 5),
+        column(columns, 6),
+        column(columns, 7),
+        column(columns, 8),
+        column(columns, 9),
+        part(columns, 1, n[1]),
+        part(columns, 2, n[2]),
+        part(columns, 3, n[3]),
+        part(columns, 4, n[4]),
+        store,
+        out,
+    )
+}
+
 pub fn write(s: State, columns: &Columns, store: &[u8], out: &mut [u8]) -> u64 {
     let kind = s.kind;
     match kind {
         1 => write_base(columns, store, out),
         2 => write_scene(s, columns, store, out),
         3 => write_text_label(s, columns, store, out),
-        _ => write_multi_stream(s, columns, store, out),
+        4 => write_multi_stream(s, columns, store, out),
+        _ => write_drc_loudness(s, columns, store, out),
     }
 }

@@ -1,7 +1,7 @@
 -- `bench::line::decide` meets its contract: each test of the code is one of the definition.
 use mathlib.Core.Path.{sym, _∙_}
 use native.Mathlib.Omega.{arith}
-use Rattle.bench.proofs.Decided.{nothing, as-base, as-scene, as-text-label, as-multi-stream, unknown}
+use Rattle.bench.proofs.Decided.{nothing, as-base, as-scene, as-text-label, as-multi-stream, as-drc-loudness, unknown}
 use borrow.Author.Needs.{needs}
 use Rattle.bench.proofs.line.decide.Statement.{statement}
 use Rattle.bench.proofs.line.decide.Tie as tie
@@ -83,15 +83,31 @@ returns-5 : tie.Need-returns-5
 returns-5 c =
     as-multi-stream _ (omega arith) (c .before .before .before .before .before .before .wide .ensures) (c .before .before .before .before .before .if2 .left) (c .before .before .before .before .if3 .left) (c .before .before .before .if4 .left) (c .before .before .if5 .taken) (c .multi-stream-line .ensures)
 
+sub-drc-loudness-line : tie.Need-sub-drc-loudness-line
+sub-drc-loudness-line c = search needs
+
+part-drc-loudness-line-start : tie.Need-part-drc-loudness-line-start
+part-drc-loudness-line-start c = search needs
+
+part-drc-loudness-line-end : tie.Need-part-drc-loudness-line-end
+part-drc-loudness-line-end c = search needs
+
+drc-loudness-line-requires : tie.Need-drc-loudness-line-requires
+drc-loudness-line-requires c κs = search needs
+
+returns-6 : tie.Need-returns-6
+returns-6 c =
+    as-drc-loudness _ (omega arith) (c .before .before .before .before .before .before .before .wide .ensures) (c .before .before .before .before .before .before .if2 .left) (c .before .before .before .before .before .if3 .left) (c .before .before .before .before .if4 .left) (c .before .before .before .if5 .left) (c .before .before .if6 .taken) (c .drc-loudness-line .ensures)
+
 cast-refused : tie.Need-cast-refused
 cast-refused c = search needs
 
 refused-requires-2 : tie.Need-refused-requires-2
 refused-requires-2 c κs = search needs
 
-returns-6 : tie.Need-returns-6
-returns-6 c =
-    unknown _ (omega arith) (c .before .before .before .before .before .wide .ensures) (c .before .before .before .before .if2 .left) (c .before .before .before .if3 .left) (c .before .before .if4 .left) (c .before .if5 .left) (c .refused2 .ensures)
+returns-7 : tie.Need-returns-7
+returns-7 c =
+    unknown _ (omega arith) (c .before .before .before .before .before .before .wide .ensures) (c .before .before .before .before .before .if2 .left) (c .before .before .before .before .if3 .left) (c .before .before .before .if4 .left) (c .before .before .if5 .left) (c .before .if6 .left) (c .refused2 .ensures)
 
 pub decide-spec : {M : Type 1} → statement M
 decide-spec =
@@ -121,6 +137,11 @@ decide-spec =
     part-multi-stream-line-end
     multi-stream-line-requires
     returns-5
+    sub-drc-loudness-line
+    part-drc-loudness-line-start
+    part-drc-loudness-line-end
+    drc-loudness-line-requires
+    returns-6
     cast-refused
     refused-requires-2
-    returns-6)
+    returns-7)

@@ -1,0 +1,62 @@
+-- `mpegh_c::drc_loudness_body::mpegh_drc_loudness_measure` meets its contract.
+use Rattle.drc_kind.specs.Kind.{kind}
+use Rattle.mpegh_c.proofs.Hosted.{measures-refused, measures-unroomed, measures-sized}
+use borrow.Author.Needs.{needs}
+use Rattle.mpegh_c.proofs.drc_loudness_body.mpegh_drc_loudness_measure.Statement.{statement}
+use Rattle.mpegh_c.proofs.drc_loudness_body.mpegh_drc_loudness_measure.Tie as tie
+
+measure-requires : tie.Need-measure-requires
+measure-requires c κs = search needs
+
+enum-known-m : tie.Need-enum-known-m
+enum-known-m c = search needs
+
+room-code-requires : tie.Need-room-code-requires
+room-code-requires c κs = search needs
+
+returns : tie.Need-returns
+returns c =
+    measures-unroomed kind (rw (c .before .before .before .m .given .1) at (c .before .before .before .before .before .measure .ensures)) (c .before .if1 .taken) (c .room-code .ensures)
+
+slice-aggregate-put-row : tie.Need-slice-aggregate-put-row
+slice-aggregate-put-row c = search needs
+
+put-row-requires : tie.Need-put-row-requires
+put-row-requires c κs = search needs
+
+code-requires : tie.Need-code-requires
+code-requires c κs = search needs
+
+enum-known-m-2 : tie.Need-enum-known-m-2
+enum-known-m-2 c = search needs
+
+refusal-code-requires : tie.Need-refusal-code-requires
+refusal-code-requires c κs = search needs
+
+same-length : tie.Need-same-length
+same-length c = search needs
+
+returns-2 : tie.Need-returns-2
+returns-2 c =
+    measures-sized kind (rw (c .before .before .before .before .before .before .before .before .m .given .1) at (c .before .before .before .before .before .before .before .before .before .before .measure .ensures)) (c .before .before .before .before .before .before .if1 .left) (c .before .before .before .put-row .ensures) (c .code .ensures)
+
+returns-3 : tie.Need-returns-3
+returns-3 c =
+    measures-refused kind (rw (c .before .before .m2 .given .1) at (c .before .before .before .before .measure .ensures)) (c .refusal-code .ensures)
+
+pub mpegh-drc-loudness-measure-spec : {M : Type 1} → statement M
+mpegh-drc-loudness-measure-spec =
+    tie.close
+    (tie.spec
+    measure-requires
+    enum-known-m
+    room-code-requires
+    returns
+    slice-aggregate-put-row
+    put-row-requires
+    code-requires
+    enum-known-m-2
+    refusal-code-requires
+    same-length
+    returns-2
+    returns-3)

@@ -1,0 +1,102 @@
+-- `mpegh_c::drc_loudness_body::mpegh_drc_loudness_read` meets its contract.
+use mathlib.Core.Path.{refl}
+use Rattle.drc_kind.specs.Rows.{topRow}
+use Rattle.drc_kind.specs.Kind.{kind}
+use Rattle.mpegh_c.proofs.Hosted.{reads-unroomed, reads-refused, reads-done}
+use borrow.Author.Needs.{needs}
+use Rattle.mpegh_c.proofs.drc_loudness_body.mpegh_drc_loudness_read.Statement.{statement}
+use Rattle.mpegh_c.proofs.drc_loudness_body.mpegh_drc_loudness_read.Tie as tie
+
+unread-requires : tie.Need-unread-requires
+unread-requires c κs = search needs
+
+returns : tie.Need-returns
+returns c =
+    reads-unroomed kind _ topRow (c .before .if1 .taken) (c .unread .ensures)
+
+opened-requires : tie.Need-opened-requires
+opened-requires c κs = search needs
+
+enum-known-o : tie.Need-enum-known-o
+enum-known-o c = search needs
+
+record-at-requires : tie.Need-record-at-requires
+record-at-requires c κs =
+    ((rw (c .before .o .given .1) at (c .before .before .before .before .before .before .before .before .before .before .before .opened .ensures) .gives) .found, (rw (c .before .o .given .1) at (c .before .before .before .before .before .before .before .before .before .before .before .opened .ensures) .gives) .few)
+
+columns-requires : tie.Need-columns-requires
+columns-requires c κs = search needs
+
+slice-aggregate-put-row : tie.Need-slice-aggregate-put-row
+slice-aggregate-put-row c = search needs
+
+put-row-requires : tie.Need-put-row-requires
+put-row-requires c κs =
+    rw (c .before .before .columns .ensures) (c .before .before .before .before .before .before .before .before .before .before .before .before .before .before .before .before .before .before .before .before .if1 .left)
+
+enum-known-o-2 : tie.Need-enum-known-o-2
+enum-known-o-2 c = search needs
+
+refusal-code-requires : tie.Need-refusal-code-requires
+refusal-code-requires c κs = search needs
+
+same-length : tie.Need-same-length
+same-length c = search needs
+
+same-length-2 : tie.Need-same-length-2
+same-length-2 c = search needs
+
+same-length-3 : tie.Need-same-length-3
+same-length-3 c = search needs
+
+same-length-4 : tie.Need-same-length-4
+same-length-4 c = search needs
+
+same-length-5 : tie.Need-same-length-5
+same-length-5 c = search needs
+
+returns-2 : tie.Need-returns-2
+returns-2 c =
+    reads-done kind _ topRow (c .before .before .before .before .before .before .before .before .before .before .before .before .before .before .before .before .before .before .before .before .before .before .before .if1 .left) ((rw (c .before .before .before .before .before .before .before .before .o .given .1) at (c .before .before .before .before .before .before .before .before .before .before .before .before .before .before .before .before .before .before .opened .ensures) .gives) .reads (c .before .before .before .before .before .before .record-at .ensures)) refl (rw (c .before .before .before .before .before .columns .ensures) at (c .before .before .put-row .ensures))
+
+same-length-6 : tie.Need-same-length-6
+same-length-6 c = search needs
+
+same-length-7 : tie.Need-same-length-7
+same-length-7 c = search needs
+
+same-length-8 : tie.Need-same-length-8
+same-length-8 c = search needs
+
+same-length-9 : tie.Need-same-length-9
+same-length-9 c = search needs
+
+returns-3 : tie.Need-returns-3
+returns-3 c =
+    reads-refused kind _ topRow (c .before .before .before .before .before .before .before .before .before .before .before .before .before .before .before .before .before .if1 .left) (rw (c .before .before .o2 .given .1) at (c .before .before .before .before .before .before .before .before .before .before .before .before .opened .ensures) .gives) (c .refusal-code .ensures)
+
+pub mpegh-drc-loudness-read-spec : {M : Type 1} → statement M
+mpegh-drc-loudness-read-spec =
+    tie.close
+    (tie.spec
+    unread-requires
+    returns
+    opened-requires
+    enum-known-o
+    record-at-requires
+    columns-requires
+    slice-aggregate-put-row
+    put-row-requires
+    enum-known-o-2
+    refusal-code-requires
+    same-length
+    same-length-2
+    same-length-3
+    same-length-4
+    same-length-5
+    returns-2
+    same-length-6
+    same-length-7
+    same-length-8
+    same-length-9
+    returns-3)
