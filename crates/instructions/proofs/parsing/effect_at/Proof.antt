@@ -31,7 +31,7 @@ add-behind-2 c = search needs
 
 mul-t13 : tie.Need-mul-t13
 mul-t13 c =
-    omega (arith, c .before .before .wide .ensures, c .before .before .before .shared-slice-known2 .given (c .before .before .before .before .before .args .at))
+    omega (arith, c .before .before .wide .ensures, c .wide2 .ensures, c .before .before .before .shared-slice-known2 .given (c .before .before .before .before .before .args .at), c .before .before .before .shared-slice-known2 .given (c .before .before .before .before .before .args .at + 1))
 
 add-t14 : tie.Need-add-t14
 add-t14 c =
