@@ -1,18 +1,20 @@
 -- Of a body whose lists were found: where they stand and how many rows they have, its sizes, its record and its tables; and what the entry points answer then.
-use Prim.Native.Nat.{ℕ, _+_, _≤_, _<_}
+use Prim.Native.Nat.{ℕ, zero, suc, _+_, _≤_, _<_}
 use mathlib.Core.Path.{_≡_, refl, sym, ap, subst, _∙_}
-use mathlib.Core.List.{List, [], _∷_, _++_, flatten}
-use mathlib.Core.Bool.{Bool, true, false}
+use mathlib.Core.List.{List, [], _∷_, _++_, flatten, flatMap}
+use mathlib.Core.Bool.{Bool, true, false, _&&_}
 use mathlib.Core.Option.{none}
 use native.Mathlib.Omega.{arith}
 use lib.ListN.{length, getD, length-map}
 use lib.Dec.{eqb}
-use Rattle.wire.specs.Lists.{sum}
+use borrow.Author.Tests.{eqb-true}
+use Rattle.wire.specs.Lists.{sum, firsts}
 use Rattle.wire.specs.Bits.{part, zeros}
 use Rattle.wire.specs.Prog.{Out, done, run, many}
 use Rattle.wire.specs.Reads.{rowsOf}
 use Rattle.wire.specs.Act.{pick}
 use Rattle.wire.specs.Layout.{Cell, num, reserved, flag, column, idle, Columns, of, flat, shown, cells, tally, Family, familyTally, Borne, borneRow, borneTally}
+use Rattle.wire.proofs.Acts.{and-both}
 use Rattle.wire.proofs.Walk.{ends}
 use Rattle.wire.proofs.Fields.{part-below}
 use Rattle.wire.proofs.Loops.{many-long}
@@ -23,10 +25,10 @@ use Rattle.frame.specs.declared.Room.the-variants as M
 use Rattle.frame.specs.Kind.{Lent}
 use Rattle.frame.specs.Numbers.{accepted, refused, refusal}
 use Rattle.frame.specs.Entry as E
-use Rattle.frame.specs.Entry.{needs, sizes, tail, onto, lacking, filled, Measures, Reads, Tallies}
+use Rattle.frame.specs.Entry.{Need, needs, sizes, tail, onto, first, others, lacking, filled, Measures, Reads, Tallies}
 use Rattle.frame.specs.Sight.{andTables}
 use Rattle.frame.proofs.Entries.{measures-done, reads-done, reads-lacking, judges, tallies}
-use Rattle.frame.proofs.Tables.{enough, lowest}
+use Rattle.frame.proofs.Tables.{enough, lowest, no-more, no-rows}
 use Rattle.instructions.specs.Layout.{instruction, instructions, additional}
 use Rattle.loudness.specs.Layout.{entry, entries}
 use Rattle.downmixes.specs.Layout.{downmix}
@@ -34,7 +36,7 @@ use Rattle.drc_kind.specs.declared.rows.DrcLoudnessInfo.{DrcLoudnessInfo}
 use Rattle.drc_kind.specs.declared.rows.Info.{Info}
 use Rattle.drc_kind.specs.declared.rows.MpegH3dAudioDrcLoudness.{MpegH3dAudioDrcLoudness}
 use Rattle.drc_kind.specs.Layout.{head, layouts}
-use Rattle.drc_kind.specs.Rows.{noInfo, tables, needed}
+use Rattle.drc_kind.specs.Rows.{noInfo, Tree, tables, needed}
 use Rattle.drc_kind.specs.Kind as K
 use Rattle.drc_kind.specs.Kind.{kind}
 use Rattle.drc_kind.proofs.Format.{instructionRows}
@@ -135,6 +137,55 @@ rooms-so {z = z} c lent e d = record { has = λ f. ap (λ (y : E.Sizes). lacking
 pub opened-so : {s : List ℕ} {p : Places} → Found s p → length s < 65536 → {lent after : Lent} → Rooms s p lent → Stored s p lent after → Opens s lent (O.At p) after
 unfolding kind
 opened-so {s} {p} f h {lent} r w = record { gives = record { found = f; few = h; reads = λ m. rw (m .is f, w .is f) (reads-found f (omega arith) lent (r .has f)) } }
+
+-- ---- no rows: no table is needed, and none changes
+
+-- the rows that the k-th table needs
+abbrev rows : ℕ → List Need → ℕ
+rows k [] = 0
+rows zero (n ∷ ns) = n .rows
+rows (suc k) (n ∷ ns) = rows k ns
+
+none-of : {A : Type 0} (l : List A) → length l ≡ 0 → l ≡ []
+none-of [] e = refl
+none-of (x ∷ l) e = absurd (omega (arith, e))
+
+module _ {s : List ℕ} {p : Places} (f : Found s p) {z : Sizes} (c : Counted s p z) (e : eqb (z .instructions) 0 && (eqb (z .loudness) 0 && eqb (z .downmixes) 0) ≡ true) where
+  abbrev bare : List Family → List Borne → List (List ℕ) → Tree
+  bare is ls ds = record { top = tree f .top; «drc_instructions» = is; «loudness_infos» = ls; «downmix_definitions» = ds }
+
+  is-bare : tree f ≡ bare [] [] []
+  unfolding sizes kind needs tables
+  is-bare =
+      let (x, y) = and-both (eqb (z .instructions) 0) _ e in
+      let (u, v) = and-both (eqb (z .loudness) 0) _ y in
+      let same : (k : ℕ) → rows k (sized z .tables) ≡ rows k (sizes kind (record { tree = tree f; before = p .k }) .tables) = λ k. ap (λ (y : E.Sizes). rows k (y .tables)) (c .is f) in
+      let a = none-of (f .in-instructions) (sym (parents-long instructionRows (f .in-instructions)) ∙ sym (same 0) ∙ eqb-true (z .instructions) 0 x) in
+      let b = none-of (f .in-entries) (sym (length-map (f .in-entries) (borneRow entry)) ∙ sym (same 2) ∙ eqb-true (z .loudness) 0 u) in
+      let d = none-of (f .in-downmixes) (sym (same 3) ∙ eqb-true (z .downmixes) 0 v) in
+      λ i. bare (a i) (b i) (d i)
+
+  none-lack : (lent : Lent) → lacking (needs (tables (bare [] [] []))) lent ≡ none
+  unfolding needs tables firsts flatMap
+  none-lack lent = no-rows _ _ lent refl (no-rows _ _ _ refl (no-rows _ _ _ refl (no-rows _ _ _ refl (no-more _))))
+
+  stays : (t₁ t₂ t₃ t₄ : List ℕ) → filled (tables (bare [] [] [])) (t₁ ∷ t₂ ∷ t₃ ∷ t₄ ∷ []) ≡ t₁ ∷ t₂ ∷ t₃ ∷ t₄ ∷ []
+  unfolding filled tables first others flatten firsts flatMap
+  stays t₁ t₂ t₃ t₄ = refl
+
+  pub bare-opens : length s < 65536 → (t₁ t₂ t₃ t₄ : List ℕ) → Opens s (t₁ ∷ t₂ ∷ t₃ ∷ t₄ ∷ []) (O.At p) (t₁ ∷ t₂ ∷ t₃ ∷ t₄ ∷ [])
+  unfolding kind
+  bare-opens h t₁ t₂ t₃ t₄ =
+      let lent = t₁ ∷ t₂ ∷ t₃ ∷ t₄ ∷ [] in
+      let n : lacking (needs (tables (tree f))) lent ≡ none = ap (λ (t : Tree). lacking (needs (tables t)) lent) is-bare ∙ none-lack lent in
+      let k : filled (tables (tree f)) lent ≡ lent = ap (λ (t : Tree). filled (tables t) lent) is-bare ∙ stays t₁ t₂ t₃ t₄ in
+      record {
+        gives = record {
+          found = f;
+          few = h;
+          reads = λ m. rw (m .is f) (subst (λ (after : Lent). Reads kind s lent (accepted (kind .top (tree f) (tail (p .k) s))) after) k (reads-found f (omega arith) lent n));
+        };
+      }
 
 -- ---- the tally
 

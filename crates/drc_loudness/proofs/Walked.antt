@@ -5,8 +5,8 @@ use mathlib.Core.List.{List, [], _∷_, _++_, flatMap}
 use mathlib.Core.Bool.{Bool, true, false}
 use native.Mathlib.Omega.{arith}
 use lib.ListN.{length, getD}
-use lib.Dec.{eqb}
-use borrow.Author.Tests.{eq-eqb, ne-eqb, eqb-true}
+use lib.Dec.{eqb, leb}
+use borrow.Author.Tests.{eq-eqb, ne-eqb, eqb-true, leb-true, leb-false}
 use Rattle.wire.specs.Bits.{part, total, split}
 use Rattle.wire.specs.Prog.{Prog, ret, Out, done, short, run, u8, many, _>>=_}
 use Rattle.wire.specs.Reads.{mapOut, endOf, shortOf, Summed}
@@ -22,6 +22,8 @@ use Rattle.wire.proofs.Walk.{ends as ends-in}
 use Rattle.wire.proofs.Fields.{part-below}
 use Rattle.wire.proofs.Loops.{Went-on, sum-onward, sum-cut-off, sum-small}
 use Rattle.wire.proofs.Straight.{read-so, ones-got, ends-at, ends-within, ends-on, ends-cut}
+use Rattle.frame.specs.Entry.{too-short, Measures}
+use Rattle.frame.proofs.Entries.{measures-short}
 use Rattle.instructions.specs.Layout.{instructions}
 use Rattle.loudness.specs.Layout.{entries}
 use Rattle.downmixes.specs.Layout.{downmix}
@@ -30,7 +32,7 @@ use Rattle.drc_kind.specs.declared.rows.Info.{Info}
 use Rattle.drc_kind.specs.Layout.{head, counts}
 use Rattle.drc_kind.specs.Rows.{noInfo, Tree}
 use Rattle.drc_kind.specs.Read.{bodyOver}
-use Rattle.drc_kind.specs.Kind.{parse}
+use Rattle.drc_kind.specs.Kind.{parse, kind}
 use Rattle.drc_kind.proofs.Mirrored.{parse-over}
 use Rattle.drc_loudness.specs.declared.parsing.Places.{Places}
 use Rattle.drc_loudness.specs.Walk.{flagAt, infoThere, infoAt, rowsAt, Found, treeOf, tree}
@@ -98,59 +100,98 @@ head-spans s = go (eqb (flagAt s) 1)
     go true = refl
     go false = refl
 
--- behind the first byte
-pub record One (s : List ℕ) (n : ℕ) : Type 0 where
-  pub at-one : n ≡ 1
-  pub inside : 1 ≤ length s
-
-module _ (s : List ℕ) {o : Out (Unit {0})} (e : o ≡ ends (ones 1) s 0) where
-  pub one-there : {n : ℕ} → o ≡ done tt n → One s n
-  unfolding ones total
-  one-there d = let q = ends-at (ones 1) s 0 (sym e ∙ d) in let l = ends-within (ones 1) s 0 (omega arith) (sym e ∙ d) in record { at-one = q; inside = omega arith }
-
-  pub one-cut : {x y : Short} → o ≡ short x → y ≡ shortOf o → run parse s 0 ≡ short y
-  one-cut {x} d q =
-      let w : ends (spans head blank s 0) s 0 ≡ short x = ap (λ (l : List ℕ). ends l s 0) (head-spans s) ∙ sym (ends-cut (ones 1) (pick (eqb (flagAt s) 1) (ones 3) []) s 0 e d) ∙ d in
-      head-cut s w ∙ ap short (sym (q ∙ ap shortOf d))
-
 -- the flag, as code has it
-pub flag-zero : (s : List ℕ) {v w : ℕ} → v ≡ getD s 0 0 → w ≡ part 0 1 v → w ≡ 0 → eqb (flagAt s) 1 ≡ false
-flag-zero s e q z = ne-eqb (flagAt s) 1 (λ t. let k : _≡_ {A = ℕ} 0 1 = sym z ∙ q ∙ ap (part 0 1) e ∙ t in absurd (omega arith))
-
-pub flag-one : (s : List ℕ) {v w : ℕ} → v ≡ getD s 0 0 → w ≡ part 0 1 v → (w ≡ 0 → ⊥) → flagAt s ≡ 1
-flag-one s e q z = let k = q ∙ ap (part 0 1) e in omega (arith, part-below 0 1 (getD s 0 0), z, k)
-
 pub flag-taken : (s : List ℕ) {v w : ℕ} → v ≡ getD s 0 0 → w ≡ part 0 1 v → w ≡ 1 → flagAt s ≡ 1
 flag-taken s e q t = sym (q ∙ ap (part 0 1) e) ∙ t
 
 pub flag-left : (s : List ℕ) {v w : ℕ} → v ≡ getD s 0 0 → w ≡ part 0 1 v → (w ≡ 1 → ⊥) → eqb (flagAt s) 1 ≡ false
 flag-left s e q t = ne-eqb (flagAt s) 1 (λ z. t (q ∙ ap (part 0 1) e ∙ z))
 
--- behind the counts
-pub counts-cut : (s : List ℕ) {n : ℕ} → One s n → flagAt s ≡ 1 → {o : Out (Unit {0})} {x y : Short} → o ≡ ends (ones 3) s n → o ≡ short x → y ≡ shortOf o → run parse s 0 ≡ short y
-unfolding ones total
-counts-cut s {n} h t {o} {x} e d q =
-    let a : ends (ones 1) s 0 ≡ done tt 1 = ones-got 1 s 0 (h .inside) in
-    let w : ends (spans head blank s 0) s 0 ≡ short x = ap (λ (l : List ℕ). ends l s 0) (head-spans s) ∙ ap (λ (b : Bool). ends (ones 1 ++ pick b (ones 3) []) s 0) (eq-eqb (flagAt s) 1 t) ∙ ends-on (ones 1) (ones 3) s 0 refl a ∙ ap (ends (ones 3) s) (sym (h .at-one)) ∙ sym e ∙ d in
-    head-cut s w ∙ ap short (sym (q ∙ ap shortOf d))
-
-pub counts-there : (s : List ℕ) {n m : ℕ} → One s n → {o : Out (Unit {0})} → o ≡ ends (ones 3) s n → o ≡ done tt m → 4 ≤ length s
-unfolding ones total
-counts-there s {n} h e d = let q = ends-at (ones 3) s n (sym e ∙ d) in let l = ends-within (ones 3) s n (omega (arith, h .at-one, h .inside)) (sym e ∙ d) in omega (arith, q, l, h .at-one)
-
+-- where the first list begins
 pub rows-four : (s : List ℕ) → flagAt s ≡ 1 → rowsAt s ≡ 4
 unfolding rowsAt
 rows-four s t = ap (λ (b : Bool). pick b 4 1) (eq-eqb (flagAt s) 1 t)
+
+pub rows-one : (s : List ℕ) → eqb (flagAt s) 1 ≡ false → rowsAt s ≡ 1
+unfolding rowsAt
+rows-one s t = ap (λ (b : Bool). pick b 4 1) t
+
+-- behind the first byte
+pub record One (s : List ℕ) (n : ℕ) : Type 0 where
+  pub at-one : n ≡ 1
+  pub inside : 1 ≤ length s
+
+pub one-there : (s : List ℕ) {o : Out (Unit {0})} {n : ℕ} → o ≡ ends (ones 1) s 0 → o ≡ done tt n → One s n
+unfolding ones total
+one-there s e d = let q = ends-at (ones 1) s 0 (sym e ∙ d) in let l = ends-within (ones 1) s 0 (omega arith) (sym e ∙ d) in record { at-one = q; inside = omega arith }
+
+-- where the bytes before the lists end, as code finds it
+module _ (s : List ℕ) {o : Out (Unit {0})} (e : o ≡ ends (ones 1) s 0) where
+  abbrev whole : Bool → List ℕ
+  whole b = ones 1 ++ pick b (ones 3) []
+
+  pub head-short : {x : Short} → o ≡ short x → o ≡ ends (spans head blank s 0) s 0
+  head-short d = ends-cut (ones 1) (pick (eqb (flagAt s) 1) (ones 3) []) s 0 e d ∙ sym (ap (λ (l : List ℕ). ends l s 0) (head-spans s))
+
+  pub head-alone : eqb (flagAt s) 1 ≡ false → o ≡ ends (spans head blank s 0) s 0
+  unfolding ones
+  head-alone t = e ∙ sym (ap (λ (l : List ℕ). ends l s 0) (head-spans s) ∙ ap (λ (b : Bool). ends (whole b) s 0) t)
+
+  pub head-whole : flagAt s ≡ 1 → {n : ℕ} → o ≡ done tt n → {r : Out (Unit {0})} → r ≡ ends (ones 3) s n → r ≡ ends (spans head blank s 0) s 0
+  head-whole t d q = q ∙ sym (ap (λ (l : List ℕ). ends l s 0) (head-spans s) ∙ ap (λ (b : Bool). ends (whole b) s 0) (eq-eqb (flagAt s) 1 t) ∙ ends-on (ones 1) (ones 3) s 0 e d)
+
+-- they end before the first list
+module _ (s : List ℕ) {o : Out (Unit {0})} (e : o ≡ ends (spans head blank s 0) s 0) where
+  pub head-shorts : {x y : Short} → o ≡ short x → y ≡ shortOf o → run parse s 0 ≡ short y
+  head-shorts d q = head-cut s (sym e ∙ d) ∙ ap short (sym (q ∙ ap shortOf d))
+
+  module _ {n : ℕ} (d : o ≡ done tt n) where
+    at-rows : n ≡ rowsAt s
+    unfolding rowsAt ones total
+    at-rows = ends-at (spans head blank s 0) s 0 (sym e ∙ d) ∙ ap (λ (l : List ℕ). 0 + total l) (head-spans s) ∙ go (eqb (flagAt s) 1)
+      where
+        go : (b : Bool) → 0 + total (ones 1 ++ pick b (ones 3) []) ≡ pick b 4 1
+        go true = refl
+        go false = refl
+
+    in-body : n ≤ length s
+    in-body = ends-within (spans head blank s 0) s 0 (omega arith) (sym e ∙ d)
+
+    pub info-read : n ≡ 4 → (4 ≤ length s) × (flagAt s ≡ 1)
+    info-read q = (omega (arith, in-body), go (eqb (flagAt s) 1) refl)
+      where
+        go : (b : Bool) → eqb (flagAt s) 1 ≡ b → flagAt s ≡ 1
+        go true t = eqb-true (flagAt s) 1 t
+        go false t = absurd (omega (arith, at-rows, rows-one s t))
+
+    pub no-info : (n ≡ 4 → ⊥) → (eqb (flagAt s) 1 ≡ false) × One s n
+    no-info q = go (eqb (flagAt s) 1) refl
+      where
+        go : (b : Bool) → eqb (flagAt s) 1 ≡ b → (eqb (flagAt s) 1 ≡ false) × One s n
+        go true t = absurd (q (at-rows ∙ rows-four s (eqb-true (flagAt s) 1 t)))
+        go false t = (t, record { at-one = at-rows ∙ rows-one s t; inside = omega (arith, in-body, at-rows, rows-one s t) })
+
+  -- without them
+  pub headless : {x : Short} → o ≡ short x → Measures kind s (too-short (shortOf o))
+  unfolding kind ones
+  headless {x} d = measures-short kind s (omega (arith, few)) (head-cut s (sym e ∙ d) ∙ ap short (sym (ap shortOf d)))
+    where
+      got : 4 ≤ length s → (b : Bool) → ends (ones 1 ++ pick b (ones 3) []) s 0 ≡ done tt (pick b 4 1)
+      got h true = ones-got 4 s 0 h
+      got h false = ones-got 1 s 0 (omega arith)
+
+      few : length s < 4
+      few = go (leb 4 (length s)) refl
+        where
+          go : (b : Bool) → leb 4 (length s) ≡ b → length s < 4
+          go true q = absurd (let z : _≡_ {A = ℕ} 0 1 = cc (sym d ∙ e ∙ ap (λ (l : List ℕ). ends l s 0) (head-spans s) ∙ got (leb-true 4 (length s) q) (eqb (flagAt s) 1)) in omega arith)
+          go false q = leb-false 4 (length s) q
 
 pub info-there : (s : List ℕ) → flagAt s ≡ 1 → infoIn s ≡ infoThere s
 unfolding infoAt
 info-there s t = ap (λ (b : Bool). pick b (infoThere s) (noInfo .part)) (eq-eqb (flagAt s) 1 t)
 
--- the info and the place of the first list, as code has them
-pub rows-one : (s : List ℕ) → eqb (flagAt s) 1 ≡ false → rowsAt s ≡ 1
-unfolding rowsAt
-rows-one s t = ap (λ (b : Bool). pick b 4 1) t
-
+-- the info, as code has it
 pub info-of : (s : List ℕ) → flagAt s ≡ 1 → {i : DrcLoudnessInfo} → i ≡ infoThere s → {r : Info} → r ≡ record { present = true; part = i } → r ≡ infoAt s
 unfolding infoAt
 info-of s t e q = q ∙ (λ j. record { present = true; part = e j }) ∙ sym (ap (λ (b : Bool). record { present = b; part = pick b (infoThere s) (noInfo .part) }) (eq-eqb (flagAt s) 1 t))

@@ -105,7 +105,7 @@ pub fn opened(
     }
 }
 
-// The lowest table that is short, else the rows.
+// The lowest table that is short, else the rows. A body without rows needs no table, and is done at once.
 fn opened_found(
     body: &[u8],
     p: Places,
@@ -118,6 +118,9 @@ fn opened_found(
     ensures { λ r. ⌜ Opens (now (body .entry)) (now (instructions .entry) ∷ now (additional .entry) ∷ now (loudness .entry) ∷ now (downmixes .entry) ∷ []) r (now (instructions .exit) ∷ now (additional .exit) ∷ now (loudness .exit) ∷ now (downmixes .exit) ∷ []) ⌝ }
 {
     let s = parsing::sizes_at(body, p);
+    if (s.instructions == 0) & ((s.loudness == 0) & (s.downmixes == 0)) {
+        return Opening::At(p);
+    }
     let r = room(s, instructions, additional, loudness, downmixes);
     match r {
         Room::Lacks(table, rows) => Opening::Refused(Refusal::NoRoom(table, rows)),

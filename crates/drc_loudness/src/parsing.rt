@@ -3,6 +3,10 @@ ghost use mathlib.Core.Path.{_≡_};
 ghost use mathlib.Core.List.{[], _∷_};
 ghost use Prim.Native.Nat.{_<_, _≤_, _^_};
 ghost use lib.ListN.{length};
+ghost use Rattle.wire.specs.Reads.{endsOut};
+ghost use Rattle.wire.specs.Straight.{ends, spans};
+ghost use Rattle.wire.specs.Layout.{blank};
+ghost use Rattle.drc_kind.specs.Layout.{head};
 ghost use Rattle.drc_loudness.specs.Walk.{flagAt, infoAt, infoThere, rowsAt, Found, Walks, Recorded, Counted, Rooms, Stored};
 use super::Sizes;
 use downmixes::parsing::fill_downmixes;
@@ -16,10 +20,10 @@ use loudness::parsing::fill_entries;
 use loudness::parsing::measure_entries;
 use wire::bits::part;
 use wire::bits::wide;
+use wire::reads;
 use wire::reads::Ends;
 use wire::reads::Short;
 use wire::reads::Sum;
-use wire::reads::head;
 use wire::rows::trailing_run;
 
 // Where the second and the third list of a body begin, how many additional IDs it has, and k.
@@ -99,27 +103,39 @@ fn walk_lists(body: &[u8]) -> Walk
     })
 }
 
-// The first byte, the counts and the lists; without info there is nothing behind the first byte.
+// Where the bytes before the lists end: the first, and the counts if there is info.
+pub fn head_end(body: &[u8]) -> Ends
+    ensures { λ r. ⌜ endsOut r ≡ ends (spans head blank (now (body .entry)) 0) (now (body .entry)) 0 ⌝ }
+{
+    let a = reads::head(body, 0, 1);
+    let Ends::At(n) = a else {
+        return a;
+    };
+    if part(wide(body[0]), 0, 1) == 1 {
+        reads::head(body, n, 3)
+    } else {
+        a
+    }
+}
+
+// What stands before the lists, and the lists; without info there is nothing behind the first byte.
 pub fn find_lists(body: &[u8]) -> Walk
     ensures { λ r. ⌜ Walks (now (body .entry)) r ⌝ }
 {
-    let a = head(body, 0, 1);
-    let Ends::At(n) = a else {
-        return Walk::Short(a.short());
+    let h = head_end(body);
+    let Ends::At(n) = h else {
+        return Walk::Short(h.short());
     };
-    if part(wide(body[0]), 0, 1) == 0 {
-        return Walk::Done(Places {
+    if n == 4 {
+        walk_lists(body)
+    } else {
+        Walk::Done(Places {
             loudness: n,
             downmixes: n,
             additional: 0,
             k: n,
-        });
+        })
     }
-    let b = head(body, n, 3);
-    let Ends::At(_) = b else {
-        return Walk::Short(b.short());
-    };
-    walk_lists(body)
 }
 
 // ---- the body, once its lists were found

@@ -7,6 +7,7 @@ use mathlib.Core.Path.{_≡_, refl, sym, ap, _∙_}
 use native.Mathlib.Omega.{arith}
 use lib.ListN.{length}
 use lib.Dec.{leb}
+use borrow.Author.Tests.{le-leb}
 use Rattle.frame.specs.declared.Room.{Room}
 use Rattle.frame.specs.declared.Room.the-variants as M
 use Rattle.frame.specs.Kind.{Lent}
@@ -69,3 +70,13 @@ lowest ns lent {i} {k} e = go (lacking ns lent) refl (sym (all-so ns lent) ∙ e
     go : (o : Option Need) → lacking ns lent ≡ o → found o ≡ M.Lacks i k → Lack ns lent i k
     go none q e = let z : _≡_ {A = ℕ} 0 1 = cc e in absurd (omega arith)
     go (some n) q e = record { need = n; is = q; number = cc e; rows = cc e }
+
+-- ---- no rows need no table
+
+pub no-more : (lent : Lent) → lacking [] lent ≡ none
+unfolding lacking
+no-more lent = refl
+
+pub no-rows : (n : Need) (ns : List Need) (lent : Lent) → n .rows ≡ 0 → lacking ns (others lent) ≡ none → lacking (n ∷ ns) lent ≡ none
+unfolding lacking
+no-rows n ns lent e h = rw (le-leb (n .rows) (room n lent) (omega arith), lacking) h

@@ -9,11 +9,14 @@ ghost use Rattle.mpegh_c.specs.Host.{unread, HostReads, HostMeasures, Ho
 use super::codes;
 use drc_loudness::Measured;
 use drc_loudness::Opening;
+use drc_loudness::parsing::head_end;
 use drc_loudness::parsing::record_at;
 use drc_loudness::rows::DrcLoudnessInfo;
 use drc_loudness::rows::Info;
 use drc_loudness::rows::MpegH3dAudioDrcLoudness;
 use drc_loudness::rows::TOP_COLUMNS;
+use frame::Refusal;
+use wire::reads::Ends;
 use wire::rows::Payload;
 use wire::rows::put_row;
 
@@ -29,6 +32,11 @@ pub extern "C" fn mpegh_drc_loudness_read(
 ) -> u64
     ensures { λ r. ⌜ HostReads kind topColumns topRow (now (body .entry)) (now (top .entry)) (now (instructions .entry) ∷ now (additional .entry) ∷ now (loudness .entry) ∷ now (downmixes .entry) ∷ []) r (now (top .exit)) (now (instructions .exit) ∷ now (additional .exit) ∷ now (loudness .exit) ∷ now (downmixes .exit) ∷ []) ⌝ }
 {
+    // A body that ends before its lists is refused whatever is lent, and so before anything else.
+    let a = head_end(body);
+    let Ends::At(_) = a else {
+        return codes::refusal_code(Refusal::Short(a.short()));
+    };
     if top.len() < TOP_COLUMNS {
         return unread(body);
     }

@@ -7,7 +7,7 @@ use mathlib.Core.Option.{none}
 use native.Mathlib.Omega.{arith}
 use lib.ListN.{length, getD}
 use lib.Dec.{eqb, leb}
-use borrow.Author.Tests.{eqb-true, ne-eqb, eq-eqb, le-leb, leb-true, leb-false}
+use borrow.Author.Tests.{eqb-true, ne-eqb, eq-eqb, leb-true, leb-false}
 use Rattle.wire.specs.Lists.{firsts}
 use Rattle.wire.specs.Bits.{part, total}
 use Rattle.wire.specs.Prog.{Prog, Out, done, short, needing, run, many, _>>=_}
@@ -22,8 +22,9 @@ use Rattle.wire.proofs.Cells.{clash}
 use Rattle.wire.proofs.Straight.{ones-got, ones-lacks, ends-at, ends-within}
 use Rattle.frame.specs.Kind.{Lent}
 use Rattle.frame.specs.Numbers.{accepted}
-use Rattle.frame.specs.Entry.{Need, needs, lacking, room, first, others, filled, tail, too-short, Reads, Measures}
+use Rattle.frame.specs.Entry.{needs, lacking, first, others, filled, tail, too-short, Reads, Measures}
 use Rattle.frame.proofs.Entries.{measures-short}
+use Rattle.frame.proofs.Tables.{no-more, no-rows}
 use Rattle.scene_groups.specs.Layout.{group}
 use Rattle.switch_groups.specs.Layout.{switchGroups}
 use Rattle.presets.specs.Layout.{presets}
@@ -113,14 +114,6 @@ none-so {s} {n} {v} h e l =
     bare-found s i (sym (ap (rowsAt (groupsFlag s)) (sym m) ∙ absent _ x)) (sym (absent _ y)) (sym (absent _ z)) (omega arith) (uncounted 7 _ 2 x) (uncounted 5 _ n y) (uncounted 5 _ n z)
 
 -- ---- they need no table, and none changes
-
-no-more : (lent : Lent) → lacking [] lent ≡ none
-unfolding lacking
-no-more lent = refl
-
-no-rows : (n : Need) (ns : List Need) (lent : Lent) → n .rows ≡ 0 → lacking ns (others lent) ≡ none → lacking (n ∷ ns) lent ≡ none
-unfolding lacking
-no-rows n ns lent e h = rw (le-leb (n .rows) (room n lent) (omega arith), lacking) h
 
 module _ {s : List ℕ} {p : Places} (b : Bare s p) where
   abbrev none-of : (gs : List (List ℕ)) (ss ps : List Family) → Scene

@@ -1,11 +1,15 @@
--- `drc_loudness::opened_found` meets its contract: the lowest table that is short, else the rows.
-use Rattle.drc_loudness.proofs.Found.{lacks-so, rooms-so, opened-so}
+-- `drc_loudness::opened_found` meets its contract: no rows, or the lowest table that is short, else the rows.
+use Rattle.drc_loudness.proofs.Found.{lacks-so, rooms-so, opened-so, bare-opens}
 use borrow.Author.Needs.{needs}
 use Rattle.drc_loudness.proofs.opened_found.Statement.{statement}
 use Rattle.drc_loudness.proofs.opened_found.Tie as tie
 
 sizes-at-requires : tie.Need-sizes-at-requires
 sizes-at-requires c κs = search needs
+
+returns : tie.Need-returns
+returns c =
+    bare-opens (c .before .before .before .before .before .before .before .before .before .before .pre .0) (c .before .before .before .before .sizes-at .ensures) (c .if1 .taken) (c .before .before .before .before .before .before .before .before .before .before .pre .1) _ _ _ _
 
 room-requires : tie.Need-room-requires
 room-requires c κs = search needs
@@ -18,7 +22,7 @@ enum-told c = search needs
 
 fill-requires : tie.Need-fill-requires
 fill-requires c κs =
-    (c .before .before .before .before .before .before .before .before .before .before .before .before .before .before .before .before .before .pre .0, c .before .before .before .before .before .before .before .before .before .before .before .before .before .before .before .before .before .pre .1, rooms-so (c .before .before .before .before .before .before .before .before .before .before .before .sizes-at .ensures) _ (c .before .before .before .before .before .before .room .ensures) (c .before .before .before .before .enum-told .given .1))
+    (c .before .before .before .before .before .before .before .before .before .before .before .before .before .before .before .before .before .before .before .before .before .pre .0, c .before .before .before .before .before .before .before .before .before .before .before .before .before .before .before .before .before .before .before .before .before .pre .1, rooms-so (c .before .before .before .before .before .before .before .before .before .before .before .before .before .before .before .sizes-at .ensures) _ (c .before .before .before .before .before .before .room .ensures) (c .before .before .before .before .enum-told .given .1))
 
 same-length : tie.Need-same-length
 same-length c = search needs
@@ -32,9 +36,9 @@ same-length-3 c = search needs
 same-length-4 : tie.Need-same-length-4
 same-length-4 c = search needs
 
-returns : tie.Need-returns
-returns c =
-    lacks-so (c .before .before .before .before .before .before .before .before .before .before .before .before .before .before .pre .0) (c .before .before .before .before .before .before .before .before .before .before .before .before .before .before .pre .1) (c .before .before .before .before .before .before .before .before .sizes-at .ensures) _ (c .before .before .before .room .ensures) (c .before .r .given .1)
+returns-2 : tie.Need-returns-2
+returns-2 c =
+    lacks-so (c .before .before .before .before .before .before .before .before .before .before .before .before .before .before .before .before .before .before .pre .0) (c .before .before .before .before .before .before .before .before .before .before .before .before .before .before .before .before .before .before .pre .1) (c .before .before .before .before .before .before .before .before .before .before .before .before .sizes-at .ensures) _ (c .before .before .before .room .ensures) (c .before .r .given .1)
 
 same-length-5 : tie.Need-same-length-5
 same-length-5 c = search needs
@@ -48,15 +52,16 @@ same-length-7 c = search needs
 same-length-8 : tie.Need-same-length-8
 same-length-8 c = search needs
 
-returns-2 : tie.Need-returns-2
-returns-2 c =
-    opened-so (c .before .before .before .before .before .before .before .before .before .before .before .before .before .before .before .before .before .before .before .before .before .before .before .before .before .before .pre .0) (c .before .before .before .before .before .before .before .before .before .before .before .before .before .before .before .before .before .before .before .before .before .before .before .before .before .before .pre .1) (rooms-so (c .before .before .before .before .before .before .before .before .before .before .before .before .before .before .before .before .before .before .before .before .sizes-at .ensures) _ (c .before .before .before .before .before .before .before .before .before .before .before .before .before .before .before .room .ensures) (c .before .before .before .before .before .before .before .before .before .before .before .before .before .enum-told .given .1)) (c .before .before .before .before .before .before .before .before .fill .ensures)
+returns-3 : tie.Need-returns-3
+returns-3 c =
+    opened-so (c .before .before .before .before .before .before .before .before .before .before .before .before .before .before .before .before .before .before .before .before .before .before .before .before .before .before .before .before .before .before .pre .0) (c .before .before .before .before .before .before .before .before .before .before .before .before .before .before .before .before .before .before .before .before .before .before .before .before .before .before .before .before .before .before .pre .1) (rooms-so (c .before .before .before .before .before .before .before .before .before .before .before .before .before .before .before .before .before .before .before .before .before .before .before .before .sizes-at .ensures) _ (c .before .before .before .before .before .before .before .before .before .before .before .before .before .before .before .room .ensures) (c .before .before .before .before .before .before .before .before .before .before .before .before .before .enum-told .given .1)) (c .before .before .before .before .before .before .before .before .fill .ensures)
 
 pub opened-found-spec : {M : Type 1} → statement M
 opened-found-spec =
     tie.close
     (tie.spec
     sizes-at-requires
+    returns
     room-requires
     enum-known-r
     enum-told
@@ -65,9 +70,9 @@ opened-found-spec =
     same-length-2
     same-length-3
     same-length-4
-    returns
+    returns-2
     same-length-5
     same-length-6
     same-length-7
     same-length-8
-    returns-2)
+    returns-3)
