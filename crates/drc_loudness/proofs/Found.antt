@@ -45,7 +45,7 @@ use Rattle.drc_loudness.specs.declared.Opening.the-variants as O
 use Rattle.drc_loudness.specs.declared.Sizes.{Sizes}
 use Rattle.drc_loudness.specs.Contract.{sized}
 use Rattle.drc_loudness.specs.Walk.{flagAt, infoThere, infoAt, rowsAt, topOf, Found, tree, Recorded, Counted, Zeros, Rooms, Stored, Opens}
-use Rattle.drc_loudness.proofs.Walked.{infoIn, found-reads}
+use Rattle.drc_loudness.proofs.Walked.{infoIn, Bare, found-reads}
 
 -- ---- the counts
 
@@ -150,20 +150,25 @@ none-of : {A : Type 0} (l : List A) → length l ≡ 0 → l ≡ []
 none-of [] e = refl
 none-of (x ∷ l) e = absurd (omega (arith, e))
 
-module _ {s : List ℕ} {p : Places} (f : Found s p) {z : Sizes} (c : Counted s p z) (e : eqb (z .instructions) 0 && (eqb (z .loudness) 0 && eqb (z .downmixes) 0) ≡ true) where
-  abbrev bare : List Family → List Borne → List (List ℕ) → Tree
-  bare is ls ds = record { top = tree f .top; «drc_instructions» = is; «loudness_infos» = ls; «downmix_definitions» = ds }
+pub bare-counted : {s : List ℕ} {p : Places} (f : Found s p) {z : Sizes} → Counted s p z → eqb (z .instructions) 0 && (eqb (z .loudness) 0 && eqb (z .downmixes) 0) ≡ true → Bare s p
+unfolding sizes kind needs tables
+bare-counted {s} {p} f {z} c e =
+    let (x, y) = and-both (eqb (z .instructions) 0) _ e in
+    let (u, v) = and-both (eqb (z .loudness) 0) _ y in
+    let same : (k : ℕ) → rows k (sized z .tables) ≡ rows k (sizes kind (record { tree = tree f; before = p .k }) .tables) = λ k. ap (λ (y : E.Sizes). rows k (y .tables)) (c .is f) in
+    record {
+      found = f;
+      no-instructions = none-of (f .in-instructions) (sym (parents-long instructionRows (f .in-instructions)) ∙ sym (same 0) ∙ eqb-true (z .instructions) 0 x);
+      no-entries = none-of (f .in-entries) (sym (length-map (f .in-entries) (borneRow entry)) ∙ sym (same 2) ∙ eqb-true (z .loudness) 0 u);
+      no-downmixes = none-of (f .in-downmixes) (sym (same 3) ∙ eqb-true (z .downmixes) 0 v);
+    }
 
-  is-bare : tree f ≡ bare [] [] []
-  unfolding sizes kind needs tables
-  is-bare =
-      let (x, y) = and-both (eqb (z .instructions) 0) _ e in
-      let (u, v) = and-both (eqb (z .loudness) 0) _ y in
-      let same : (k : ℕ) → rows k (sized z .tables) ≡ rows k (sizes kind (record { tree = tree f; before = p .k }) .tables) = λ k. ap (λ (y : E.Sizes). rows k (y .tables)) (c .is f) in
-      let a = none-of (f .in-instructions) (sym (parents-long instructionRows (f .in-instructions)) ∙ sym (same 0) ∙ eqb-true (z .instructions) 0 x) in
-      let b = none-of (f .in-entries) (sym (length-map (f .in-entries) (borneRow entry)) ∙ sym (same 2) ∙ eqb-true (z .loudness) 0 u) in
-      let d = none-of (f .in-downmixes) (sym (same 3) ∙ eqb-true (z .downmixes) 0 v) in
-      λ i. bare (a i) (b i) (d i)
+module _ {s : List ℕ} {p : Places} (b : Bare s p) where
+  abbrev bare : List Family → List Borne → List (List ℕ) → Tree
+  bare is ls ds = record { top = tree (b .found) .top; «drc_instructions» = is; «loudness_infos» = ls; «downmix_definitions» = ds }
+
+  is-bare : tree (b .found) ≡ bare [] [] []
+  is-bare = λ i. bare (b .no-instructions i) (b .no-entries i) (b .no-downmixes i)
 
   none-lack : (lent : Lent) → lacking (needs (tables (bare [] [] []))) lent ≡ none
   unfolding needs tables firsts flatMap
@@ -177,13 +182,13 @@ module _ {s : List ℕ} {p : Places} (f : Found s p) {z : Sizes} (c : Counted s 
   unfolding kind
   bare-opens h t₁ t₂ t₃ t₄ =
       let lent = t₁ ∷ t₂ ∷ t₃ ∷ t₄ ∷ [] in
-      let n : lacking (needs (tables (tree f))) lent ≡ none = ap (λ (t : Tree). lacking (needs (tables t)) lent) is-bare ∙ none-lack lent in
-      let k : filled (tables (tree f)) lent ≡ lent = ap (λ (t : Tree). filled (tables t) lent) is-bare ∙ stays t₁ t₂ t₃ t₄ in
+      let n : lacking (needs (tables (tree (b .found)))) lent ≡ none = ap (λ (t : Tree). lacking (needs (tables t)) lent) is-bare ∙ none-lack lent in
+      let k : filled (tables (tree (b .found))) lent ≡ lent = ap (λ (t : Tree). filled (tables t) lent) is-bare ∙ stays t₁ t₂ t₃ t₄ in
       record {
         gives = record {
-          found = f;
+          found = b .found;
           few = h;
-          reads = λ m. rw (m .is f) (subst (λ (after : Lent). Reads kind s lent (accepted (kind .top (tree f) (tail (p .k) s))) after) k (reads-found f (omega arith) lent n));
+          reads = λ m. rw (m .is (b .found)) (subst (λ (after : Lent). Reads kind s lent (accepted (kind .top (tree (b .found)) (tail (p .k) s))) after) k (reads-found (b .found) (omega arith) lent n));
         };
       }
 

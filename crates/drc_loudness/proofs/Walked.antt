@@ -35,7 +35,7 @@ use Rattle.drc_kind.specs.Read.{bodyOver}
 use Rattle.drc_kind.specs.Kind.{parse, kind}
 use Rattle.drc_kind.proofs.Mirrored.{parse-over}
 use Rattle.drc_loudness.specs.declared.parsing.Places.{Places}
-use Rattle.drc_loudness.specs.Walk.{flagAt, infoThere, infoAt, rowsAt, Found, treeOf, tree}
+use Rattle.drc_loudness.specs.Walk.{flagAt, infoThere, infoAt, rowsAt, Begun, Found, treeOf, tree}
 
 -- ---- the program from list to list
 
@@ -145,36 +145,18 @@ module _ (s : List ℕ) {o : Out (Unit {0})} (e : o ≡ ends (spans head blank s
   pub head-shorts : {x y : Short} → o ≡ short x → y ≡ shortOf o → run parse s 0 ≡ short y
   head-shorts d q = head-cut s (sym e ∙ d) ∙ ap short (sym (q ∙ ap shortOf d))
 
-  module _ {n : ℕ} (d : o ≡ done tt n) where
-    at-rows : n ≡ rowsAt s
-    unfolding rowsAt ones total
-    at-rows = ends-at (spans head blank s 0) s 0 (sym e ∙ d) ∙ ap (λ (l : List ℕ). 0 + total l) (head-spans s) ∙ go (eqb (flagAt s) 1)
-      where
-        go : (b : Bool) → 0 + total (ones 1 ++ pick b (ones 3) []) ≡ pick b 4 1
-        go true = refl
-        go false = refl
-
-    in-body : n ≤ length s
-    in-body = ends-within (spans head blank s 0) s 0 (omega arith) (sym e ∙ d)
-
-    pub info-read : n ≡ 4 → (4 ≤ length s) × (flagAt s ≡ 1)
-    info-read q = (omega (arith, in-body), go (eqb (flagAt s) 1) refl)
-      where
-        go : (b : Bool) → eqb (flagAt s) 1 ≡ b → flagAt s ≡ 1
-        go true t = eqb-true (flagAt s) 1 t
-        go false t = absurd (omega (arith, at-rows, rows-one s t))
-
-    pub no-info : (n ≡ 4 → ⊥) → (eqb (flagAt s) 1 ≡ false) × One s n
-    no-info q = go (eqb (flagAt s) 1) refl
-      where
-        go : (b : Bool) → eqb (flagAt s) 1 ≡ b → (eqb (flagAt s) 1 ≡ false) × One s n
-        go true t = absurd (q (at-rows ∙ rows-four s (eqb-true (flagAt s) 1 t)))
-        go false t = (t, record { at-one = at-rows ∙ rows-one s t; inside = omega (arith, in-body, at-rows, rows-one s t) })
+  pub begins : {n : ℕ} → o ≡ done tt n → Begun s n
+  unfolding rowsAt ones total
+  begins d = record { at-rows = ends-at (spans head blank s 0) s 0 (sym e ∙ d) ∙ ap (λ (l : List ℕ). 0 + total l) (head-spans s) ∙ go (eqb (flagAt s) 1); inside = ends-within (spans head blank s 0) s 0 (omega arith) (sym e ∙ d) }
+    where
+      go : (b : Bool) → 0 + total (ones 1 ++ pick b (ones 3) []) ≡ pick b 4 1
+      go true = refl
+      go false = refl
 
   -- without them
-  pub headless : {x : Short} → o ≡ short x → Measures kind s (too-short (shortOf o))
+  pub cut-head : {x : Short} → o ≡ short x → Measures kind s (too-short x)
   unfolding kind ones
-  headless {x} d = measures-short kind s (omega (arith, few)) (head-cut s (sym e ∙ d) ∙ ap short (sym (ap shortOf d)))
+  cut-head {x} d = measures-short kind s (omega (arith, few)) (head-cut s (sym e ∙ d))
     where
       got : 4 ≤ length s → (b : Bool) → ends (ones 1 ++ pick b (ones 3) []) s 0 ≡ done tt (pick b 4 1)
       got h true = ones-got 4 s 0 h
@@ -186,6 +168,25 @@ module _ (s : List ℕ) {o : Out (Unit {0})} (e : o ≡ ends (spans head blank s
           go : (b : Bool) → leb 4 (length s) ≡ b → length s < 4
           go true q = absurd (let z : _≡_ {A = ℕ} 0 1 = cc (sym d ∙ e ∙ ap (λ (l : List ℕ). ends l s 0) (head-spans s) ∙ got (leb-true 4 (length s) q) (eqb (flagAt s) 1)) in omega arith)
           go false q = leb-false 4 (length s) q
+
+  pub headless : {x : Short} → o ≡ short x → Measures kind s (too-short (shortOf o))
+  headless {x} d = subst (λ (y : Short). Measures kind s (too-short y)) (sym (ap shortOf d)) (cut-head d)
+
+-- with info, or without
+module _ {s : List ℕ} {n : ℕ} (h : Begun s n) where
+  pub info-read : n ≡ 4 → (4 ≤ length s) × (flagAt s ≡ 1)
+  info-read q = (omega (arith, h .inside), go (eqb (flagAt s) 1) refl)
+    where
+      go : (b : Bool) → eqb (flagAt s) 1 ≡ b → flagAt s ≡ 1
+      go true t = eqb-true (flagAt s) 1 t
+      go false t = absurd (omega (arith, h .at-rows, rows-one s t))
+
+  pub no-info : (n ≡ 4 → ⊥) → (eqb (flagAt s) 1 ≡ false) × One s n
+  no-info q = go (eqb (flagAt s) 1) refl
+    where
+      go : (b : Bool) → eqb (flagAt s) 1 ≡ b → (eqb (flagAt s) 1 ≡ false) × One s n
+      go true t = absurd (q (h .at-rows ∙ rows-four s (eqb-true (flagAt s) 1 t)))
+      go false t = (t, record { at-one = h .at-rows ∙ rows-one s t; inside = omega (arith, h .inside, h .at-rows, rows-one s t) })
 
 pub info-there : (s : List ℕ) → flagAt s ≡ 1 → infoIn s ≡ infoThere s
 unfolding infoAt
@@ -200,23 +201,37 @@ pub info-none : (s : List ℕ) → eqb (flagAt s) 1 ≡ false → {r : Info} →
 unfolding infoAt
 info-none s t q = q ∙ sym (ap (λ (b : Bool). record { present = b; part = pick b (infoThere s) (noInfo .part) }) t)
 
--- without info the lists are empty
-pub none-found : (s : List ℕ) {n : ℕ} → One s n → eqb (flagAt s) 1 ≡ false → Found s (record { loudness = n; downmixes = n; additional = 0; k = n })
+-- lists that were found, and are empty
+pub record Bare (s : List ℕ) (p : Places) : Type 0 where
+  pub found : Found s p
+  pub no-instructions : found .in-instructions ≡ []
+  pub no-entries : found .in-entries ≡ []
+  pub no-downmixes : found .in-downmixes ≡ []
+
+-- as they are without info
+pub none-found : {s : List ℕ} {n : ℕ} → Begun s n → (n ≡ 4 → ⊥) → {p : Places} → p ≡ record { loudness = n; downmixes = n; additional = 0; k = n } → Bare s p
 unfolding rowsAt infoAt run many flatMap
-none-found s {n} h f =
+none-found {s} {n} w z {p} e =
+    let (f, h) = no-info w z in
     let q : pick (eqb (flagAt s) 1) 4 1 ≡ n = ap (λ (b : Bool). pick b 4 1) f ∙ sym (h .at-one) in
     let i : pick (eqb (flagAt s) 1) (infoThere s) (noInfo .part) ≡ noInfo .part = ap (λ (b : Bool). pick b (infoThere s) (noInfo .part)) f in
-    record {
-      in-instructions = [];
-      in-entries = [];
-      in-downmixes = [];
-      head = omega (arith, q, h .at-one, h .inside);
-      instructions-read = λ j. run (many (i j .«drc_instructions») instructions) s (q j);
-      entries-read = λ j. run (many (i j .«loudness_infos») entries) s n;
-      downmixes-read = λ j. run (many (i j .«downmix_definitions») (flat 4 downmix)) s n;
-      additional-are = refl;
-      additional-few = omega arith;
-    }
+    subst (Bare s) (sym e)
+    (record {
+      found = record {
+        in-instructions = [];
+        in-entries = [];
+        in-downmixes = [];
+        head = omega (arith, q, h .at-one, h .inside);
+        instructions-read = λ j. run (many (i j .«drc_instructions») instructions) s (q j);
+        entries-read = λ j. run (many (i j .«loudness_infos») entries) s n;
+        downmixes-read = λ j. run (many (i j .«downmix_definitions») (flat 4 downmix)) s n;
+        additional-are = refl;
+        additional-few = omega arith;
+      };
+      no-instructions = refl;
+      no-entries = refl;
+      no-downmixes = refl;
+    })
 
 -- ---- list after list, with the counts as code has them
 

@@ -51,6 +51,11 @@ infoAt s = record { present = eqb (flagAt s) 1; part = pick (eqb (flagAt s) 1) (
 unfoldable pub rowsAt : List ℕ → ℕ
 rowsAt s = pick (eqb (flagAt s) 1) 4 1
 
+-- what stands before the lists is there, and they begin at n
+pub record Begun (s : List ℕ) (n : ℕ) : Type 0 where
+  pub at-rows : n ≡ rowsAt s
+  pub inside : n ≤ length s
+
 -- each list is read where the one before it ends
 pub record Found (s : List ℕ) (p : Places) : Type 0 where
   pub in-instructions : List Family

@@ -13,7 +13,7 @@ ghost use Rattle.frame.specs.Entry.{Reads, Measures, Tallies, Writes};
 ghost use Rattle.frame.specs.Sight.{andTables};
 ghost use Rattle.drc_kind.specs.Kind.{kind};
 ghost use Rattle.drc_loudness.specs.Contract.{sized, read, measured};
-ghost use Rattle.drc_loudness.specs.Walk.{Found, Opens};
+ghost use Rattle.drc_loudness.specs.Walk.{Begun, Found, Opens};
 use downmixes::rows::DOWNMIX_COLUMNS;
 use drc_writing::writing;
 use frame::Refusal;
@@ -27,6 +27,7 @@ use loudness::rows::ENTRY_COLUMNS;
 use parsing::Places;
 use parsing::Walk;
 use rows::MpegH3dAudioDrcLoudness;
+use wire::reads::Ends;
 
 // What reading answers: the top record, its trailing run included.
 pub enum Reading {
@@ -85,7 +86,7 @@ pub fn read(
     }
 }
 
-// All of reading but the record, which the places give. The tables are touched when all of the body is known to be sound.
+// All of reading but the record, which the places give.
 pub fn opened(
     body: &[u8],
     instructions: &mut [u16],
@@ -95,13 +96,36 @@ pub fn opened(
 ) -> Opening
     ensures { λ r. ⌜ Opens (now (body .entry)) (now (instructions .entry) ∷ now (additional .entry) ∷ now (loudness .entry) ∷ now (downmixes .entry) ∷ []) r (now (instructions .exit) ∷ now (additional .exit) ∷ now (loudness .exit) ∷ now (downmixes .exit) ∷ []) ⌝ }
 {
+    let h = parsing::head_end(body);
+    match h {
+        Ends::At(n) => opened_behind(body, n, instructions, additional, loudness, downmixes),
+        Ends::Short(x) => Opening::Refused(Refusal::Short(x)),
+    }
+}
+
+// The same of a body whose lists begin at n. The tables are touched when all of it is known to be sound; without info there is nothing to do.
+pub fn opened_behind(
+    body: &[u8],
+    n: usize,
+    instructions: &mut [u16],
+    additional: &mut [u16],
+    loudness: &mut [u16],
+    downmixes: &mut [u16],
+) -> Opening
+    requires { ⌜ Begun (now body) n ⌝ }
+    ensures { λ r. ⌜ Opens (now (body .entry)) (now (instructions .entry) ∷ now (additional .entry) ∷ now (loudness .entry) ∷ now (downmixes .entry) ∷ []) r (now (instructions .exit) ∷ now (additional .exit) ∷ now (loudness .exit) ∷ now (downmixes .exit) ∷ []) ⌝ }
+{
     if 65535 < body.len() {
         return Opening::Refused(Refusal::TooLong(body.len()));
     }
-    let w = parsing::find_lists(body);
-    match w {
-        Walk::Done(p) => opened_found(body, p, instructions, additional, loudness, downmixes),
-        Walk::Short(x) => Opening::Refused(Refusal::Short(x)),
+    if n == 4 {
+        let w = parsing::walk_lists(body);
+        match w {
+            Walk::Done(p) => opened_found(body, p, instructions, additional, loudness, downmixes),
+            Walk::Short(x) => Opening::Refused(Refusal::Short(x)),
+        }
+    } else {
+        Opening::At(parsing::nowhere(n))
     }
 }
 

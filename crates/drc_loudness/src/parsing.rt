@@ -78,7 +78,7 @@ pub fn rows_at(body: &[u8]) -> usize
 }
 
 // The lists that begin behind the counts.
-fn walk_lists(body: &[u8]) -> Walk
+pub fn walk_lists(body: &[u8]) -> Walk
     requires { ⌜ (4 ≤ length (now body)) × (flagAt (now body) ≡ 1) ⌝ }
     ensures { λ r. ⌜ Walks (now (body .entry)) r ⌝ }
 {
@@ -118,6 +118,18 @@ pub fn head_end(body: &[u8]) -> Ends
     }
 }
 
+// The places of a body without lists.
+pub fn nowhere(n: usize) -> Places
+    ensures { λ r. ⌜ r ≡ record { loudness = n; downmixes = n; additional = 0; k = n } ⌝ }
+{
+    Places {
+        loudness: n,
+        downmixes: n,
+        additional: 0,
+        k: n,
+    }
+}
+
 // What stands before the lists, and the lists; without info there is nothing behind the first byte.
 pub fn find_lists(body: &[u8]) -> Walk
     ensures { λ r. ⌜ Walks (now (body .entry)) r ⌝ }
@@ -129,12 +141,7 @@ pub fn find_lists(body: &[u8]) -> Walk
     if n == 4 {
         walk_lists(body)
     } else {
-        Walk::Done(Places {
-            loudness: n,
-            downmixes: n,
-            additional: 0,
-            k: n,
-        })
+        Walk::Done(nowhere(n))
     }
 }
 

@@ -22,7 +22,7 @@ use Rattle.wire.proofs.Runs.{andThen}
 use Rattle.wire.proofs.Cells.{all, free}
 use Rattle.wire.proofs.Rowed.{weight}
 use Rattle.wire.proofs.Fields.{part-below}
-use Rattle.wire.proofs.Straight.{ends-at, ends-within, total-append, total-ones, ones-append, heads, each-off, taken-off, taken-there}
+use Rattle.wire.proofs.Straight.{ends-at, ends-within, total-append, total-ones, ones-append, heads, each-off, taken-off, taken-there, taken-none}
 use Rattle.wire.proofs.Families.{headed, tailed, headSizes, tailSizes, kidsOf, behindHead, head-got, head-lacks, broken-got, broken-lacks, singles-pos, singles-before, family-test, kids-ask, tally-ask, tail-tallied, family-placed, placed-count, placed-filled}
 use Rattle.pairs.specs.Layout.{pair}
 use Rattle.pairs.proofs.Pairs.{pair-one}
@@ -184,10 +184,10 @@ pub limiter-there : (s : List ℕ) (at : ℕ) {v : ℕ} → v ≡ 1 → PartTake
 unfolding took putsAt put split total each blanks
 limiter-there s at t = taken-there 13 1 limiter s at t refl (λ f z. rw z)
 
-pub effect-taken : (s : List ℕ) (m : ℕ) {l w k h v : ℕ} {a b : List ℕ} → l ≤ 1 → k ≡ m + 2 + l → h ≡ getD s m 0 → v ≡ getD s (m + 1) 0
-    → PartTaken 13 2 limiter l (blanks 1) s (m + 2) a → PartTaken 15 9 target w (blanks 8) s k b → EffectTaken l w s m ((h * 256 + v) ∷ (a ++ b))
+pub effect-taken : (s : List ℕ) (m : ℕ) {l w k v : ℕ} {a b : List ℕ} → l ≤ 1 → k ≡ m + 2 + l → v ≡ getD s m 0 * 256 + getD s (m + 1) 0
+    → PartTaken 13 2 limiter l (blanks 1) s (m + 2) a → PartTaken 15 9 target w (blanks 8) s k b → EffectTaken l w s m (v ∷ (a ++ b))
 unfolding took all has free flatten each blanks
-effect-taken s m {l} {w} {k} {h} {v} {a} {b} n p eh ev x y = record {
+effect-taken s m {l} {w} {k} {v} {a} {b} n p e x y = record {
   of = λ f z.
       let f₀ = worded f s m in
       let f₁ = taken (optional 13 limiter ▹ end) f₀ s (m + 2) in
@@ -196,11 +196,17 @@ effect-taken s m {l} {w} {k} {h} {v} {a} {b} n p eh ev x y = record {
       let q : m + 2 + total (limited f s m (f 13) .1) ≡ k = omega (arith, p, t, limited-total f s m (f 13) (omega (arith, n, t))) in
       let no-limiter = each-off (optional 13 limiter ▹ end) f₀ s (m + 2) 0 in
       let no-loud = each-off (optional 15 target ▹ end) f₁ s k 0 in
-      let i : (h * 256 + v) ∷ [] ≡ each f₂ 12 1 = (λ t. (eh t * 256 + ev t) ∷ []) ∙ sym (no-loud 12 1 refl ∙ no-limiter 12 1 refl) in
+      let i : v ∷ [] ≡ each f₂ 12 1 = (λ t. e t ∷ []) ∙ sym (no-loud 12 1 refl ∙ no-limiter 12 1 refl) in
       let j : a ≡ each f₂ 13 2 = x .of f₀ (ap (λ (q : List ℕ). getD q 0 0 ∷ getD q 1 0 ∷ []) z) ∙ sym (no-loud 13 2 refl) in
       let r : b ≡ each f₂ 15 9 = y .of f₁ (no-limiter 15 9 refl ∙ ap (drop 2) z) in
       (λ t. i t ++ (j t ++ r t)) ∙ ap (λ (k : ℕ). each (taken (optional 15 target ▹ end) f₁ s k) 12 12) (sym q);
 }
+
+-- with neither part
+pub bare-taken : (s : List ℕ) (m : ℕ) {v : ℕ} → v ≡ getD s m 0 * 256 + getD s (m + 1) 0 → EffectTaken 0 0 s m (v ∷ 0 ∷ 0 ∷ 0 ∷ 0 ∷ 0 ∷ 0 ∷ 0 ∷ 0 ∷ 0 ∷ 0 ∷ 0 ∷ [])
+unfolding blanks
+bare-taken s m e =
+    effect-taken s m {l = 0} {w = 0} {k = m + 2 + 0} (omega arith) refl e (taken-none 13 1 limiter s (m + 2) (omega arith) (λ (p : 0 ≡ 1). omega (arith, p))) (taken-none 15 8 target s (m + 2 + 0) (omega arith) (λ (p : 0 ≡ 1). omega (arith, p)))
 
 -- where the additional IDs begin, from the type byte
 pub begins-are : (s : List ℕ) (at : ℕ) {b k i : ℕ} → b ≡ getD s at 0 → k ≡ part 0 2 b → i ≡ idBytes types k → at + 4 + i ≡ at + total (spans settings blank s at)
@@ -259,6 +265,20 @@ module _ (s : List ℕ) (at : ℕ) (h : at ≤ length s) (q : isDone (run instru
           let x₃ : each g₀ 13 11 ≡ l ∷ 0 ∷ w ∷ blanks 8 =
           ap (λ (f : Columns). each f 13 11) (settled s at) ∙ (λ t. (ap (part 1 1) (sym e) ∙ sym i) t ∷ (no-scope 14 1 refl t ++ ((ap (part 0 1) (sym e) ∙ sym j) t ∷ no-scope 16 8 refl t))) in
           family-placed instruction 2 additional s at first h q ids-end (λ t. x₀ t ++ (x₁ t ++ (first ∷ (x₂ t ++ v .of g₀ x₃ t)))) (n ∙ ap (λ (k : ℕ). begins + count + k) (sym effect-long))
+
+-- the five low bits of c at 0: no additional IDs, and neither part
+module _ (c : ℕ) {v : ℕ} (e : v ≡ part 0 5 c) (z : v ≡ 0) where
+  no-count : part 2 3 c ≡ 0
+  no-count = omega (arith, e, z)
+
+  no-limiter : part 1 1 c ≡ 0
+  no-limiter = omega (arith, e, z)
+
+  no-loud : part 0 1 c ≡ 0
+  no-loud = omega (arith, e, z)
+
+  pub bare-so : (s : List ℕ) (m : ℕ) {n : ℕ} {r : List ℕ} → EffectTaken 0 0 s m r × (n ≡ m + 2) → EffectTaken (part 1 1 c) (part 0 1 c) s (m + part 2 3 c) r × (n ≡ m + part 2 3 c + effectBytes (part 1 1 c) (part 0 1 c) s (m + part 2 3 c))
+  bare-so s m x = rw (no-count, no-limiter, no-loud, add-zero m) x
 
 -- a target loudness that is there has bytes
 pub loud-there : (w b at n : ℕ) → w ≤ 1 → at + pick (eqb w 1) (targetBytes b) 0 ≤ n → at + w ≤ n

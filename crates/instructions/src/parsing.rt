@@ -2,9 +2,9 @@
 ghost use mathlib.Core.Path.{_≡_};
 ghost use mathlib.Core.Bool.{true};
 ghost use mathlib.Core.List.{_∷_, _++_, flatten};
-ghost use Prim.Native.Nat.{_+_, _*_, _<_, _≤_, _^_};
-ghost use lib.ListN.{length};
-ghost use Rattle.wire.specs.Bits.{total};
+ghost use Prim.Native.Nat.{_+_, _-_, _*_, _<_, _≤_, _^_};
+ghost use lib.ListN.{length, getD};
+ghost use Rattle.wire.specs.Bits.{total, part};
 ghost use Rattle.wire.specs.Prog.{done, run, many};
 ghost use Rattle.wire.specs.Reads.{mapOut, isDone, endsOut, Summed};
 ghost use Rattle.wire.specs.Nest.{Fillable, Nested, Nests};
@@ -113,16 +113,37 @@ struct Effect {
     next: usize,
 }
 
+// The two bytes of its effect.
+fn word_at(body: &[u8], at: usize) -> u16
+    requires { ⌜ at + 2 ≤ length (now body) ⌝ }
+    ensures { λ r. ⌜ r ≡ getD (now (body .entry)) at 0 * 256 + getD (now (body .entry)) (at + 1) 0 ⌝ }
+{
+    let high = wide(body[at]);
+    let low = wide(body[at + 1]);
+    high * 256 + low
+}
+
+// With neither of its two parts.
+fn bare_effect_at(body: &[u8], at: usize) -> Effect
+    requires { ⌜ at + 2 ≤ length (now body) ⌝ }
+    ensures { λ r. ⌜ EffectTaken 0 0 (now (body .entry)) at (r .«drc_set_effect» ∷ limiterRow (r .«limiter_peak_target») ++ targetRow (r .«target_loudness»)) × (r .next ≡ at + 2) ⌝ }
+{
+    Effect {
+        drc_set_effect: word_at(body, at),
+        limiter_peak_target: LimiterPeakTarget::absent(),
+        target_loudness: DrcTargetLoudness::absent(),
+        next: at + 2,
+    }
+}
+
 // By the flags of its two parts.
 fn effect_at(body: &[u8], at: usize, limiter: u16, loud: u16) -> Effect
     requires { ⌜ (at + effectBytes limiter loud (now body) at ≤ length (now body)) × (limiter ≤ 1) × (loud ≤ 1) ⌝ }
     ensures { λ r. ⌜ EffectTaken limiter loud (now (body .entry)) at (r .«drc_set_effect» ∷ limiterRow (r .«limiter_peak_target») ++ targetRow (r .«target_loudness»)) × (r .next ≡ at + effectBytes limiter loud (now (body .entry)) at) ⌝ }
 {
-    let high = wide(body[at]);
-    let low = wide(body[at + 1]);
     let behind = at + 2 + (limiter as usize);
     Effect {
-        drc_set_effect: high * 256 + low,
+        drc_set_effect: word_at(body, at),
         limiter_peak_target: limiter_at(body, at + 2, limiter),
         target_loudness: target_at(body, behind, loud),
         next: behind + target_size(body, behind, loud),
@@ -136,23 +157,15 @@ pub struct Placed {
     pub next: usize,
 }
 
-// An instruction that was measured, whose additional IDs are rows of table 10 from `first` on.
-pub fn instruction_at(body: &[u8], at: usize, first: u16) -> Placed
-    requires { ⌜ (at ≤ length (now body)) × (isDone (run instructions (now body) at) ≡ true) ⌝ }
-    ensures { λ r. ⌜ (done (instructionRow (r .instruction)) (r .next) ≡ mapOut (λ x. brokenRow instruction (first, x)) (run instructions (now (body .entry)) at)) × (r .begins ≡ at + total (spans settings blank (now (body .entry)) at)) ⌝ }
+// By where its additional IDs begin, the byte before them, and what stands behind them.
+fn instruction_with(body: &[u8], at: usize, first: u16, begins: usize, c: u16, e: Effect) -> Placed
+    requires { ⌜ (at ≤ length (now body)) × (isDone (run instructions (now body) at) ≡ true) × (begins ≡ at + total (spans settings blank (now body) at)) × (c ≡ getD (now body) (begins - 1) 0) × EffectTaken (part 1 1 c) (part 0 1 c) (now body) (begins + part 2 3 c) (e .«drc_set_effect» ∷ limiterRow (e .«limiter_peak_target») ++ targetRow (e .«target_loudness»)) × (e .next ≡ begins + part 2 3 c + effectBytes (part 1 1 c) (part 0 1 c) (now body) (begins + part 2 3 c)) ⌝ }
+    ensures { λ r. ⌜ (done (instructionRow (r .instruction)) (r .next) ≡ mapOut (λ x. brokenRow instruction (first, x)) (run instructions (now (body .entry)) at)) × (r .begins ≡ begins) ⌝ }
 {
     let types = DRC_GROUP_TYPES;
-    let begins = at + 4 + id_bytes(&types, part(wide(body[at]), 0, 2));
     let set = wide(body[begins - 3]);
     let downmix = wide(body[begins - 2]);
-    let c = wide(body[begins - 1]);
     let count = part(c, 2, 3);
-    let e = effect_at(
-        body,
-        begins + (count as usize),
-        part(c, 1, 1),
-        part(c, 0, 1),
-    );
     let t = scope_at(body, at, &types);
     let scope = t.scope;
     let limiter_peak_target = e.limiter_peak_target;
@@ -175,6 +188,23 @@ pub fn instruction_at(body: &[u8], at: usize, first: u16) -> Placed
         begins,
         next: e.next,
     }
+}
+
+// An instruction that was measured, whose additional IDs are rows of table 10 from `first` on. If it has none, and neither part behind them, that is known from one test.
+pub fn instruction_at(body: &[u8], at: usize, first: u16) -> Placed
+    requires { ⌜ (at ≤ length (now body)) × (isDone (run instructions (now body) at) ≡ true) ⌝ }
+    ensures { λ r. ⌜ (done (instructionRow (r .instruction)) (r .next) ≡ mapOut (λ x. brokenRow instruction (first, x)) (run instructions (now (body .entry)) at)) × (r .begins ≡ at + total (spans settings blank (now (body .entry)) at)) ⌝ }
+{
+    let types = DRC_GROUP_TYPES;
+    let begins = at + 4 + id_bytes(&types, part(wide(body[at]), 0, 2));
+    let c = wide(body[begins - 1]);
+    if part(c, 0, 5) == 0 {
+        let bare = bare_effect_at(body, begins);
+        return instruction_with(body, at, first, begins, c, bare);
+    }
+    let behind = begins + (part(c, 2, 3) as usize);
+    let e = effect_at(body, behind, part(c, 1, 1), part(c, 0, 1));
+    instruction_with(body, at, first, begins, c, e)
 }
 
 // ---- filling: nothing is left to test

@@ -9,6 +9,7 @@ ghost use Rattle.mpegh_c.specs.Host.{unread, HostReads, HostMeasures, Ho
 use super::codes;
 use drc_loudness::Measured;
 use drc_loudness::Opening;
+use drc_loudness::opened_behind;
 use drc_loudness::parsing::head_end;
 use drc_loudness::parsing::record_at;
 use drc_loudness::rows::DrcLoudnessInfo;
@@ -34,13 +35,13 @@ pub extern "C" fn mpegh_drc_loudness_read(
 {
     // A body that ends before its lists is refused whatever is lent, and so before anything else.
     let a = head_end(body);
-    let Ends::At(_) = a else {
+    let Ends::At(n) = a else {
         return codes::refusal_code(Refusal::Short(a.short()));
     };
     if top.len() < TOP_COLUMNS {
         return unread(body);
     }
-    let o = drc_loudness::opened(body, instructions, additional, loudness, downmixes);
+    let o = opened_behind(body, n, instructions, additional, loudness, downmixes);
     match o {
         Opening::At(p) => {
             let row = record_at(body, p).columns();

@@ -1,5 +1,5 @@
 -- `drc_loudness::opened_found` meets its contract: no rows, or the lowest table that is short, else the rows.
-use Rattle.drc_loudness.proofs.Found.{lacks-so, rooms-so, opened-so, bare-opens}
+use Rattle.drc_loudness.proofs.Found.{lacks-so, rooms-so, opened-so, bare-counted, bare-opens}
 use borrow.Author.Needs.{needs}
 use Rattle.drc_loudness.proofs.opened_found.Statement.{statement}
 use Rattle.drc_loudness.proofs.opened_found.Tie as tie
@@ -9,7 +9,7 @@ sizes-at-requires c κs = search needs
 
 returns : tie.Need-returns
 returns c =
-    bare-opens (c .before .before .before .before .before .before .before .before .before .before .pre .0) (c .before .before .before .before .sizes-at .ensures) (c .if1 .taken) (c .before .before .before .before .before .before .before .before .before .before .pre .1) _ _ _ _
+    bare-opens (bare-counted (c .before .before .before .before .before .before .before .before .before .before .pre .0) (c .before .before .before .before .sizes-at .ensures) (c .if1 .taken)) (c .before .before .before .before .before .before .before .before .before .before .pre .1) _ _ _ _
 
 room-requires : tie.Need-room-requires
 room-requires c κs = search needs

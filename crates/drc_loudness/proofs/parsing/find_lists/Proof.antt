@@ -1,7 +1,7 @@
 -- `drc_loudness::parsing::find_lists` meets its contract: what stands before the lists, and the lists.
 use mathlib.Core.Path.{ap}
 use Rattle.wire.specs.Reads.{endsOut}
-use Rattle.drc_loudness.proofs.Walked.{head-shorts, info-read, no-info, none-found}
+use Rattle.drc_loudness.proofs.Walked.{head-shorts, begins, info-read, none-found}
 use borrow.Author.Needs.{needs}
 use Rattle.drc_loudness.proofs.parsing.find_lists.Statement.{statement}
 use Rattle.drc_loudness.proofs.parsing.find_lists.Tie as tie
@@ -24,14 +24,18 @@ returns c =
 
 walk-lists-requires : tie.Need-walk-lists-requires
 walk-lists-requires c κs =
-    info-read (c .before .before .before .before .before .before .args .body .now) (c .before .before .before .before .head-end .ensures) (ap endsOut (c .before .before .h .given .1)) (c .if1 .taken)
+    info-read (begins (c .before .before .before .before .before .before .args .body .now) (c .before .before .before .before .head-end .ensures) (ap endsOut (c .before .before .h .given .1))) (c .if1 .taken)
+
+nowhere-requires : tie.Need-nowhere-requires
+nowhere-requires c κs = search needs
 
 returns-2 : tie.Need-returns-2
-returns-2 c = c .walk-lists .ensures
+returns-2 c =
+    c .walk-lists .ensures
 
 returns-3 : tie.Need-returns-3
 returns-3 c =
-    let (t, w) = no-info (c .before .before .before .before .before .before .args .body .now) (c .before .before .before .before .head-end .ensures) (ap endsOut (c .before .before .h .given .1)) (c .if1 .left) in record { finds = none-found _ w t }
+    record { finds = none-found (begins (c .before .before .before .before .before .before .before .args .body .now) (c .before .before .before .before .before .head-end .ensures) (ap endsOut (c .before .before .before .h .given .1))) (c .before .if1 .left) (c .nowhere .ensures) .found }
 
 pub find-lists-spec : {M : Type 1} → statement M
 find-lists-spec =
@@ -43,5 +47,6 @@ find-lists-spec =
     short-requires
     returns
     walk-lists-requires
+    nowhere-requires
     returns-2
     returns-3)

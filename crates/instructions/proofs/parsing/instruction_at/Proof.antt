@@ -1,13 +1,13 @@
 -- `parsing::instruction_at` meets its contract: where the additional IDs begin follows from the type byte, and what stands behind them from the byte before them.
 use Prim.Native.Nat.{_+_, _≤_}
-use mathlib.Core.Path.{_≡_}
+use mathlib.Core.Path.{_≡_, refl, _∙_}
 use native.Mathlib.Omega.{arith}
 use lib.ListN.{length}
 use Rattle.wire.specs.Bits.{total}
 use Rattle.wire.specs.Layout.{blank}
 use Rattle.wire.specs.Straight.{spans}
 use Rattle.instructions.specs.Layout.{settings}
-use Rattle.instructions.proofs.Taken.{idOf, settings-total, begins-are, settings-there, effect-there, instruction-taken}
+use Rattle.instructions.proofs.Taken.{idOf, settings-total, begins-are, settings-there, effect-there, bare-so}
 use borrow.Author.Needs.{needs}
 use Rattle.instructions.proofs.parsing.instruction_at.Statement.{statement}
 use Rattle.instructions.proofs.parsing.instruction_at.Tie as tie
@@ -57,70 +57,48 @@ shared-slice-read-wide-2 c =
 wide-requires-2 : tie.Need-wide-requires-2
 wide-requires-2 c κs = search needs
 
-sub-wide-2 : tie.Need-sub-wide-2
-sub-wide-2 c = search needs
-
-shared-slice-read-wide-3 : tie.Need-shared-slice-read-wide-3
-shared-slice-read-wide-3 c =
-    omega (arith, before-ids (c .before .before .before))
-
-wide-requires-3 : tie.Need-wide-requires-3
-wide-requires-3 c κs = search needs
-
-sub-wide-3 : tie.Need-sub-wide-3
-sub-wide-3 c = search needs
-
-shared-slice-read-wide-4 : tie.Need-shared-slice-read-wide-4
-shared-slice-read-wide-4 c =
-    omega (arith, before-ids (c .before .before .before .before .before))
-
-wide-requires-4 : tie.Need-wide-requires-4
-wide-requires-4 c κs = search needs
-
 part-requires-2 : tie.Need-part-requires-2
 part-requires-2 c κs = search needs
 
-cast-effect-at : tie.Need-cast-effect-at
-cast-effect-at c = search needs
+bare-effect-at-requires : tie.Need-bare-effect-at-requires
+bare-effect-at-requires c κs =
+    omega (arith, effect-there _ _ (c .before .before .before .before .before .before .before .before .before .before .pre .0) (c .before .before .before .before .before .before .before .before .before .before .pre .1) (begins-so (c .before .before .before .before)) (c .before .before .wide2 .ensures) refl refl refl .0)
 
-add-effect-at : tie.Need-add-effect-at
-add-effect-at c = search needs
+instruction-with-requires : tie.Need-instruction-with-requires
+instruction-with-requires c κs =
+    let (e, n) = bare-so (c .before .before .before .wide2 .result) (c .before .before .part2 .ensures) (c .before .if1 .taken) _ _ (c .bare-effect-at .ensures) in
+    (c .before .before .before .before .before .before .before .before .before .before .before .pre .0, c .before .before .before .before .before .before .before .before .before .before .before .pre .1, begins-so (c .before .before .before .before .before), c .before .before .before .wide2 .ensures, e, n)
+
+returns : tie.Need-returns
+returns c =
+    (c .instruction-with .ensures .0, c .instruction-with .ensures .1 ∙ begins-so (c .before .before .before .before .before .before))
 
 part-requires-3 : tie.Need-part-requires-3
 part-requires-3 c κs = search needs
 
+cast-behind : tie.Need-cast-behind
+cast-behind c = search needs
+
+add-behind : tie.Need-add-behind
+add-behind c = search needs
+
 part-requires-4 : tie.Need-part-requires-4
 part-requires-4 c κs = search needs
-
-effect-at-requires : tie.Need-effect-at-requires
-effect-at-requires c κs =
-    effect-there _ _ (c .before .before .before .before .before .before .before .before .before .before .before .before .before .before .before .pre .0) (c .before .before .before .before .before .before .before .before .before .before .before .before .before .before .before .pre .1) (begins-so (c .before .before .before .before .before .before .before .before .before)) (c .before .before .before .wide4 .ensures) (c .before .before .part2 .ensures) (c .before .part3 .ensures) (c .part4 .ensures)
-
-slice-aggregate-scope-at : tie.Need-slice-aggregate-scope-at
-slice-aggregate-scope-at c = search needs
-
-scope-at-requires : tie.Need-scope-at-requires
-scope-at-requires c κs =
-    omega (arith, there (c .before .before .before .before .before .before .before .before .before .before .before .before .before .before .before .before .before))
 
 part-requires-5 : tie.Need-part-requires-5
 part-requires-5 c κs = search needs
 
-part-requires-6 : tie.Need-part-requires-6
-part-requires-6 c κs = search needs
+effect-at-requires : tie.Need-effect-at-requires
+effect-at-requires c κs =
+    effect-there _ _ (c .before .before .before .before .before .before .before .before .before .before .before .before .before .pre .0) (c .before .before .before .before .before .before .before .before .before .before .before .before .before .pre .1) (begins-so (c .before .before .before .before .before .before .before)) (c .before .before .before .before .before .wide2 .ensures) (c .before .before .part3 .ensures) (c .before .part4 .ensures) (c .part5 .ensures)
 
-part-requires-7 : tie.Need-part-requires-7
-part-requires-7 c κs = search needs
+instruction-with-requires-2 : tie.Need-instruction-with-requires-2
+instruction-with-requires-2 c κs =
+    (c .before .before .before .before .before .before .before .before .before .before .before .before .before .before .pre .0, c .before .before .before .before .before .before .before .before .before .before .before .before .before .before .pre .1, begins-so (c .before .before .before .before .before .before .before .before), c .before .before .before .before .before .before .wide2 .ensures, rw (c .before .before .before .part3 .ensures, c .before .before .part4 .ensures, c .before .part5 .ensures) at (c .effect-at .ensures .0), rw (c .before .before .before .part3 .ensures, c .before .before .part4 .ensures, c .before .part5 .ensures) at (c .effect-at .ensures .1))
 
-part-requires-8 : tie.Need-part-requires-8
-part-requires-8 c κs = search needs
-
-part-requires-9 : tie.Need-part-requires-9
-part-requires-9 c κs = search needs
-
-returns : tie.Need-returns
-returns c =
-    (rw (c .before .before .before .before .part5 .ensures, c .before .before .before .part6 .ensures, c .before .before .part7 .ensures, c .before .part8 .ensures, c .part9 .ensures) (instruction-taken _ _ (c .before .before .before .before .before .before .before .before .before .before .before .before .before .before .before .before .before .before .before .before .before .before .before .before .before .pre .0) (c .before .before .before .before .before .before .before .before .before .before .before .before .before .before .before .before .before .before .before .before .before .before .before .before .before .pre .1) (begins-so (c .before .before .before .before .before .before .before .before .before .before .before .before .before .before .before .before .before .before .before)) (c .before .before .before .before .before .before .before .before .before .before .before .before .before .wide4 .ensures) (c .before .before .before .before .before .before .before .before .before .before .before .before .part2 .ensures) (c .before .before .before .before .before .before .before .before .before .before .before .part3 .ensures) (c .before .before .before .before .before .before .before .before .before .before .part4 .ensures) _ (c .before .before .before .before .before .before .before .scope-at .ensures) (c .before .before .before .before .before .before .before .before .before .before .before .before .before .before .before .before .before .wide2 .ensures) (c .before .before .before .before .before .before .before .before .before .before .before .before .before .before .before .wide3 .ensures) (c .before .before .before .before .before .before .before .before .before .effect-at .ensures .0) (c .before .before .before .before .before .before .before .before .before .effect-at .ensures .1)), begins-so (c .before .before .before .before .before .before .before .before .before .before .before .before .before .before .before .before .before .before .before))
+returns-2 : tie.Need-returns-2
+returns-2 c =
+    (c .instruction-with2 .ensures .0, c .instruction-with2 .ensures .1 ∙ begins-so (c .before .before .before .before .before .before .before .before .before))
 
 pub instruction-at-spec : {M : Type 1} → statement M
 instruction-at-spec =
@@ -136,23 +114,15 @@ instruction-at-spec =
     sub-wide
     shared-slice-read-wide-2
     wide-requires-2
-    sub-wide-2
-    shared-slice-read-wide-3
-    wide-requires-3
-    sub-wide-3
-    shared-slice-read-wide-4
-    wide-requires-4
     part-requires-2
-    cast-effect-at
-    add-effect-at
+    bare-effect-at-requires
+    instruction-with-requires
+    returns
     part-requires-3
+    cast-behind
+    add-behind
     part-requires-4
-    effect-at-requires
-    slice-aggregate-scope-at
-    scope-at-requires
     part-requires-5
-    part-requires-6
-    part-requires-7
-    part-requires-8
-    part-requires-9
-    returns)
+    effect-at-requires
+    instruction-with-requires-2
+    returns-2)

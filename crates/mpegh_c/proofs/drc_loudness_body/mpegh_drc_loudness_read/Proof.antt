@@ -6,7 +6,7 @@ use Rattle.frame.specs.declared.Refusal.the-variants as R
 use Rattle.frame.specs.Numbers.{refusal}
 use Rattle.drc_kind.specs.Rows.{topRow}
 use Rattle.drc_kind.specs.Kind.{kind}
-use Rattle.drc_loudness.proofs.Walked.{headless}
+use Rattle.drc_loudness.proofs.Walked.{begins, headless}
 use Rattle.mpegh_c.specs.Code.{refusedCode}
 use Rattle.mpegh_c.proofs.Hosted.{reads-neither, reads-unroomed, reads-refused, reads-done}
 use borrow.Author.Needs.{needs}
@@ -16,11 +16,11 @@ use Rattle.mpegh_c.proofs.drc_loudness_body.mpegh_drc_loudness_read.Tie
 head-end-requires : tie.Need-head-end-requires
 head-end-requires c κs = search needs
 
+enum-known-a : tie.Need-enum-known-a
+enum-known-a c = search needs
+
 enum-told : tie.Need-enum-told
 enum-told c = search needs
-
-enum-told-2 : tie.Need-enum-told-2
-enum-told-2 c = search needs
 
 short-requires : tie.Need-short-requires
 short-requires c κs = search needs
@@ -30,7 +30,7 @@ refusal-code-requires c κs = search needs
 
 returns : tie.Need-returns
 returns c =
-    reads-neither kind _ topRow (headless _ (c .before .before .before .before .head-end .ensures) (ap endsOut (c .before .before .enum-told2 .given .1))) (c .refusal-code .ensures ∙ ap (λ (x : Short). refusedCode (refusal (R.Short x))) (c .before .short .ensures))
+    reads-neither kind _ topRow (headless _ (c .before .before .before .before .head-end .ensures) (ap endsOut (c .before .before .enum-told .given .1))) (c .refusal-code .ensures ∙ ap (λ (x : Short). refusedCode (refusal (R.Short x))) (c .before .short .ensures))
 
 unread-requires : tie.Need-unread-requires
 unread-requires c κs = search needs
@@ -39,15 +39,16 @@ returns-2 : tie.Need-returns-2
 returns-2 c =
     reads-unroomed kind _ topRow (c .before .if1 .taken) (c .unread .ensures)
 
-opened-requires : tie.Need-opened-requires
-opened-requires c κs = search needs
+opened-behind-requires : tie.Need-opened-behind-requires
+opened-behind-requires c κs =
+    begins (c .before .before .before .before .before .before .before .before .before .before .before .before .before .before .before .args .body .now) (c .before .before .before .before .before .before .before .before .head-end .ensures) (ap endsOut (c .before .before .before .before .before .before .a .given .1))
 
 enum-known-o : tie.Need-enum-known-o
 enum-known-o c = search needs
 
 record-at-requires : tie.Need-record-at-requires
 record-at-requires c κs =
-    ((rw (c .before .o .given .1) at (c .before .before .before .before .before .before .before .before .before .before .before .opened .ensures) .gives) .found, (rw (c .before .o .given .1) at (c .before .before .before .before .before .before .before .before .before .before .before .opened .ensures) .gives) .few)
+    ((rw (c .before .o .given .1) at (c .before .before .before .before .before .before .before .before .before .before .before .opened-behind .ensures) .gives) .found, (rw (c .before .o .given .1) at (c .before .before .before .before .before .before .before .before .before .before .before .opened-behind .ensures) .gives) .few)
 
 columns-requires : tie.Need-columns-requires
 columns-requires c κs = search needs
@@ -82,7 +83,7 @@ same-length-5 c = search needs
 
 returns-3 : tie.Need-returns-3
 returns-3 c =
-    reads-done kind _ topRow (c .before .before .before .before .before .before .before .before .before .before .before .before .before .before .before .before .before .before .before .before .before .before .before .if1 .left) ((rw (c .before .before .before .before .before .before .before .before .o .given .1) at (c .before .before .before .before .before .before .before .before .before .before .before .before .before .before .before .before .before .before .opened .ensures) .gives) .reads (c .before .before .before .before .before .before .record-at .ensures)) refl (rw (c .before .before .before .before .before .columns .ensures) at (c .before .before .put-row .ensures))
+    reads-done kind _ topRow (c .before .before .before .before .before .before .before .before .before .before .before .before .before .before .before .before .before .before .before .before .before .before .before .if1 .left) ((rw (c .before .before .before .before .before .before .before .before .o .given .1) at (c .before .before .before .before .before .before .before .before .before .before .before .before .before .before .before .before .before .before .opened-behind .ensures) .gives) .reads (c .before .before .before .before .before .before .record-at .ensures)) refl (rw (c .before .before .before .before .before .columns .ensures) at (c .before .before .put-row .ensures))
 
 same-length-6 : tie.Need-same-length-6
 same-length-6 c = search needs
@@ -98,21 +99,21 @@ same-length-9 c = search needs
 
 returns-4 : tie.Need-returns-4
 returns-4 c =
-    reads-refused kind _ topRow (c .before .before .before .before .before .before .before .before .before .before .before .before .before .before .before .before .before .if1 .left) (rw (c .before .before .o2 .given .1) at (c .before .before .before .before .before .before .before .before .before .before .before .before .opened .ensures) .gives) (c .refusal-code2 .ensures)
+    reads-refused kind _ topRow (c .before .before .before .before .before .before .before .before .before .before .before .before .before .before .before .before .before .if1 .left) (rw (c .before .before .o2 .given .1) at (c .before .before .before .before .before .before .before .before .before .before .before .before .opened-behind .ensures) .gives) (c .refusal-code2 .ensures)
 
 pub mpegh-drc-loudness-read-spec : {M : Type 1} → statement M
 mpegh-drc-loudness-read-spec =
     tie.close
     (tie.spec
     head-end-requires
+    enum-known-a
     enum-told
-    enum-told-2
     short-requires
     refusal-code-requires
     returns
     unread-requires
     returns-2
-    opened-requires
+    opened-behind-requires
     enum-known-o
     record-at-requires
     columns-requires
