@@ -5,23 +5,23 @@ use mathlib.Core.List.{List, [], _∷_, _++_, append-assoc, append-nil, map, fla
 use mathlib.Core.Bool.{Bool, true, false, _&&_}
 use native.Mathlib.Omega.{arith}
 use native.Mathlib.Nat.{add-zero}
-use lib.ListN.{length, length-append}
+use lib.ListN.{length, length-append, getD}
 use lib.Dec.{eqb, leb, ltb}
-use borrow.Author.Tests.{lt-ltb, ltb-true, leb-true, eq-eqb, ne-eqb}
+use borrow.Author.Tests.{lt-ltb, ltb-true, leb-true, le-ltb, eq-eqb, ne-eqb, eqb-true}
 use Rattle.wire.specs.Lists.{each}
-use Rattle.wire.specs.Bits.{isFlag, fit, total}
+use Rattle.wire.specs.Bits.{Field, field, isFlag, fit, total}
 use Rattle.wire.specs.Act.{Act, demand, byte, when, pick, rows}
 use Rattle.wire.specs.Pen.{Checked, Quick, Ready, Filled, clean, bytes}
 use Rattle.wire.specs.Layout.{Cell, num, reserved, flag, end, optional, _▹_, Columns, from, at, row, fieldOf, writes, shown, cells, matches, matched, every, flagged, counted, layouts, has}
-use Rattle.wire.specs.Spell.{fitAll, Spelt, FitsAll, ChecksAll, ReadyAll, FillsAll, PlainRows}
+use Rattle.wire.specs.Spell.{fitAll, Spells, Spelt, none, more, FitsAll, ChecksAll, ReadyAll, FillsAll, PlainRows}
 use Rattle.wire.specs.declared.pen.Fault.{Fault}
 use Rattle.wire.specs.declared.pen.Fault.the-variants as F
 use Rattle.wire.specs.declared.pen.Pen.{Pen}
 use Rattle.wire.specs.declared.pen.Pen.the-variants.{At, Stop}
 use Rattle.wire.proofs.Acts.{and-both, both-and, clean-append, clean-both, bytes-append}
 use Rattle.wire.proofs.Fields.{fits-cons}
-use Rattle.wire.proofs.Passes.{then, here, quick-odd, Filling, fill-start, fill-demand, fill-row, fill-turn, fill-last}
-use Rattle.wire.proofs.Plain.{met, all-checked, bytes-long, clean-all, clean-when, no-quick, filled-long, ready-part, fill-part}
+use Rattle.wire.proofs.Passes.{then, here, quick-clean, quick-odd, fill-none, Filling, fill-start, fill-demand, fill-row, fill-turn, fill-last}
+use Rattle.wire.proofs.Plain.{met, all-checked, bytes-long, clean-all, clean-when, no-quick, going-start, going-end, filled-long, ready-part, fill-part}
 use Rattle.wire.proofs.Cells.{all, distinct, free, eights, proper, suits}
 use Rattle.wire.proofs.Forms.{sure, below, form-proper, form-all}
 use Rattle.wire.proofs.Heeds.{broken-row}
@@ -29,9 +29,11 @@ use Rattle.wire.proofs.Rowed.{Flat, Nest, flat-test, nest-test, weight, loose, 
 use Rattle.wire.proofs.Families.{frontActs, kidActs, Front, quick-passed, kids-passed, kids-odd, clean-parts, broken-stopped, broken-checked, front-passed, broken-quick, broken-odd-kid, broken-ready, broken-filling, kids-ready, kids-filled}
 use Rattle.pairs.specs.Layout.{pair}
 use Rattle.pairs.specs.Write.{pairActs}
-use Rattle.scopes.specs.Layout.{scope}
+use Rattle.scopes.specs.Layout.{caseAt, scope}
 use Rattle.scopes.specs.Rows.{scoped}
 use Rattle.scopes.specs.Write.{scopeActs, scopeBytes}
+use Rattle.scopes.specs.declared.rows.DrcScope.{DrcScope}
+use Rattle.scopes.specs.declared.rows.DrcScope.the-variants.{Plain}
 use Rattle.scopes.proofs.Written as S
 use Rattle.target_loudness.specs.Layout.{target}
 use Rattle.target_loudness.specs.Rows.{targetCols}
@@ -39,7 +41,7 @@ use Rattle.target_loudness.specs.Write.{targetFits, targetLong, targetPart}
 use Rattle.target_loudness.proofs.Writes.{target-writes, target-flags, target-counts, target-clean, target-long}
 use Rattle.instructions.specs.Layout.{types, additional, settings, effect, instruction}
 use Rattle.instructions.specs.Rows.{settingsRow, effectRow, instructionCols, instructionOf, settingsCells}
-use Rattle.instruction_writing.specs.Write.{settingsFields, effectFields, limiterFields, limiterPart, effectActs, flagsOf, instructionActs, rowActs}
+use Rattle.instruction_writing.specs.Write.{settingsFields, effectFields, limiterFields, limiterPart, effectActs, flagsOf, instructionActs, bareAt, rowActs}
 use Rattle.instructions.specs.declared.rows.DrcInstructions.{DrcInstructions}
 
 -- ---- a row of table 9 with its rows of table 10: what it passes, and that writing reads no other column
@@ -85,6 +87,17 @@ module _ (t u : List ℕ) (i : ℕ) {d : DrcInstructions} (e : d ≡ instruction
 
   pub row-stored : {n r : ℕ} {l o : List ℕ} → Filled (instructionActs u d) n l r o → Filled (rowActs t u i) n l r o
   row-stored {n} {r} {l} {o} w = subst (λ (a : List Act). Filled a n l r o) is-row w
+
+-- and of one that was loaded, of the columns that it was loaded from
+module _ (u : List ℕ) {d e : DrcInstructions} (s : d ≡ e) where
+  pub same-quick : {k : ℕ} → Quick (instructionActs u d) 18 k → Quick (instructionActs u e) 18 k
+  same-quick {k} q = subst (λ (z : DrcInstructions). Quick (instructionActs u z) 18 k) s q
+
+  pub same-asked : {n : ℕ} {l : List ℕ} → Ready (instructionActs u e) n l → Ready (instructionActs u d) n l
+  same-asked {n} {l} w = subst (λ (z : DrcInstructions). Ready (instructionActs u z) n l) (sym s) w
+
+  pub same-stored : {n r : ℕ} {l o : List ℕ} → Filled (instructionActs u d) n l r o → Filled (instructionActs u e) n l r o
+  same-stored {n} {r} {l} {o} w = subst (λ (z : DrcInstructions). Filled (instructionActs u z) n l r o) s w
 
 -- ---- its actions, part by part
 
@@ -367,3 +380,144 @@ module _ (d : DrcInstructions) where
 
             pub row-filled : {r : ℕ} {o : List ℕ} → Filled (effectActs d) n₃ o₃ r o → Filled (instructionActs u d) n l r o
             row-filled v = fill-last ids-filled (rw effect-so v)
+
+-- ---- a bare row: a plain scope, and no part that may be absent
+
+abbrev typeTest : ℕ → ℕ → Bool
+typeTest rt k = fit (field 6 rt ∷ field 1 k ∷ [])
+
+-- the types without an ID are 0 and 1
+plain-kinds : (k : ℕ) → eqb 0 (caseAt types k) && ltb k 4 ≡ ltb k 2
+unfolding each has
+plain-kinds zero = refl
+plain-kinds (suc zero) = refl
+plain-kinds (suc (suc zero)) = refl
+plain-kinds (suc (suc (suc zero))) = refl
+plain-kinds (suc (suc (suc (suc k)))) = let j = suc (suc (suc (suc k))) in ap (λ (b : Bool). eqb 0 (caseAt types j) && b) (le-ltb j 4 (omega arith)) ∙ and-false (eqb 0 (caseAt types j)) ∙ sym (le-ltb j 2 (omega arith))
+  where
+    and-false : (b : Bool) → b && false ≡ false
+    and-false true = refl
+    and-false false = refl
+
+type-clean : (rt k : ℕ) → clean (scopeActs types rt (Plain k)) ≡ typeTest rt k
+unfolding clean fit fitAll
+type-clean rt k = ap clean (S.acts-so types rt (Plain k)) ∙ go (ltb rt 64) (ltb k 4) (eqb 0 (caseAt types k)) ∙ ap (λ (b : Bool). ltb rt 64 && (b && true)) (plain-kinds k)
+  where
+    go : (a b c : Bool) → c && (((a && (b && true)) && (true && true)) && ((a && (b && true)) && true)) ≡ a && ((c && b) && true)
+    go true true true = refl
+    go true false true = refl
+    go false b true = refl
+    go true b false = refl
+    go false b false = refl
+
+type-long : (rt k : ℕ) → length (bytes (scopeActs types rt (Plain k))) ≡ 1
+unfolding bytes
+type-long rt k = ap (λ (q : List Act). length (bytes q)) (S.acts-so types rt (Plain k))
+
+type-quick : (rt k : ℕ) (f : Bool) → f ≡ typeTest rt k → Quick (scopeActs types rt (Plain k)) 2 (pick f 1 0)
+type-quick rt k true e = quick-clean (scopeActs types rt (Plain k)) 2 (type-clean rt k ∙ sym e) (type-long rt k) (omega arith) (omega arith)
+type-quick rt k false e = quick-odd (scopeActs types rt (Plain k)) 2 (λ z. no-quick (sym e) (sym (type-clean rt k) ∙ z))
+
+same-test : (a t f : Bool) → (a && ltb 0 (pick t 1 0)) && (f && true) ≡ (a && t) && f
+same-test true true true = refl
+same-test true true false = refl
+same-test true false f = refl
+same-test false t f = refl
+
+module _ (t : List ℕ) (b : ℕ) (u : List ℕ) (p : bareAt t b ≡ true) where
+  abbrev D : DrcInstructions
+  D = instructionOf t b
+
+  abbrev rt : ℕ
+  rt = getD t b 0
+
+  abbrev kind : ℕ
+  kind = getD t (b + 2) 0
+
+  abbrev word : List (List Field)
+  word = effectFields (getD t (b + 12) 0)
+
+  scope-bare : D .scope ≡ Plain kind
+  scope-bare =
+      let (x, _) = and-both (eqb (getD t (b + 1) 0) 0 && eqb (getD t (b + 11) 0) 0) _ p in
+      let (s, _) = and-both (eqb (getD t (b + 1) 0) 0) _ x in
+      let j : b + 1 + 1 ≡ b + 2 = omega arith in
+      rw (s, j)
+
+  no-ids : getD t (b + 11) 0 ≡ 0
+  no-ids =
+      let (x, _) = and-both (eqb (getD t (b + 1) 0) 0 && eqb (getD t (b + 11) 0) 0) _ p in
+      let (_, c) = and-both (eqb (getD t (b + 1) 0) 0) _ x in
+      eqb-true (getD t (b + 11) 0) 0 c
+
+  effect-bare : effectActs D ≡ map byte word
+  effect-bare =
+      let (_, y) = and-both (eqb (getD t (b + 1) 0) 0 && eqb (getD t (b + 11) 0) 0) _ p in
+      let (l, g) = and-both (eqb (getD t (b + 13) 0) 0) _ y in
+      let e₁ = eqb-true (getD t (b + 13) 0) 0 l in
+      let e₂ = eqb-true (getD t (b + 15) 0) 0 g in
+      rw (e₁, e₂)
+
+  -- the quick test
+  module _ {d : DrcInstructions} (q : d ≡ D) {inside typed fits : Bool} {vs : List ℕ} (e : inside ≡ leb (d .«additional_downmix_ids» .first + d .«additional_downmix_ids» .count) (length u / 2)) (h : typed ≡ typeTest rt kind) (s : Spelt (settingsFields d) vs) (f : FitsAll vs fits) (o : d .«drc_set_effect» < 65536) where
+    head-quick : Quick (ownScope D) 2 (pick typed 1 0)
+    head-quick = subst (λ (z : DrcScope). Quick (scopeActs types rt z) 2 (pick typed 1 0)) (sym scope-bare) (type-quick rt kind typed h)
+
+    tail-clean : true ≡ clean (effectActs D)
+    tail-clean = sym (ap clean effect-bare ∙ clean-all word ∙ word-fits D (rw q at o))
+
+    own-inside : inside ≡ leb (getD t (b + 10) 0 + getD t (b + 11) 0) (length u / 2)
+    own-inside = rw q at e
+
+    own-spelt : Spelt (settingsFields D) vs
+    own-spelt = subst (λ (z : DrcInstructions). Spelt (settingsFields z) vs) q s
+
+    pub bare-plain : (inside && typed) && fits ≡ true → Quick (instructionActs u D) 18 6
+    bare-plain z =
+        let (y, _) = and-both (inside && typed) _ z in
+        let one = ap {B = ℕ} (λ (c : Bool). pick c 1 0) (and-both inside typed y .1) in
+        let long : length (bytes (effectActs D)) ≡ 2 = ap (λ (a : List Act). length (bytes a)) effect-bare ∙ bytes-long word in
+        let six : pick typed 1 0 + 3 + getD t (b + 11) 0 + 2 ≡ 6 = omega (arith, one, no-ids) in
+        let v = going-end (going-start (λ j. pairActs u (getD t (b + 10) 0 + j)) 1 (getD t (b + 11) 0)) (omega (arith, no-ids)) in
+        subst (λ (k : ℕ). Quick (instructionActs u D) 18 k) six (row-plain D u own-inside head-quick own-spelt f tail-clean (same-test inside typed fits ∙ z) v (sym no-ids) (sym long, omega arith))
+
+    pub bare-odd : (inside && typed) && fits ≡ false → Quick (instructionActs u D) 18 0
+    bare-odd z = row-odd D u own-inside head-quick own-spelt f tail-clean (same-test inside typed fits ∙ z)
+
+  -- the fill pass: the type byte, the settings, and the word
+  module _ {n : ℕ} {l : List ℕ} (w : Ready (instructionActs u D) n l) {v : ℕ} (y : Spells (field 6 rt ∷ field 2 kind ∷ []) v) where
+    type-so : scopeBytes rt (D .scope) ≡ map byte ((field 6 rt ∷ field 2 kind ∷ []) ∷ [])
+    type-so = ap (scopeBytes rt) scope-bare ∙ S.bytes-so rt (Plain kind)
+
+    type-here : Ready (map byte ((field 6 rt ∷ field 2 kind ∷ []) ∷ [])) n l
+    type-here = subst (λ (a : List Act). Ready a n l) type-so (scope-ready D u w)
+
+    pub bare-type-ready : ReadyAll true (v ∷ []) n l
+    bare-type-ready = record { fss = (field 6 rt ∷ field 2 kind ∷ []) ∷ []; spelt = more y none; ready = type-here }
+
+    module _ {n₁ : ℕ} {o₁ : List ℕ} (x : FillsAll true (v ∷ []) n l n₁ o₁) {d : DrcInstructions} (q : d ≡ D) {vs : List ℕ} (s : Spelt (settingsFields d) vs) where
+      type-filled : Filled (scopeBytes rt (D .scope)) n l n₁ o₁
+      type-filled = subst (λ (a : List Act). Filled a n l n₁ o₁) (sym type-so) (x .of ((field 6 rt ∷ field 2 kind ∷ []) ∷ []) (more y none) (type-here .sound))
+
+      bare-spelt : Spelt (settingsFields D) vs
+      bare-spelt = subst (λ (z : DrcInstructions). Spelt (settingsFields z) vs) q s
+
+      pub bare-settings-ready : ReadyAll true vs n₁ o₁
+      bare-settings-ready = settings-ready D u w type-filled bare-spelt
+
+      module _ {n₂ : ℕ} {o₂ : List ℕ} (z : FillsAll true vs n₁ o₁ n₂ o₂) {ws : List ℕ} (r : Spelt (effectFields (d .«drc_set_effect»)) ws) where
+        ids-none : Filled (rows (pairActs u) (getD t (b + 10) 0) (getD t (b + 11) 0)) n₂ o₂ n₂ o₂
+        unfolding rows each flatten
+        ids-none = subst (λ (c : ℕ). Filled (rows (pairActs u) (getD t (b + 10) 0) c) n₂ o₂ n₂ o₂) (sym no-ids) (fill-none n₂ o₂)
+
+        word-spelt : Spelt word ws
+        word-spelt = subst (λ (z : DrcInstructions). Spelt (effectFields (z .«drc_set_effect»)) ws) q r
+
+        word-here : Ready (map byte word) n₂ o₂
+        word-here = subst (λ (a : List Act). Ready a n₂ o₂) effect-bare (effect-ready D u w type-filled bare-spelt z ids-none)
+
+        pub bare-word-ready : ReadyAll true ws n₂ o₂
+        bare-word-ready = record { fss = word; spelt = word-spelt; ready = word-here }
+
+        pub bare-filled : {m : ℕ} {o : List ℕ} → FillsAll true ws n₂ o₂ m o → Filled (instructionActs u D) n l m o
+        bare-filled {m} {o} k = row-filled D u w type-filled bare-spelt z ids-none (subst (λ (a : List Act). Filled a n₂ o₂ m o) (sym effect-bare) (k .of word word-spelt (word-here .sound)))

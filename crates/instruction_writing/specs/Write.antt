@@ -1,7 +1,8 @@
 -- What the functions that write a DRC instruction promise: its bytes of fields, its flags, and its actions with those of its additional IDs.
-use Prim.Native.Nat.{ℕ, _/_, _%_}
+use Prim.Native.Nat.{ℕ, _+_, _/_, _%_}
 use mathlib.Core.List.{List, [], _∷_, _++_, map}
 use mathlib.Core.Bool.{Bool, _&&_}
+use lib.ListN.{getD}
 use lib.Dec.{eqb}
 use Rattle.wire.specs.Bits.{Field, field, isFlag}
 use Rattle.wire.specs.Act.{Act, byte, when}
@@ -39,6 +40,10 @@ flagsOf d = isFlag (d .«limiter_peak_target» .present) && T.flagsOf (targetCol
 
 abbrev pub instructionActs : List ℕ → DrcInstructions → List Act
 instructionActs u d = familyActsOf instruction 2 additional u (instructionCols d)
+
+-- the row of table 9 from column b on has a plain scope and no part that may be absent
+abbrev pub bareAt : List ℕ → ℕ → Bool
+bareAt t b = (eqb (getD t (b + 1) 0) 0 && eqb (getD t (b + 11) 0) 0) && (eqb (getD t (b + 13) 0) 0 && eqb (getD t (b + 15) 0) 0)
 
 -- row i of table 9, as writing reads it
 abbrev pub rowActs : List ℕ → List ℕ → ℕ → List Act

@@ -9,8 +9,8 @@ ghost use Rattle.wire.specs.Spell.{Spelt, PlainRows};
 ghost use Rattle.wire.specs.declared.pen.Pen.the-variants.{At};
 ghost use Rattle.wire.proofs.Families.{frontActs};
 ghost use Rattle.instructions.specs.Layout.{instruction};
-ghost use Rattle.instructions.specs.Rows.{instructionCols};
-ghost use Rattle.instruction_writing.specs.Write.{settingsFields, effectFields, limiterFields, effectActs, flagsOf, instructionActs, rowActs};
+ghost use Rattle.instructions.specs.Rows.{instructionCols, instructionOf};
+ghost use Rattle.instruction_writing.specs.Write.{settingsFields, effectFields, limiterFields, effectActs, flagsOf, instructionActs, bareAt, rowActs};
 use instructions::rows::ADDITIONAL_COLUMNS;
 use instructions::rows::DRC_GROUP_TYPES;
 use instructions::rows::DrcInstructions;
@@ -27,6 +27,7 @@ use target_loudness::writing::fill_target;
 use target_loudness::writing::flags_hold;
 use target_loudness::writing::target_fits;
 use target_loudness::writing::target_long;
+use wire::bits::fits2;
 use wire::bits::is_flag;
 use wire::pen;
 use wire::pen::Fault;
@@ -66,6 +67,14 @@ fn limiter_bytes(l: LimiterPeakTarget) -> [u32; 1]
     ensures { λ r. ⌜ Spelt (limiterFields l) r ⌝ }
 {
     [one(l.value)]
+}
+
+// Whether the row whose first column is `b` is bare: a plain scope, no additional IDs, no limiter and no target loudness. Both passes are short for it.
+fn is_bare(t: &[u16], b: usize) -> bool
+    requires { ⌜ b + 24 ≤ length (now t) ⌝ }
+    ensures { λ r. ⌜ r ≡ bareAt (now (t .entry)) b ⌝ }
+{
+    (t[b + 1] == 0) & (t[b + 11] == 0) & ((t[b + 13] == 0) & (t[b + 15] == 0))
 }
 
 // ---- the check pass
@@ -154,6 +163,33 @@ fn plain_bytes(d: DrcInstructions, additional: &[u16]) -> usize
     0
 }
 
+// The same of a bare row: types 0 and 1 carry no ID.
+fn bare_bytes(t: &[u16], b: usize, additional: &[u16]) -> usize
+    requires { ⌜ (b + 24 ≤ length (now t)) × (bareAt (now t) b ≡ true) ⌝ }
+    ensures { λ r. ⌜ Quick (instructionActs (now (additional .entry)) (instructionOf (now (t .entry)) b)) 18 r ⌝ }
+{
+    let d = DrcInstructions::of_columns(t, b);
+    let inside = in_table(d.additional_downmix_ids, additional, ADDITIONAL_COLUMNS);
+    let typed = fits2(t[b], 6, t[b + 2], 1);
+    if inside & typed & fits_all(&settings_bytes(d)) {
+        6
+    } else {
+        0
+    }
+}
+
+// The same of the row whose first column is `b`.
+fn row_bytes(t: &[u16], b: usize, additional: &[u16]) -> usize
+    requires { ⌜ b + 24 ≤ length (now t) ⌝ }
+    ensures { λ r. ⌜ Quick (instructionActs (now (additional .entry)) (instructionOf (now (t .entry)) b)) 18 r ⌝ }
+{
+    if is_bare(t, b) {
+        return bare_bytes(t, b, additional);
+    }
+    let d = DrcInstructions::of_columns(t, b);
+    plain_bytes(d, additional)
+}
+
 // The plain rows before the first that is not, and their bytes.
 struct Passed {
     rows: usize,
@@ -167,8 +203,7 @@ fn plain_rows(instructions: &[u16], additional: &[u16], count: usize) -> Passed
     let mut bytes: usize = 0;
     let mut i: usize = 0;
     while i < count {
-        let d = DrcInstructions::of_columns(instructions, i * INSTRUCTION_COLUMNS);
-        let k = plain_bytes(d, additional);
+        let k = row_bytes(instructions, i * INSTRUCTION_COLUMNS, additional);
         if k == 0 {
             return Passed { rows: i, bytes };
         }
@@ -219,6 +254,21 @@ fn fill_instruction(d: DrcInstructions, additional: &[u16], out: &mut [u8], n: u
     fill_effect(d, out, n3)
 }
 
+// The row whose first column is `b`: six bytes if it is bare.
+fn fill_row(t: &[u16], b: usize, additional: &[u16], out: &mut [u8], n: usize) -> usize
+    requires { ⌜ (b + 24 ≤ length (now t)) × Ready (instructionActs (now additional) (instructionOf (now t) b)) n (now out) ⌝ }
+    ensures { λ r. ⌜ Filled (instructionActs (now (additional .entry)) (instructionOf (now (t .entry)) b)) n (now (out .entry)) r (now (out .exit)) ⌝ }
+{
+    if is_bare(t, b) {
+        let d = DrcInstructions::of_columns(t, b);
+        let n1 = fill_all(out, n, true, &[two(t[b], 6, t[b + 2], 2)]);
+        let n2 = fill_all(out, n1, true, &settings_bytes(d));
+        return fill_all(out, n2, true, &effect_bytes(d.drc_set_effect));
+    }
+    let d = DrcInstructions::of_columns(t, b);
+    fill_instruction(d, additional, out, n)
+}
+
 // The rows of table 9, from the first.
 pub fn fill_instructions(
     instructions: &[u16],
@@ -233,8 +283,7 @@ pub fn fill_instructions(
     let mut at = n;
     let mut i: usize = 0;
     while i < count {
-        let d = DrcInstructions::of_columns(instructions, i * INSTRUCTION_COLUMNS);
-        at = fill_instruction(d, additional, out, at);
+        at = fill_row(instructions, i * INSTRUCTION_COLUMNS, additional, out, at);
         i += 1;
     }
     at

@@ -1,5 +1,6 @@
 -- `writing::fill_instructions` meets its contract: what is left to store from a row on.
 use Prim.Native.Nat.{_-_, _≤_}
+use mathlib.Core.Path.{refl}
 use native.Mathlib.Omega.{arith}
 use native.Mathlib.Nat.{sub-zero}
 use Rattle.wire.specs.Act.{rows}
@@ -21,17 +22,13 @@ loop-holds : tie.Need-loop-holds Inv-loop μ-loop
 loop-holds c =
     (omega arith, rw sub-zero (fill-start (c .before .before .before .pre .2)))
 
-mul-of-columns : tie.Need-mul-of-columns Inv-loop μ-loop
-mul-of-columns c =
+mul-fill-row : tie.Need-mul-fill-row Inv-loop μ-loop
+mul-fill-row c =
     search needs
 
-of-columns-requires : tie.Need-of-columns-requires Inv-loop μ-loop
-of-columns-requires c κs =
-    omega arith
-
-fill-instruction-requires : tie.Need-fill-instruction-requires Inv-loop μ-loop
-fill-instruction-requires c κs =
-    row-asked (c .before .before .before .before .before .before .before .args .instructions .now) (c .before .before .before .before .before .before .before .args .additional .now) (c .before .before .before .loop .i) (c .before .of-columns .ensures) (fill-row _ _ (c .before .before .before .loop .inv .1) (rows-turn _ _ _ (c .before .before .loop-test .taken)))
+fill-row-requires : tie.Need-fill-row-requires Inv-loop μ-loop
+fill-row-requires c κs =
+    (omega arith, row-asked (c .before .before .before .before .before .before .args .instructions .now) (c .before .before .before .before .before .before .args .additional .now) (c .before .before .loop .i) refl (fill-row _ _ (c .before .before .loop .inv .1) (rows-turn _ _ _ (c .before .loop-test .taken))))
 
 add-i : tie.Need-add-i Inv-loop μ-loop
 add-i c =
@@ -43,8 +40,8 @@ loop-less c =
 
 loop-again : tie.Need-loop-again Inv-loop μ-loop
 loop-again c =
-    let w = row-stored (c .before .before .before .before .before .before .before .before .before .before .args .instructions .now) (c .before .before .before .before .before .before .before .before .before .before .args .additional .now) (c .before .before .before .before .before .before .loop .i) (c .before .before .before .before .of-columns .ensures) (c .before .before .fill-instruction .ensures) in
-    (omega arith, fill-turn (c .before .before .before .before .before .before .loop .inv .1) (rows-turn _ _ _ (c .before .before .before .before .before .loop-test .taken)) (filled-long w) w)
+    let w = row-stored (c .before .before .before .before .before .before .before .before .before .args .instructions .now) (c .before .before .before .before .before .before .before .before .before .args .additional .now) (c .before .before .before .before .before .loop .i) refl (c .before .before .fill-row .ensures) in
+    (omega arith, fill-turn (c .before .before .before .before .before .loop .inv .1) (rows-turn _ _ _ (c .before .before .before .before .loop-test .taken)) (filled-long w) w)
 
 same-length : tie.Need-same-length Inv-loop μ-loop
 same-length c =
@@ -61,9 +58,8 @@ fill-instructions-spec =
     Inv-loop
     μ-loop
     loop-holds
-    mul-of-columns
-    of-columns-requires
-    fill-instruction-requires
+    mul-fill-row
+    fill-row-requires
     add-i
     loop-less
     loop-again

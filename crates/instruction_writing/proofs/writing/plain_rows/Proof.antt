@@ -1,5 +1,6 @@
 -- `writing::plain_rows` meets its contract: the plain rows passed, and their bytes.
 use Prim.Native.Nat.{_-_}
+use mathlib.Core.Path.{refl}
 use native.Mathlib.Omega.{arith}
 use Rattle.wire.proofs.Plain.{Going, going-start, going-turn, going-odd, going-end}
 use Rattle.instruction_writing.specs.Write.{rowActs}
@@ -18,25 +19,23 @@ loop-holds : tie.Need-loop-holds Inv-loop μ-loop
 loop-holds c =
     going-start _ 18 _
 
-mul-of-columns : tie.Need-mul-of-columns Inv-loop μ-loop
-mul-of-columns c =
+mul-row-bytes : tie.Need-mul-row-bytes Inv-loop μ-loop
+mul-row-bytes c =
     search needs
 
-of-columns-requires : tie.Need-of-columns-requires Inv-loop μ-loop
-of-columns-requires c κs =
+row-bytes-requires : tie.Need-row-bytes-requires Inv-loop μ-loop
+row-bytes-requires c κs =
     omega arith
-
-plain-bytes-requires : tie.Need-plain-bytes-requires Inv-loop μ-loop
-plain-bytes-requires c κs =
-    search needs
 
 returns : tie.Need-returns Inv-loop μ-loop
 returns c =
-    going-odd (c .before .before .before .before .loop .inv) (row-quick (c .before .before .before .before .before .before .before .args .instructions .now) (c .before .before .before .before .before .before .before .args .additional .now) (c .before .before .before .before .loop .i) (c .before .before .of-columns .ensures) (c .before .plain-bytes .ensures)) (c .if1 .taken)
+    going-odd (c .before .before .before .loop .inv) (row-quick (c .before .before .before .before .before .before .args .instructions .now) (c .before .before .before .before .before .before .args .additional .now) (c .before .before .before .loop .i) refl (c .before .row-bytes .ensures)) (c .if1 .taken)
 
 add-bytes : tie.Need-add-bytes Inv-loop μ-loop
 add-bytes c =
-    let q = row-quick (c .before .before .before .before .before .before .before .args .instructions .now) (c .before .before .before .before .before .before .before .args .additional .now) (c .before .before .before .before .loop .i) (c .before .before .of-columns .ensures) (c .before .plain-bytes .ensures) in let l = c .if1 .left in omega (arith, going-turn (c .before .before .before .before .loop .inv) q (c .before .before .before .loop-test .taken) (omega (arith, l)) .few, c .before .before .before .loop-test .taken, c .before .before .before .before .before .before .before .pre .1)
+    let q = row-quick (c .before .before .before .before .before .before .args .instructions .now) (c .before .before .before .before .before .before .args .additional .now) (c .before .before .before .loop .i) refl (c .before .row-bytes .ensures) in
+    let l = c .if1 .left in
+    omega (arith, going-turn (c .before .before .before .loop .inv) q (c .before .before .loop-test .taken) (omega (arith, l)) .few, c .before .before .loop-test .taken, c .before .before .before .before .before .before .pre .1)
 
 add-i : tie.Need-add-i Inv-loop μ-loop
 add-i c =
@@ -48,7 +47,7 @@ loop-less c =
 
 loop-again : tie.Need-loop-again Inv-loop μ-loop
 loop-again c =
-    going-turn (c .before .before .before .before .loop .inv) (row-quick (c .before .before .before .before .before .before .before .args .instructions .now) (c .before .before .before .before .before .before .before .args .additional .now) (c .before .before .before .before .loop .i) (c .before .before .of-columns .ensures) (c .before .plain-bytes .ensures)) (c .before .before .before .loop-test .taken) (let l = c .if1 .left in omega (arith, l))
+    going-turn (c .before .before .before .loop .inv) (row-quick (c .before .before .before .before .before .before .args .instructions .now) (c .before .before .before .before .before .before .args .additional .now) (c .before .before .before .loop .i) refl (c .before .row-bytes .ensures)) (c .before .before .loop-test .taken) (let l = c .if1 .left in omega (arith, l))
 
 returns-2 : tie.Need-returns-2 Inv-loop μ-loop
 returns-2 c =
@@ -61,9 +60,8 @@ plain-rows-spec =
     Inv-loop
     μ-loop
     loop-holds
-    mul-of-columns
-    of-columns-requires
-    plain-bytes-requires
+    mul-row-bytes
+    row-bytes-requires
     returns
     add-bytes
     add-i

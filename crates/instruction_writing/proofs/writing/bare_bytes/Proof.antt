@@ -1,0 +1,65 @@
+-- `writing::bare_bytes` meets its contract: its six bytes, or 0 if a field is over its width or its range is outside of its table.
+use native.Mathlib.Omega.{arith}
+use Rattle.instruction_writing.proofs.Writes.{bare-plain, bare-odd}
+use borrow.Author.Needs.{needs}
+use Rattle.instruction_writing.proofs.writing.bare_bytes.Statement.{statement}
+use Rattle.instruction_writing.proofs.writing.bare_bytes.Tie as tie
+
+of-columns-requires : tie.Need-of-columns-requires
+of-columns-requires c κs = search needs
+
+in-table-requires : tie.Need-in-table-requires
+in-table-requires c κs = search needs
+
+mul-fits2 : tie.Need-mul-fits2
+mul-fits2 c = search needs
+
+shared-slice-read-fits2 : tie.Need-shared-slice-read-fits2
+shared-slice-read-fits2 c = search needs
+
+add-fits2 : tie.Need-add-fits2
+add-fits2 c = search needs
+
+mul-fits2-2 : tie.Need-mul-fits2-2
+mul-fits2-2 c = search needs
+
+shared-slice-read-fits2-2 : tie.Need-shared-slice-read-fits2-2
+shared-slice-read-fits2-2 c = search needs
+
+fits2-requires : tie.Need-fits2-requires
+fits2-requires c κs = search needs
+
+settings-bytes-requires : tie.Need-settings-bytes-requires
+settings-bytes-requires c κs = search needs
+
+slice-aggregate-fits-all : tie.Need-slice-aggregate-fits-all
+slice-aggregate-fits-all c = search needs
+
+fits-all-requires : tie.Need-fits-all-requires
+fits-all-requires c κs = search needs
+
+returns : tie.Need-returns
+returns c =
+    bare-plain (c .before .before .before .before .before .before .before .before .before .before .before .args .t .now) (c .before .before .before .before .before .before .before .before .before .before .before .args .b) (c .before .before .before .before .before .before .before .before .before .before .before .args .additional .now) (c .before .before .before .before .before .before .before .before .before .before .before .pre .1) (c .before .before .before .before .before .before .before .before .of-columns .ensures) (c .before .before .before .before .before .before .before .in-table .ensures) (c .before .before .before .before .fits2 .ensures) (c .before .before .before .settings-bytes .ensures) (c .before .fits-all .ensures) (omega (arith, c .before .before .before .before .before .before .before .before .of-columns .ok .1 .1 .1 .1 .1 .1 .1 .1 .0)) (c .if1 .taken)
+
+returns-2 : tie.Need-returns-2
+returns-2 c =
+    bare-odd (c .before .before .before .before .before .before .before .before .before .before .before .args .t .now) (c .before .before .before .before .before .before .before .before .before .before .before .args .b) (c .before .before .before .before .before .before .before .before .before .before .before .args .additional .now) (c .before .before .before .before .before .before .before .before .before .before .before .pre .1) (c .before .before .before .before .before .before .before .before .of-columns .ensures) (c .before .before .before .before .before .before .before .in-table .ensures) (c .before .before .before .before .fits2 .ensures) (c .before .before .before .settings-bytes .ensures) (c .before .fits-all .ensures) (omega (arith, c .before .before .before .before .before .before .before .before .of-columns .ok .1 .1 .1 .1 .1 .1 .1 .1 .0)) (c .if1 .left)
+
+pub bare-bytes-spec : {M : Type 1} → statement M
+bare-bytes-spec =
+    tie.close
+    (tie.spec
+    of-columns-requires
+    in-table-requires
+    mul-fits2
+    shared-slice-read-fits2
+    add-fits2
+    mul-fits2-2
+    shared-slice-read-fits2-2
+    fits2-requires
+    settings-bytes-requires
+    slice-aggregate-fits-all
+    fits-all-requires
+    returns
+    returns-2)
