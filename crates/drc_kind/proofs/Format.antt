@@ -1,8 +1,8 @@
 -- The DRC and loudness body as a format: each row type passes its test, and the program is that of the format.
-use Prim.Native.Nat.{ℕ, _+_, _≤_}
+use Prim.Native.Nat.{ℕ}
 use mathlib.Core.List.{List, [], _∷_, _++_, append-nil, map, map-id, flatten, flatMap}
 use mathlib.Core.Bool.{true}
-use mathlib.Core.Path.{_≡_, refl, sym, ap, _∙_}
+use mathlib.Core.Path.{_≡_, refl, sym, _∙_}
 use lib.ListN.{length, getD}
 use Rattle.wire.specs.Bits.{total}
 use Rattle.wire.specs.Lists.{Every, each}

@@ -1,5 +1,5 @@
 -- The largest image of the DRC and loudness body: 63 instructions with all that they can have, 63 loudness entries of 255 bytes, 31 downmix definitions and the longest trailing run make 82,989 bytes.
-use Prim.Native.Nat.{ℕ, _+_, _*_, _≤_, _<_}
+use Prim.Native.Nat.{ℕ, _*_, _≤_, _<_}
 use mathlib.Core.List.{List, [], _∷_, _++_, append-nil, map, flatten, flatMap}
 use mathlib.Core.Bool.{Bool, true, false}
 use mathlib.Core.Path.{_≡_, refl, sym, ap, subst, _∙_}
@@ -8,7 +8,7 @@ use lib.ListN.{length}
 use lib.Dec.{eqb}
 use Rattle.wire.specs.Lists.{Every, all-nil, all-cons}
 use Rattle.wire.specs.Bits.{field, fit}
-use Rattle.wire.specs.Act.{Act, byte, copy, pick}
+use Rattle.wire.specs.Act.{Act, pick}
 use Rattle.wire.specs.Pen.{clean, bytes}
 use Rattle.wire.specs.Layout.{Cell, num, reserved, flag, Columns, of, writes, shown, fieldOf, end, has, columns, Family}
 use Rattle.wire.proofs.Fields.{fits-cons}

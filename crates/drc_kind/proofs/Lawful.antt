@@ -1,6 +1,6 @@
 -- The DRC and loudness kind is lawful, so that all claims hold of it (Claims).
 use Prim.Native.Nat.{ℕ}
-use mathlib.Core.List.{List, _++_, map}
+use mathlib.Core.List.{List, _++_}
 use mathlib.Core.Path.{refl, sym, ap, subst, _∙_}
 use native.Mathlib.Omega.{arith}
 use lib.ListN.{length, length-append, length-map}

@@ -1,13 +1,13 @@
 -- The DRC and loudness kind is lawful: its record, its four tables and its actions are those of its format.
 use Prim.Native.Nat.{ℕ, zero, suc, _+_, _/_, _≤_, _<_}
-use mathlib.Core.List.{List, [], _∷_, _++_, append-nil, map, flatten, flatMap}
-use mathlib.Core.Bool.{Bool, true, false, _&&_}
+use mathlib.Core.List.{List, [], _∷_, _++_, append-nil, map, flatten}
+use mathlib.Core.Bool.{Bool, true, false}
 use mathlib.Core.Path.{_≡_, refl, sym, ap, subst, _∙_}
 use native.Mathlib.Omega.{arith}
 use lib.ListN.{length, getD, drop, length-append, length-map}
-use lib.Dec.{eqb, leb}
+use lib.Dec.{eqb}
 use borrow.Author.Tests.{le-leb, leb-true}
-use Rattle.wire.specs.Lists.{Every, all-nil, all-cons, each, sum, firsts, Column}
+use Rattle.wire.specs.Lists.{Every, all-nil, all-cons, each, firsts, Column}
 use Rattle.wire.specs.Bits.{bit, isFlag, fit, total}
 use Rattle.wire.specs.Prog.{span, many, Within}
 use Rattle.wire.specs.declared.rows.Payload.{Payload}
@@ -21,17 +21,17 @@ use Rattle.wire.proofs.Acts.{and-both, both-and, clean-append, clean-both}
 use Rattle.wire.proofs.Takes.{Takes, takes-split, map-takes, many-takes, listed-every, listed-bound}
 use Rattle.wire.proofs.Nest.{flat-length, sum-suc}
 use Rattle.wire.proofs.Codec.{list, Spells, spells-rows, seen-as, As-fits}
-use Rattle.wire.proofs.Cells.{On, all, distinct, free, eights, proper, mix-all, sound-both, both-sound, shown-in, all-fit, fit-both, bytewide, cells-byte}
+use Rattle.wire.proofs.Cells.{On, all, distinct, free, eights, proper, mix-all, sound-both, both-sound, shown-in, all-fit, bytewide, cells-byte}
 use Rattle.wire.proofs.Forms.{form-shown, form-matches, form-acts, form-all, Form-fits, Row-fits, Breaks, woven, Holes, Cleans, Faultless, rows-of, row-spells, row-ready, row-of}
 use Rattle.wire.proofs.Rowed.{loose, matches-loose, after-demands, breaks, families, broken-on, broken-form, Wide, Good, found, each-as, room-for, flats, flat-wide, flat-spells, flat-columns, broken-spells, rows-again, rows-ready, weight, flat-weighs, listed-sum, flat-grows, Grown, family-grows, families-mean, families-sound, parents-found, parents-room, parents-columns, kids-columns}
-use Rattle.wire.proofs.Borne.{bear-form, bears, meant, Stands, stands, bear-spells, bear-columns, bear-grows, borne-again, borne-ready, borne-found, borne-room}
+use Rattle.wire.proofs.Borne.{bear-form, bears, meant, stands, bear-spells, bear-columns, bear-grows, borne-again, borne-ready, borne-found, borne-room}
 use Rattle.frame.specs.Kind.{Lent, Held, Rows}
 use Rattle.frame.specs.Entry.{first, others, filled}
 use Rattle.pairs.specs.Layout.{pair}
 use Rattle.scopes.specs.Layout.{scope}
 use Rattle.scopes.specs.Rows.{scoped}
 use Rattle.scopes.proofs.Kept.{row-kept}
-use Rattle.instructions.specs.Layout.{additional, settings, effect, instruction, instructions}
+use Rattle.instructions.specs.Layout.{additional, effect, instruction, instructions}
 use Rattle.instructions.specs.Layout as I
 use Rattle.loudness.specs.Layout.{entry, entries}
 use Rattle.loudness.specs.Layout as E

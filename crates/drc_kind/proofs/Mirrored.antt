@@ -5,16 +5,15 @@ use mathlib.Core.List.{List, [], _∷_, _++_}
 use mathlib.Core.Bool.{Bool, true, false}
 use lib.ListN.{getD}
 use lib.Dec.{eqb}
-use borrow.Author.Tests.{eqb-true}
 use Rattle.wire.specs.Lists.{each}
 use Rattle.wire.specs.Bits.{part, total, split}
 use Rattle.wire.specs.Prog.{Prog, ret, look, u8, pass, span, many, _>>=_}
 use Rattle.wire.specs.Act.{pick}
-use Rattle.wire.specs.Layout.{Layout, end, one, optional, _▹_, num, reserved, flag, Columns, blank, set, has, put, puts, reads, row, flat, broken, Family, bearing, Borne}
+use Rattle.wire.specs.Layout.{Layout, end, one, optional, _▹_, num, reserved, flag, Columns, blank, set, has, put, puts, reads, row, flat, Family, Borne}
 use Rattle.wire.proofs.Runs.{bind-assoc}
 use Rattle.wire.proofs.Fields.{part-below}
 use Rattle.pairs.specs.Layout.{pair}
-use Rattle.scopes.specs.Layout.{caseAt, ids, scope}
+use Rattle.scopes.specs.Layout.{ids, scope}
 use Rattle.scopes.proofs.Taken.{case-at}
 use Rattle.target_loudness.specs.Layout as L
 use Rattle.instructions.specs.Layout as I

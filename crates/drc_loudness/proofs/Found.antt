@@ -10,7 +10,7 @@ use lib.Dec.{eqb}
 use borrow.Author.Tests.{eqb-true}
 use Rattle.wire.specs.Lists.{sum, firsts}
 use Rattle.wire.specs.Bits.{part, zeros}
-use Rattle.wire.specs.Prog.{Out, done, run, many}
+use Rattle.wire.specs.Prog.{done, run, many}
 use Rattle.wire.specs.Reads.{rowsOf}
 use Rattle.wire.specs.Act.{pick}
 use Rattle.wire.specs.Layout.{Cell, num, reserved, flag, column, idle, Columns, of, flat, shown, cells, tally, Family, familyTally, Borne, borneRow, borneTally}
@@ -27,8 +27,8 @@ use Rattle.frame.specs.Numbers.{accepted, refused, refusal}
 use Rattle.frame.specs.Entry as E
 use Rattle.frame.specs.Entry.{Need, needs, sizes, tail, onto, first, others, lacking, filled, Measures, Reads, Tallies}
 use Rattle.frame.specs.Sight.{andTables}
-use Rattle.frame.proofs.Entries.{measures-done, reads-done, reads-lacking, judges, tallies}
-use Rattle.frame.proofs.Tables.{enough, lowest, no-more, no-rows}
+use Rattle.frame.proofs.Entries.{measures-done, reads-done, judges, tallies}
+use Rattle.frame.proofs.Tables.{enough, reads-lowest, same-rows, no-more, no-rows}
 use Rattle.instructions.specs.Layout.{instruction, instructions, additional}
 use Rattle.loudness.specs.Layout.{entry, entries}
 use Rattle.downmixes.specs.Layout.{downmix}
@@ -122,12 +122,8 @@ module _ {s : List ℕ} {p : Places} (f : Found s p) (h : length s < 65536) {z :
   pub measures-so : Measures kind s (accepted (sized z))
   measures-so = subst (λ (y : E.Sizes). Measures kind s (accepted y)) (sym (c .is f)) (measures-found f (omega arith))
 
-  module _ (lent : Lent) {r : Room} (e : r ≡ andTables M.Enough (sized z .tables) lent) where
-    pub lacks-so : {t n : ℕ} → r ≡ M.Lacks t n → Opens s lent (O.Refused (R.NoRoom t n)) lent
-    lacks-so {t} {n} d =
-        let l = lowest (sized z .tables) lent (sym e ∙ d) in
-        let w = reads-lacking kind s measures-so lent (l .need) (l .is) in
-        record { gives = subst (λ (n : ℕ). Reads kind s lent (refused (refusal (R.NoRoom t n))) lent) (l .rows) (subst (λ (t : ℕ). Reads kind s lent (refused (refusal (R.NoRoom t (l .need .rows)))) lent) (l .number) w) }
+  pub lacks-so : (lent : Lent) {r : Room} → r ≡ andTables M.Enough (sized z .tables) lent → {t n : ℕ} → r ≡ M.Lacks t n → Opens s lent (O.Refused (R.NoRoom t n)) lent
+  lacks-so lent e d = record { gives = reads-lowest kind s measures-so lent e d }
 
 -- the same of any two finds
 pub rooms-so : {s : List ℕ} {p : Places} {z : Sizes} → Counted s p z → (lent : Lent) {r : Room} → r ≡ andTables M.Enough (sized z .tables) lent → r ≡ M.Enough → Rooms s p lent
@@ -140,12 +136,6 @@ opened-so {s} {p} f h {lent} r w = record { gives = record { found = f; few = h;
 
 -- ---- no rows: no table is needed, and none changes
 
--- the rows that the k-th table needs
-abbrev rows : ℕ → List Need → ℕ
-rows k [] = 0
-rows zero (n ∷ ns) = n .rows
-rows (suc k) (n ∷ ns) = rows k ns
-
 none-of : {A : Type 0} (l : List A) → length l ≡ 0 → l ≡ []
 none-of [] e = refl
 none-of (x ∷ l) e = absurd (omega (arith, e))
@@ -155,12 +145,11 @@ unfolding sizes kind needs tables
 bare-counted {s} {p} f {z} c e =
     let (x, y) = and-both (eqb (z .instructions) 0) _ e in
     let (u, v) = and-both (eqb (z .loudness) 0) _ y in
-    let same : (k : ℕ) → rows k (sized z .tables) ≡ rows k (sizes kind (record { tree = tree f; before = p .k }) .tables) = λ k. ap (λ (y : E.Sizes). rows k (y .tables)) (c .is f) in
     record {
       found = f;
-      no-instructions = none-of (f .in-instructions) (sym (parents-long instructionRows (f .in-instructions)) ∙ sym (same 0) ∙ eqb-true (z .instructions) 0 x);
-      no-entries = none-of (f .in-entries) (sym (length-map (f .in-entries) (borneRow entry)) ∙ sym (same 2) ∙ eqb-true (z .loudness) 0 u);
-      no-downmixes = none-of (f .in-downmixes) (sym (same 3) ∙ eqb-true (z .downmixes) 0 v);
+      no-instructions = none-of (f .in-instructions) (sym (parents-long instructionRows (f .in-instructions)) ∙ sym (same-rows (c .is f) 0) ∙ eqb-true (z .instructions) 0 x);
+      no-entries = none-of (f .in-entries) (sym (length-map (f .in-entries) (borneRow entry)) ∙ sym (same-rows (c .is f) 2) ∙ eqb-true (z .loudness) 0 u);
+      no-downmixes = none-of (f .in-downmixes) (sym (same-rows (c .is f) 3) ∙ eqb-true (z .downmixes) 0 v);
     }
 
 module _ {s : List ℕ} {p : Places} (b : Bare s p) where

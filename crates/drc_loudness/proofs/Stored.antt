@@ -1,12 +1,12 @@
 -- Filling the tables of a body whose lists were found: what the functions that fill ask for, and that they leave the rows of the tree.
-use Prim.Native.Nat.{ℕ, _+_, _*_, _≤_, _<_}
-use mathlib.Core.Path.{_≡_, refl, sym, ap, _∙_}
+use Prim.Native.Nat.{ℕ, _*_, _≤_, _<_}
+use mathlib.Core.Path.{_≡_, ap, _∙_}
 use mathlib.Core.List.{List, [], _∷_, _++_, map-id, map, flatten, flatMap}
 use mathlib.Core.Bool.{true}
 use native.Mathlib.Omega.{arith}
 use lib.ListN.{length, drop, length-map}
 use lib.Seq.{sets, slice}
-use Rattle.wire.specs.Prog.{Out, done, run, many}
+use Rattle.wire.specs.Prog.{Out, run, many}
 use Rattle.wire.specs.Reads.{rowsOf, isDone}
 use Rattle.wire.specs.Nest.{Fillable, Nests}
 use Rattle.wire.specs.Layout.{flat, Borne, kids, brokenRow, borneRow}

@@ -12,13 +12,12 @@ use Rattle.wire.specs.Prog.{Prog, ret, Out, done, short, run, u8, many, _>>=_}
 use Rattle.wire.specs.Reads.{mapOut, endOf, shortOf, Summed}
 use Rattle.wire.specs.Act.{pick}
 use Rattle.wire.specs.Straight.{ends, ones, took, putsAt, taken, spans}
-use Rattle.wire.specs.Layout.{reserved, flag, Columns, blank, put, reads, flat, Family, Borne, kids}
+use Rattle.wire.specs.Layout.{reserved, flag, blank, put, reads, flat, Family, Borne, kids}
 use Rattle.wire.specs.declared.reads.Short.{Short}
 use Rattle.wire.specs.declared.reads.Sum.{Sum}
 use Rattle.wire.specs.declared.reads.Sum.the-variants as S
 use Rattle.wire.proofs.Runs.{andThen, run-bind}
 use Rattle.wire.proofs.Walk.{From, byte-next, onward, as-done, cut-off-as, finished}
-use Rattle.wire.proofs.Walk.{ends as ends-in}
 use Rattle.wire.proofs.Fields.{part-below}
 use Rattle.wire.proofs.Loops.{Went-on, sum-onward, sum-cut-off, sum-small}
 use Rattle.wire.proofs.Straight.{read-so, ones-got, ends-at, ends-within, ends-on, ends-cut}

@@ -1,12 +1,11 @@
 -- What the walk along a DRC and loudness body finds: where its lists stand, and how many additional IDs they have. The promises of the entry points do not rest on it.
-use Prim.Native.Nat.{ℕ, _+_, _<_, _≤_}
+use Prim.Native.Nat.{ℕ, _<_, _≤_}
 use mathlib.Core.List.{List, [], _∷_}
-use mathlib.Core.Bool.{Bool}
 use mathlib.Core.Option.{none}
 use mathlib.Core.Path.{_≡_}
 use lib.ListN.{length, getD}
 use lib.Dec.{eqb}
-use Rattle.wire.specs.Bits.{part, bit}
+use Rattle.wire.specs.Bits.{part}
 use Rattle.wire.specs.Prog.{done, short, run, many}
 use Rattle.wire.specs.Act.{pick}
 use Rattle.wire.specs.Layout.{flat, Family, Borne, kids}

@@ -1,18 +1,21 @@
 -- The room of the lent tables, one after the other, is what is lacking of all.
-use Prim.Native.Nat.{ℕ, _/_}
+use Prim.Native.Nat.{ℕ, zero, suc, _/_}
 use mathlib.Core.List.{List, [], _∷_}
 use mathlib.Core.Bool.{Bool, true, false}
 use mathlib.Core.Option.{Option, none, some}
-use mathlib.Core.Path.{_≡_, refl, sym, ap, _∙_}
+use mathlib.Core.Path.{_≡_, refl, sym, ap, subst, _∙_}
 use native.Mathlib.Omega.{arith}
 use lib.ListN.{length}
 use lib.Dec.{leb}
 use borrow.Author.Tests.{le-leb}
 use Rattle.frame.specs.declared.Room.{Room}
 use Rattle.frame.specs.declared.Room.the-variants as M
-use Rattle.frame.specs.Kind.{Lent}
-use Rattle.frame.specs.Entry.{Need, room, first, others, lacking}
+use Rattle.frame.specs.declared.Refusal.the-variants as R
+use Rattle.frame.specs.Kind.{Kind, Lent}
+use Rattle.frame.specs.Numbers.{accepted, refused, refusal}
+use Rattle.frame.specs.Entry.{Sizes, Need, room, first, others, lacking, Measures, Reads}
 use Rattle.frame.specs.Sight.{andTable, andTables}
+use Rattle.frame.proofs.Entries.{reads-lacking}
 
 -- ---- one table
 
@@ -70,6 +73,23 @@ lowest ns lent {i} {k} e = go (lacking ns lent) refl (sym (all-so ns lent) ∙ e
     go : (o : Option Need) → lacking ns lent ≡ o → found o ≡ M.Lacks i k → Lack ns lent i k
     go none q e = let z : _≡_ {A = ℕ} 0 1 = cc e in absurd (omega arith)
     go (some n) q e = record { need = n; is = q; number = cc e; rows = cc e }
+
+-- a body that is measured, and whose tables are lent one by one: the lowest that is short is what reading answers
+module _ {Tree Top Value : Type 0} (K : Kind Tree Top Value) (body : List ℕ) {y : Sizes} (m : Measures K body (accepted y)) (lent : Lent) {r : Room} (e : r ≡ andTables M.Enough (y .tables) lent) where
+  pub reads-lowest : {i k : ℕ} → r ≡ M.Lacks i k → Reads K body lent (refused (refusal (R.NoRoom i k))) lent
+  reads-lowest {i} {k} d =
+      let l = lowest (y .tables) lent (sym e ∙ d) in
+      subst (λ (k : ℕ). Reads K body lent (refused (refusal (R.NoRoom i k))) lent) (l .rows) (subst (λ (i : ℕ). Reads K body lent (refused (refusal (R.NoRoom i (l .need .rows)))) lent) (l .number) (reads-lacking K body m lent (l .need) (l .is)))
+
+-- ---- the rows that the k-th table needs
+
+abbrev pub rowsAt : ℕ → List Need → ℕ
+rowsAt k [] = 0
+rowsAt zero (n ∷ ns) = n .rows
+rowsAt (suc k) (n ∷ ns) = rowsAt k ns
+
+pub same-rows : {y y′ : Sizes} → y ≡ y′ → (k : ℕ) → rowsAt k (y .tables) ≡ rowsAt k (y′ .tables)
+same-rows e k = ap (λ (y : Sizes). rowsAt k (y .tables)) e
 
 -- ---- no rows need no table
 

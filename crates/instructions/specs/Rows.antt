@@ -1,11 +1,10 @@
 -- The declared row of table 9 as columns, from its table, and what its bytes give its columns.
-use Prim.Native.Nat.{ℕ, _+_, _*_}
+use Prim.Native.Nat.{ℕ, _+_}
 use mathlib.Core.Path.{_≡_}
 use mathlib.Core.List.{List, [], _∷_, _++_}
 use lib.ListN.{getD}
 use lib.Dec.{eqb}
 use Rattle.wire.specs.Lists.{each}
-use Rattle.wire.specs.Bits.{part}
 use Rattle.wire.specs.Act.{pick}
 use Rattle.wire.specs.Layout.{Cell, num, reserved, flag, Columns, of}
 use Rattle.wire.specs.Straight.{taken, blanks}

@@ -20,8 +20,8 @@ use Rattle.frame.specs.Numbers.{accepted, refused, refusal}
 use Rattle.frame.specs.Entry as E
 use Rattle.frame.specs.Entry.{lacking, onto, sizes, Reads, Measures, Tallies}
 use Rattle.frame.specs.Sight.{andTables}
-use Rattle.frame.proofs.Entries.{judges, tallies, reads-lacking}
-use Rattle.frame.proofs.Tables.{enough, lowest}
+use Rattle.frame.proofs.Entries.{judges, tallies}
+use Rattle.frame.proofs.Tables.{enough, reads-lowest}
 use Rattle.scene_groups.specs.Layout.{group}
 use Rattle.switch_groups.specs.Layout.{member, switchGroup, switchGroups}
 use Rattle.conditions.specs.Layout.{condition}
@@ -45,12 +45,8 @@ module _ {s : List ℕ} {p : Places} (f : Found s p) (h : length s < 65536) {z :
   pub measures-so : Measures kind s (accepted (sized z))
   measures-so = subst (λ (y : E.Sizes). Measures kind s (accepted y)) (sym (c .is f)) (measures-found f (omega arith))
 
-  module _ (lent : Lent) {r : Room} (e : r ≡ andTables M.Enough (sized z .tables) lent) where
-    pub lacks-so : {t n : ℕ} → r ≡ M.Lacks t n → Opens s lent (O.Refused (R.NoRoom t n)) lent
-    lacks-so {t} {n} d =
-        let l = lowest (sized z .tables) lent (sym e ∙ d) in
-        let w = reads-lacking kind s measures-so lent (l .need) (l .is) in
-        record { gives = subst (λ (n : ℕ). Reads kind s lent (refused (refusal (R.NoRoom t n))) lent) (l .rows) (subst (λ (t : ℕ). Reads kind s lent (refused (refusal (R.NoRoom t (l .need .rows)))) lent) (l .number) w) }
+  pub lacks-so : (lent : Lent) {r : Room} → r ≡ andTables M.Enough (sized z .tables) lent → {t n : ℕ} → r ≡ M.Lacks t n → Opens s lent (O.Refused (R.NoRoom t n)) lent
+  lacks-so lent e d = record { gives = reads-lowest kind s measures-so lent e d }
 
 -- the same of any two finds
 pub rooms-so : {s : List ℕ} {p : Places} {z : Sizes} → Counted s p z → (lent : Lent) {r : Room} → r ≡ andTables M.Enough (sized z .tables) lent → r ≡ M.Enough → Rooms s p lent

@@ -1,5 +1,5 @@
 -- Filling the tables of a body whose sections were found: what the functions that fill ask for, and that they leave the rows of the tree.
-use Prim.Native.Nat.{ℕ, _+_, _*_, _≤_, _<_, _^_}
+use Prim.Native.Nat.{ℕ, _*_, _≤_, _<_, _^_}
 use mathlib.Core.Path.{_≡_, ap, _∙_}
 use mathlib.Core.List.{List, [], _∷_, _++_, map-id, flatten, flatMap}
 use mathlib.Core.Bool.{true}

@@ -1,12 +1,11 @@
 -- What is claimed of the scene body: every claim of every kind (frame, specs/Claims), and the few that matter most spelled out for its record and tables 1 to 5.
 use Prim.Native.Nat.{ℕ, _+_, _≤_}
 use mathlib.Core.Path.{_≡_, refl, sym, ap, subst, _∙_}
-use mathlib.Core.List.{List, [], _∷_, _++_, map, flatten, flatMap}
+use mathlib.Core.List.{List, [], _∷_, _++_, flatten, flatMap}
 use mathlib.Core.Bool.{Bool, true, false}
 use mathlib.Core.Logic.{_↔_}
 use native.Mathlib.Omega.{arith}
-use native.Mathlib.Nat.{add-zero, zero-add}
-use lib.ListN.{length, getD, drop, length-append}
+use lib.ListN.{length, getD, drop}
 use lib.Count.{ones}
 use lib.Dec.{eqb, lit<}
 use Rattle.wire.specs.Lists.{Every, all-nil, all-cons, each, sum, firsts, Byte}
@@ -14,7 +13,7 @@ use Rattle.wire.specs.Bits.{split, total, part}
 use Rattle.wire.specs.Prog.{Prog, ret, u8, run, span, bytes, pass, many, _>>=_}
 use Rattle.wire.specs.declared.rows.Payload.{Payload}
 use Rattle.wire.specs.Act.{pick}
-use Rattle.wire.specs.Layout.{at, row, reads, put, puts, shown, cells, tally, has, Broken, brokenRow, Family, parents, kids}
+use Rattle.wire.specs.Layout.{at, row, reads, put, puts, shown, cells, tally, has, brokenRow, Family, parents, kids}
 use Rattle.wire.proofs.Takes.{Takes, run-takes, takes-split, takes-ret, map-takes, many-takes, listed-length, listed-every}
 use Rattle.wire.proofs.Rowed.{parents-long}
 use Rattle.wire.proofs.Running.{RunsOn, Told, runs-on}

@@ -1,5 +1,5 @@
 -- The scene body as a format: each row type passes its test, and the program is that of the format.
-use Prim.Native.Nat.{ℕ, _+_, _≤_}
+use Prim.Native.Nat.{ℕ, _≤_}
 use mathlib.Core.List.{List, [], _∷_, _++_, map, map-id, flatten, flatMap}
 use mathlib.Core.Bool.{true}
 use mathlib.Core.Path.{_≡_, refl, sym}

@@ -36,10 +36,10 @@ use Rattle.scene_kind.specs.declared.rows.MpegH3dAudioScene.{MpegH3dAudi
 use Rattle.scene_kind.specs.Layout as T
 use Rattle.scene_kind.specs.Layout.{layouts, absent}
 use Rattle.scene_kind.specs.Rows.{fields, sceneOf, bounds, Scene, tables}
-use Rattle.scene_kind.specs.Kind.{parse, table, counts, groupActs, switchActs, presetActs, inside, actsOf, acts, valueOf, value, kind}
+use Rattle.scene_kind.specs.Kind.{parse, table, counts, groupActs, switchActs, presetActs, inside, actsOf, acts, valueOf, value}
 use Rattle.switch_groups.proofs.Writes.{switch-passes}
 use Rattle.presets.proofs.Writes.{preset-passes}
-use Rattle.scene_kind.proofs.Format.{groupRows, memberRows, conditionRows, switchRows, presetRows, form, top-proper, top-below, top-absent, scene, parts, format, Parted}
+use Rattle.scene_kind.proofs.Format.{groupRows, memberRows, conditionRows, switchRows, presetRows, form, top-proper, top-below, top-absent, parts, format, Parted}
 
 -- ---- the actions, section by section
 

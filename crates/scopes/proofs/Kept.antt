@@ -1,17 +1,17 @@
 -- A scope that was read stands in its row as writing reads it: reading it through the scope that its columns make changes none of them.
-use Prim.Native.Nat.{ℕ, zero, suc, _≤_, _<_}
-use mathlib.Core.Path.{_≡_, refl, sym, ap, subst, _∙_}
+use Prim.Native.Nat.{ℕ, zero, suc, _≤_}
+use mathlib.Core.Path.{_≡_, refl, sym, ap, _∙_}
 use mathlib.Core.List.{List, [], _∷_, _++_, flatten}
 use mathlib.Core.Bool.{Bool, true, false}
 use native.Mathlib.Omega.{arith}
 use lib.Dec.{eqb, ltb}
-use borrow.Author.Tests.{eqb-true, eq-eqb, ltb-true, ltb-false}
+use borrow.Author.Tests.{eqb-true, ltb-true, ltb-false}
 use Rattle.wire.specs.Act.{pick}
 use Rattle.wire.specs.Pen.{clean}
 use Rattle.wire.specs.Layout.{Cell, Layout, num, reserved, judged, Columns, set, shown, matches, columns, has, blank}
 use Rattle.wire.proofs.Acts.{and-both}
 use Rattle.wire.proofs.Cells.{Off, all, columns-none, shown-in}
-use Rattle.scopes.specs.Layout.{caseOf, caseAt, scope}
+use Rattle.scopes.specs.Layout.{caseAt, scope}
 use Rattle.scopes.specs.Rows.{caseIs, kindIs, reservedIs, idIs, scopeIs, scoped}
 use Rattle.scopes.proofs.Taken.{case-at, case-past}
 

@@ -6,7 +6,7 @@ use Rattle.wire.specs.Bits.{Field, field}
 use Rattle.wire.specs.Act.{Act}
 use Rattle.wire.specs.Layout.{end, judged, _▹_, Columns, of, writes, matches}
 use Rattle.scopes.specs.Layout.{scope}
-use Rattle.scopes.specs.Rows.{caseIs, kindIs, scopeRow}
+use Rattle.scopes.specs.Rows.{kindIs, scopeRow}
 use Rattle.scopes.specs.declared.rows.DrcScope.{DrcScope}
 use Rattle.scopes.specs.declared.rows.DrcScope.the-variants.{Plain, Group, Preset, Unknown}
 

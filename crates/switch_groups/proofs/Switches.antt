@@ -1,5 +1,5 @@
 -- Switch groups read: the sizes of their bytes, where they end, and their columns and members once they are known to be there.
-use Prim.Native.Nat.{ℕ, _+_, _*_, _-_, _≤_, _<_}
+use Prim.Native.Nat.{ℕ, _+_, _*_, _≤_, _<_}
 use mathlib.Core.Path.{_≡_, refl, sym, ap, _∙_}
 use mathlib.Core.List.{List, [], _∷_, flatten, flatMap}
 use mathlib.Core.Bool.{true}

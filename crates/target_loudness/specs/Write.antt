@@ -1,6 +1,6 @@
 -- What the functions that write a target loudness promise: its flags, its bytes, and whether they fit.
 use Prim.Native.Nat.{ℕ, _+_}
-use mathlib.Core.List.{List, [], _++_, map}
+use mathlib.Core.List.{List, _++_, map}
 use mathlib.Core.Bool.{Bool, true, _&&_}
 use lib.Dec.{eqb}
 use Rattle.wire.specs.Bits.{isFlag}

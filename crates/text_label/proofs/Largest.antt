@@ -1,5 +1,5 @@
 -- The largest image of the text label body: 15 languages with all lists full, every label of 255 bytes, and the longest trailing run make 794,222 bytes.
-use Prim.Native.Nat.{ℕ, _+_, _≤_, _<_}
+use Prim.Native.Nat.{ℕ, _≤_, _<_}
 use mathlib.Core.List.{List, [], _∷_, _++_}
 use mathlib.Core.Bool.{true}
 use mathlib.Core.Path.{_≡_, refl, sym, ap, subst, _∙_}

@@ -15,14 +15,14 @@ use Rattle.wire.specs.declared.rows.Payload.{Payload}
 use Rattle.wire.specs.Act.{Act, demand, byte, copy, pick, rows}
 use Rattle.wire.specs.Pen.{clean, bytes}
 use Rattle.wire.specs.declared.pen.Fault.the-variants as F
-use Rattle.wire.specs.Layout.{Cell, end, Columns, of, row, set, at, reads, writes, shown, cells, matches, matched, every, flagged, counted, has, mix, columns, kept, blank, Bearing, Borne, bearing, borneBytes, bearingActs, bearingMeans, borne, bearingHeeds, borneRow}
+use Rattle.wire.specs.Layout.{Cell, end, Columns, of, row, at, reads, writes, shown, cells, matches, matched, every, flagged, counted, has, mix, columns, kept, blank, Bearing, Borne, bearing, borneBytes, bearingActs, bearingMeans, borne, bearingHeeds, borneRow}
 use Rattle.wire.proofs.Acts.{and-both, both-and, clean-append, clean-both}
 use Rattle.wire.proofs.Passes.{slice-long}
 use Rattle.wire.proofs.Tables.{each-length}
 use Rattle.wire.proofs.Takes.{Takes, takes-split, u8-takes, map-takes}
 use Rattle.wire.proofs.Codec.{Codec, Spells, seen-as, As-fits, sized, sized-read, sized-acts, sized-fits}
 use Rattle.wire.proofs.Cells.{On, sound, clash, every-same, mix-in, both-sound, sound-both}
-use Rattle.wire.proofs.Forms.{Form, last, hole, form-go, form-means, form-acts, Form-fits, form-shown, form-matches, form-all, form-proper, form-spans, form-shown-in, below, each-every, rows-of, rows-goes, Row-fits, woven, Fit, Holes, Cleans, alike, means-again, row-spells, row-ready, row-columns}
+use Rattle.wire.proofs.Forms.{Form, last, hole, form-go, form-means, form-acts, form-shown, form-matches, form-all, form-proper, form-spans, form-shown-in, below, each-every, rows-of, rows-goes, woven, Fit, Holes, Cleans, alike, means-again, row-spells, row-ready, row-columns}
 use Rattle.wire.proofs.Rowed.{Wide, Good, row-on, on-all, after-demands, each-as, each-clean, each-wide, found, room-for}
 
 -- a payload with its length stands behind the head; no column steers it

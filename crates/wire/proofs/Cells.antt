@@ -1,6 +1,6 @@
 -- Laws of rows that are laid out as a syntax table, of every layout that passes one computed test (`proper`): what is written is read, what is read is written, a
 -- row means what its actions say, and its columns fit.
-use Prim.Native.Nat.{ℕ, zero, suc, _+_, _*_, _-_, _/_, _%_, _^_, _≤_, _<_}
+use Prim.Native.Nat.{ℕ, zero, suc, _+_, _*_, _/_, _%_, _^_, _≤_, _<_}
 use mathlib.Core.List.{List, [], _∷_, _++_, map, map-append, flatten}
 use mathlib.Core.Bool.{Bool, true, false, not, _&&_, _||_}
 use mathlib.Core.Logic.{_⊎_, inl, inr}

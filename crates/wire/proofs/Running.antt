@@ -1,6 +1,6 @@
 -- Rows that have rows of another table, as they were read: the lists of their rows stand one after the other, from row 0 on and with none between.
 use Prim.Native.Nat.{ℕ, _+_}
-use mathlib.Core.Path.{_≡_, refl, sym, subst, _∙_}
+use mathlib.Core.Path.{_≡_, sym, subst, _∙_}
 use mathlib.Core.List.{List, [], _∷_, _++_, map, flatten, flatMap}
 use native.Mathlib.Omega.{arith}
 use native.Mathlib.Nat.{add-zero, zero-add}

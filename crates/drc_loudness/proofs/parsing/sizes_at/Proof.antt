@@ -4,7 +4,6 @@ use native.Mathlib.Omega.{arith}
 use Rattle.drc_kind.specs.declared.rows.Info.{Info}
 use Rattle.drc_loudness.proofs.Walked.{first-there}
 use Rattle.drc_loudness.proofs.Found.{counted}
-use borrow.Author.Needs.{needs}
 use Rattle.drc_loudness.proofs.parsing.sizes_at.Statement.{statement}
 use Rattle.drc_loudness.proofs.parsing.sizes_at.Tie as tie
 

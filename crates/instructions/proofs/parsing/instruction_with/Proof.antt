@@ -1,6 +1,6 @@
 -- `parsing::instruction_with` meets its contract: its columns follow from where its additional IDs begin.
 use Prim.Native.Nat.{_+_, _≤_}
-use mathlib.Core.Path.{_≡_, refl}
+use mathlib.Core.Path.{refl}
 use native.Mathlib.Omega.{arith}
 use lib.ListN.{length}
 use Rattle.instructions.proofs.Taken.{idOf, settings-total, settings-there, instruction-taken}
