@@ -24,6 +24,7 @@ use Rattle.wire.proofs.Running.{RunsOn, Told, runs-on}
 use Rattle.frame.specs.Kind.{Lent}
 use Rattle.frame.specs.Numbers.{accepted, refuses}
 use Rattle.frame.specs.Entry.{leaves, onto, into, Sizes, needs, lacking, room, first, others, filled, judging, sizes, placing, reading, measuring, tallying, gives, trail, writing}
+use Rattle.frame.specs.Body.{layouts, parse, placed, tables, zeros, heeds, heededRows}
 use Rattle.frame.specs.Claims.{Lowest, rows-agree, none-read, Claims}
 use Rattle.frame.proofs.Judged.{was, ran-well, measured as was-measured}
 use Rattle.frame.proofs.Lawful.{Samples}
@@ -41,12 +42,12 @@ use Rattle.downmixes.specs.Layout.{downmix}
 use Rattle.drc_kind.specs.declared.rows.MpegH3dAudioDrcLoudness.{MpegH3dAudioDrcLoudness}
 use Rattle.drc_kind.specs.declared.rows.DrcLoudnessInfo.{DrcLoudnessInfo}
 use Rattle.drc_kind.specs.Layout.{head}
-use Rattle.drc_kind.specs.Rows.{noInfo, drcOf, Tree, tables, needed}
+use Rattle.drc_kind.specs.Rows.{noInfo, drcOf, Tree, treeIs, needed}
 use Rattle.drc_kind.specs.Read as R
-use Rattle.drc_kind.specs.Kind.{parse, zeros, table, value, heeded, kind}
-use Rattle.drc_kind.proofs.Format.{instructionRows, entryRows}
-use Rattle.drc_kind.proofs.Lawful.{lawful}
-use Rattle.drc_kind.proofs.Mirrored.{instruction-so, entry-so}
+use Rattle.drc_kind.specs.Write.{table}
+use Rattle.drc_kind.specs.Kind.{pieces, kind}
+use Rattle.drc_kind.proofs.Lawful.{instructionRows, entryRows, lawful}
+use Rattle.drc_kind.proofs.Mirrored.{instruction-so, entry-so, by-lists}
 
 -- FF C0 C1 E0 FD 85 01 AA: one loudness entry of group 5 with a byte
 abbrev oneEntry : MpegH3dAudioDrcLoudness
@@ -64,7 +65,7 @@ abbrev pub sized : (instructions additional loudness downmixes : ℕ) → ℕ �
 sized i a l d k = record { tables = needed i a l d; before = k }
 
 samples : Samples kind
-unfolding reading into judging placing run measuring onto sizes tallying kind parse reads put puts split total u8 pass _>>=_ many scope pair downmix head tables zeros tally shown sum firsts flatMap needs lacking room first others filled flatten each cells has ones
+unfolding reading into judging placing run measuring onto sizes tallying kind parse reads put puts split total u8 pass _>>=_ many scope pair downmix head tables zeros tally shown sum firsts flatMap needs lacking room first others filled flatten each cells has ones placed layouts
 samples = record {
   lent = [] ∷ [] ∷ (9 ∷ 9 ∷ 9 ∷ 9 ∷ 9 ∷ 9 ∷ 9 ∷ 9 ∷ []) ∷ [] ∷ [];
   one = 0xFF ∷ 0xC0 ∷ 0xC1 ∷ 0xE0 ∷ 0xFD ∷ 0x85 ∷ 0x01 ∷ 0xAA ∷ [];
@@ -105,8 +106,7 @@ same-bytes body out lent after m b e l = claims .round .writes-what-is-read body
 -- two bodies that agree in the Rust's structs, payload bytes among them, and in the trailing bytes are one body
 pub one-body : (body body′ : List ℕ) (lent lent′ after after′ : Lent) (m m′ : MpegH3dAudioDrcLoudness) → Every Byte body → Every Byte body′
     → reading kind body lent ≡ leaves (accepted m) after → reading kind body′ lent′ ≡ leaves (accepted m′) after′
-    → value m after body ≡ value m′ after′ body′ → trail kind m body ≡ trail kind m′ body′ → body ≡ body′
-unfolding kind
+    → kind .value m after body ≡ kind .value m′ after′ body′ → trail kind m body ≡ trail kind m′ body′ → body ≡ body′
 one-body body body′ lent lent′ after after′ m m′ b b′ e e′ v t = claims .round .apart body body′ lent lent′ m m′ after after′ b b′ e e′ (λ i. record { value = v i; trailing = t i })
 
 -- 3 is given exactly if the body is otherwise accepted and a table has fewer rows than it needs; it names the lowest of the four that is short, and the rows it needs
@@ -115,10 +115,10 @@ unfolding sizes kind tables needs
 sized-so body z e =
     let (s, j, q) = was-measured kind body z e in
     let t = s .tree in
-    let i = length (parents instruction (t .«drc_instructions»)) in
-    let a = length (kids (t .«drc_instructions»)) in
-    let l = length (map (borneRow entry) (t .«loudness_infos»)) in
-    let d = length (t .«downmix_definitions») in
+    let i = length (parents instruction (t .1 .0)) in
+    let a = length (kids (t .1 .0)) in
+    let l = length (map (borneRow entry) (t .1 .1 .0)) in
+    let d = length (t .1 .1 .1 .0) in
     (i, a, l, d, sym (subst (λ (z : Sizes). sized i a l d (z .before) ≡ z) q refl))
 
 pub lacks-room : (body : List ℕ) (lent : Lent) (t r : ℕ)
@@ -141,13 +141,13 @@ lacks-room body lent t r = (forth, back)
 abbrev without : MpegH3dAudioDrcLoudness → DrcLoudnessInfo → MpegH3dAudioDrcLoudness
 without m part = record { reserved = m .reserved; info = record { present = false; part = part }; trailing = m .trailing }
 
-alike : (m : MpegH3dAudioDrcLoudness) (p p′ : DrcLoudnessInfo) → heeded (without m p) ≡ heeded (without m p′)
-unfolding heeded cells shown head flatten has each
+alike : (m : MpegH3dAudioDrcLoudness) (p p′ : DrcLoudnessInfo) → kind .heeded (without m p) ≡ kind .heeded (without m p′)
+unfolding kind heeds layouts cells shown head flatten has each
 alike m p p′ = refl
 
 pub absent-info : (m : MpegH3dAudioDrcLoudness) (p p′ : DrcLoudnessInfo) (instructions additional loudness downmixes store out : List ℕ)
     → writing kind (without m p) (instructions ∷ additional ∷ loudness ∷ downmixes ∷ []) store out ≡ writing kind (without m p′) (instructions ∷ additional ∷ loudness ∷ downmixes ∷ []) store out
-unfolding kind
+unfolding kind heededRows
 absent-info m p p′ instructions additional loudness downmixes store out =
     claims .writing .unread (without m p) (without m p′) _ _ store out (alike m p p′) (rows-agree refl (λ i. refl) (rows-agree refl (λ i. refl) (rows-agree refl (λ i. refl) (rows-agree refl (λ i. refl) none-read))))
 
@@ -179,7 +179,7 @@ scoped-alike g g′ h = λ i j. go j (eqb j 1) (eqb j 2) (eqb j 3) (eqb j 4) (h 
 -- tables 9 and 11 that agree so are written alike, faults and places included
 pub scope-unread : (m : MpegH3dAudioDrcLoudness) (t t′ additional l l′ downmixes store out : List ℕ) → length t ≡ length t′ → length l ≡ length l′ → ((i : ℕ) → SameScope (at 24 t i) (at 24 t′ i)) → ((i : ℕ) → SameScope (at 7 l i) (at 7 l′ i))
     → writing kind m (t ∷ additional ∷ l ∷ downmixes ∷ []) store out ≡ writing kind m (t′ ∷ additional ∷ l′ ∷ downmixes ∷ []) store out
-unfolding kind
+unfolding kind heededRows
 scope-unread m t t′ additional l l′ downmixes store out n k p q =
     claims .writing .unread m m _ _ store out refl
     (rows-agree n (λ i. ap (brokenHeeds instruction) (scoped-alike (at 24 t i) (at 24 t′ i) (p i))) (rows-agree refl (λ i. refl) (rows-agree k (λ i. ap (bearingHeeds entry) (scoped-alike (at 7 l i) (at 7 l′ i) (q i))) (rows-agree refl (λ i. refl) none-read))))
@@ -260,19 +260,19 @@ entry-told at x bs d =
 
 -- the three lists of a body that was read
 record Listed-so (t : Tree) : Type 0 where
-  instructions : getD (t .top) 5 0 ≡ length (t .«drc_instructions»)
-  entries : getD (t .top) 6 0 ≡ length (t .«loudness_infos»)
-  downmixes : getD (t .top) 7 0 ≡ length (t .«downmix_definitions»)
-  instructed : Every Instructed (t .«drc_instructions»)
-  told : Every (λ (x : Borne). ScopeRead E.types (x .0)) (t .«loudness_infos»)
+  instructions : getD (t .0) 5 0 ≡ length (t .1 .0)
+  entries : getD (t .0) 6 0 ≡ length (t .1 .1 .0)
+  downmixes : getD (t .0) 7 0 ≡ length (t .1 .1 .1 .0)
+  instructed : Every Instructed (t .1 .0)
+  told : Every (λ (x : Borne). ScopeRead E.types (x .0)) (t .1 .1 .0)
 
-listed-so : (t : Tree) (bs : List ℕ) → Takes parse 0 t bs → Listed-so t
-unfolding parse each
+listed-so : (t : Tree) (bs : List ℕ) → Takes (kind .program) 0 t bs → Listed-so t
+unfolding each
 listed-so t bs d =
-    let u₀ = takes-split {B = Tree} (reads head blank) _ d in
+    let u₀ = takes-split {B = Tree} (reads head blank) _ (subst (λ (p : Prog Tree). Takes p 0 t bs) by-lists d) in
     let u₁ = takes-split {B = Tree} (many (u₀ .value 5) instructions) _ (u₀ .second) in
     let u₂ = takes-split {B = Tree} (many (u₀ .value 6) entries) _ (u₁ .second) in
-    let (ds, e, z) = map-takes {B = Tree} (many (u₀ .value 7) (flat 4 downmix)) (λ ds. record { top = row 8 (u₀ .value); «drc_instructions» = u₁ .value; «loudness_infos» = u₂ .value; «downmix_definitions» = ds }) (u₂ .second) in
+    let (ds, e, z) = map-takes {B = Tree} (many (u₀ .value 7) (flat 4 downmix)) (λ ds. treeIs (row 8 (u₀ .value)) (u₁ .value) (u₂ .value) ds) (u₂ .second) in
     let i = many-takes instructions (u₀ .value 5) (u₁ .first) in
     let l = many-takes entries (u₀ .value 6) (u₂ .first) in
     subst Listed-so e (record {
@@ -305,12 +305,12 @@ entry-scope : (x : Borne) → ScopeRead E.types (x .0) → ScopeRead E.types (bo
 unfolding each
 entry-scope x h = record { case = h .case; plain = h .plain; preset = h .preset }
 
-lists-so : (t : Tree) (lent : Lent) (run : Payload) → Listed-so t → Lists (drcOf (t .top) run) (filled (tables t) lent) (length (kids (t .«drc_instructions»)))
+lists-so : (t : Tree) (lent : Lent) (run : Payload) → Listed-so t → Lists (drcOf (t .0) run) (filled (tables pieces (t .1)) lent) (length (kids (t .1 .0)))
 unfolding filled tables first others
 lists-so t lent run h =
-    let is = t .«drc_instructions» in
-    let ls = t .«loudness_infos» in
-    let L = filled (tables t) lent in
+    let is = t .1 .0 in
+    let ls = t .1 .1 .0 in
+    let L = filled (tables pieces (t .1)) lent in
     let size : Family → ℕ = λ x. length (x .1) in
     let a = ap (each (λ i. row 24 (at 24 (table 0 L) i)) 0) (h .instructions) ∙ parents-found instructionRows is (drop (length (flatten (parents instruction is))) (table 0 lent)) [] in
     let b = ap (each (λ i. row 7 (at 7 (table 2 L) i)) 0) (h .entries) ∙ borne-found entryRows ls (drop (length (flatten (map (borneRow entry) ls))) (table 2 lent)) in
@@ -324,18 +324,18 @@ lists-so t lent run h =
 
 pub read-lists : (body : List ℕ) (lent after : Lent) (m : MpegH3dAudioDrcLoudness) → reading kind body lent ≡ leaves (accepted m) after
     → (additional : ℕ) × (k : ℕ) × (measuring kind body ≡ accepted (sized (m .info .part .«drc_instructions») additional (m .info .part .«loudness_infos») (m .info .part .«downmix_definitions») k)) × Lists m after additional
-unfolding kind measuring onto sizes tables needs
+unfolding kind measuring onto sizes tables needs placed each
 read-lists body lent after m e =
     let w = was kind body lent m after e in
     let t = w .sound .tree in
-    let d = run-takes parse body 0 (ran-well kind body (w .sound) (w .judges) .reads) (omega arith) in
+    let d = run-takes (kind .program) body 0 (ran-well kind body (w .sound) (w .judges) .reads) (omega arith) in
     let h = listed-so t _ d in
-    let x = length (kids (t .«drc_instructions»)) in
+    let x = length (kids (t .1 .0)) in
     let k = w .sound .before in
-    let z : measuring kind body ≡ accepted (sized (getD (t .top) 5 0) x (getD (t .top) 6 0) (getD (t .top) 7 0) k) = ap (onto (sizes kind)) (w .judges)
-    ∙ λ i. accepted (sized ((parents-long instructionRows (t .«drc_instructions») ∙ sym (h .instructions)) i) x ((length-map (t .«loudness_infos») (borneRow entry) ∙ sym (h .entries)) i) (sym (h .downmixes) i) k) in (
+    let z : measuring kind body ≡ accepted (sized (getD (t .0) 5 0) x (getD (t .0) 6 0) (getD (t .0) 7 0) k) = ap (onto (sizes kind)) (w .judges)
+    ∙ λ i. accepted (sized ((parents-long instructionRows (t .1 .0) ∙ sym (h .instructions)) i) x ((length-map (t .1 .1 .0) (borneRow entry) ∙ sym (h .entries)) i) (sym (h .downmixes) i) k) in (
       x,
       k,
       subst (λ (m : MpegH3dAudioDrcLoudness). measuring kind body ≡ accepted (sized (m .info .part .«drc_instructions») x (m .info .part .«loudness_infos») (m .info .part .«downmix_definitions») k)) (w .top-is) z,
-      subst (λ (l : Lent). Lists m l x) (w .after-is) (subst (λ (m : MpegH3dAudioDrcLoudness). Lists m (filled (tables t) lent) x) (w .top-is) (lists-so t lent _ h)),
+      subst (λ (l : Lent). Lists m l x) (w .after-is) (subst (λ (m : MpegH3dAudioDrcLoudness). Lists m (filled (tables pieces (t .1)) lent) x) (w .top-is) (lists-so t lent _ h)),
     )

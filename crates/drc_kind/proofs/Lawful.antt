@@ -1,50 +1,121 @@
--- The DRC and loudness kind is lawful, so that all claims hold of it (Claims).
+-- The DRC and loudness kind is lawful, so that all claims hold of it (Claims): its rows are, its pieces pass their tests, and its record is its columns.
 use Prim.Native.Nat.{ℕ}
-use mathlib.Core.List.{List, _++_}
-use mathlib.Core.Path.{refl, sym, ap, subst, _∙_}
+use mathlib.Core.List.{List, [], _∷_, flatten}
+use mathlib.Core.Bool.{Bool, true, false}
+use mathlib.Core.Path.{_≡_, refl}
 use native.Mathlib.Omega.{arith}
-use lib.ListN.{length, length-append, length-map}
-use Rattle.wire.specs.Lists.{Every, all-nil, all-cons}
-use Rattle.wire.specs.Prog.{span, Within}
-use Rattle.wire.specs.Pen.{clean}
-use Rattle.wire.specs.Layout.{of, Borne, borneRow}
-use Rattle.wire.proofs.Lists.{map-every}
-use Rattle.wire.proofs.Rowed.{parents-long, parents-wide}
-use Rattle.wire.proofs.Borne.{borne-wide}
-use Rattle.frame.specs.Entry.{needs, total, filled}
-use Rattle.frame.proofs.Lawful.{Taken, Lawful}
+use Rattle.wire.specs.Lists.{all-nil, all-cons, each}
+use Rattle.wire.specs.Bits.{bit, isFlag, total}
+use Rattle.wire.specs.declared.rows.Payload.{Payload}
+use Rattle.wire.specs.Layout.{Layout, end, one, _▹_, num, reserved, flag, Columns, of, row, shown, cells, every, flagged, has, Family, Borne}
+use Rattle.wire.proofs.Acts.{and-both}
+use Rattle.wire.proofs.Codec.{seen-as, As-fits}
+use Rattle.wire.proofs.Cells.{On, all, distinct, free, eights, proper, suits, shown-in, bytewide, in-bytes}
+use Rattle.wire.proofs.Forms.{form-all, form-shown, form-proper, form-in-bytes, Form-fits, Row-fits, rows-of, sure, below}
+use Rattle.wire.proofs.Rowed.{Flat, Nest, flat-test, nest-test, weight, flats, breaks, families, broken-form}
+use Rattle.wire.proofs.Borne.{Bear, bear-test, bear-form, bears, meant}
+use Rattle.frame.specs.Body.{layouts, heeds, heedsOf}
+use Rattle.frame.proofs.Lawful.{Lawful}
+use Rattle.frame.proofs.RowTypes.{flat-lawful, family-lawful, bearer-lawful}
+use Rattle.frame.proofs.Pieces.{Lawful-pieces, form}
+use Rattle.frame.proofs.Body as B
+use Rattle.frame.proofs.Body.{places, places-test, Lawful-body, bit-back}
+use Rattle.pairs.specs.Layout.{pair}
+use Rattle.scopes.specs.Layout.{scope}
+use Rattle.scopes.specs.Rows.{scoped}
+use Rattle.scopes.proofs.Kept.{row-kept}
+use Rattle.instructions.specs.Layout as I
+use Rattle.instructions.specs.Layout.{additional, effect, instruction}
+use Rattle.loudness.specs.Layout as E
 use Rattle.loudness.specs.Layout.{entry}
-use Rattle.drc_kind.specs.Rows.{Tree, Value, tables}
-use Rattle.drc_kind.specs.Kind.{valueOf, value, kind}
-use Rattle.drc_kind.proofs.Format.{instructionRows, entryRows, means, format, format-reads, format-means, format-spans, Parted, parted}
-use Rattle.drc_kind.proofs.Laws.{spells, fields-again, laid, ready, few, held, columns-so}
-use Rattle.drc_kind.proofs.Heeds.{heeds}
+use Rattle.downmixes.specs.Layout.{downmix}
+use Rattle.drc_kind.specs.declared.rows.MpegH3dAudioDrcLoudness.{MpegH3dAudioDrcLoudness}
+use Rattle.drc_kind.specs.Layout.{head}
+use Rattle.drc_kind.specs.Rows.{fields, drcOf, bounds}
+use Rattle.drc_kind.specs.Kind.{pieces, body, kind}
 
-known : (t : Tree) (bs rest : List ℕ) → Taken kind format t bs rest → Parted (means (bs ++ rest) t)
-known t bs rest d = parted (means (bs ++ rest) t) (subst (format .Fits) (format-means (bs ++ rest) t) (d .fits)) (ap (λ (v : Value). clean (format .acts v)) (sym (format-means (bs ++ rest) t)) ∙ d .sound)
+-- ---- the rows: each passes its one test
 
-standing : (t : Tree) (bs rest : List ℕ) → Taken kind format t bs rest → Every (λ (x : Borne). Within (bs ++ rest) (x .1)) (t .«loudness_infos»)
-unfolding kind
-standing t bs rest d = map-every (λ x. x .1) (Within (bs ++ rest)) (t .«loudness_infos») (d .inside)
+pub additional-passes : flat-test 2 additional ≡ true
+unfolding flat-test weight form-proper form-all below proper all has distinct free eights total flatten pair
+additional-passes = refl
+
+pub downmix-passes : flat-test 4 downmix ≡ true
+unfolding flat-test weight form-proper form-all below proper all has distinct free eights total flatten downmix
+downmix-passes = refl
+
+pub instruction-passes : nest-test instruction ≡ true
+unfolding nest-test weight below proper all has distinct free eights total sure flatten scope suits each
+instruction-passes = refl
+
+pub entry-passes : bear-test entry ≡ true
+unfolding bear-test form-proper form-all below proper all has distinct free eights total sure flatten scope suits each
+entry-passes = refl
+
+abbrev pub additionalRows : Flat
+additionalRows = record { columns = 2; layout = additional; passes = additional-passes }
+
+abbrev pub downmixRows : Flat
+downmixRows = record { columns = 4; layout = downmix; passes = downmix-passes }
+
+abbrev pub instructionRows : Nest
+instructionRows = record { row = instruction; kid = additionalRows; passes = instruction-passes }
+
+abbrev pub entryRows : Bear
+entryRows = record { row = entry; passes = entry-passes }
+
+-- ---- a row that begins with a scope, as writing reads it: what was read of it stays
+
+-- what an instruction has behind its scope, before its additional IDs
+abbrev behind : Layout
+behind = one (reserved 2 5 ∷ num 6 6 ∷ []) ▹ one (reserved 1 7 ∷ num 7 8 ∷ []) ▹ one (reserved 3 9 ∷ num 3 11 ∷ flag 13 ∷ flag 15 ∷ []) ▹ end
+
+instruction-kept : (x : Family) → families instructionRows .Fits x → (g : Columns) → On (form-all (broken-form instruction (flats additionalRows))) (of (x .0)) g → scoped g ≡ g
+unfolding breaks seen-as As-fits rows-of Row-fits Form-fits form-shown form-all all has flatten scope
+instruction-kept x f g o = let h = of (x .0) in row-kept I.types h behind (shown effect h) (f .0 .2 .0 .1) (f .0 .1) refl refl (shown-in effect h 3 refl) (shown-in effect h 4 refl) g (o 1 refl) (o 2 refl) (o 3 refl) (o 4 refl)
+
+entry-kept : (s : List ℕ) (x : Borne) → bears entryRows .Fits (meant entryRows s x) → (g : Columns) → On (form-all (bear-form entry)) (of (x .0)) g → scoped g ≡ g
+unfolding bears seen-as As-fits rows-of Row-fits Form-fits form-shown form-all all has flatten scope shown
+entry-kept s x f g o = row-kept E.types (of (x .0)) end [] (f .0 .2 .0 .1) (f .0 .1) refl refl refl refl g (o 1 refl) (o 2 refl) (o 3 refl) (o 4 refl)
+
+abbrev rows-lawful : Lawful-pieces pieces
+rows-lawful = (family-lawful 9 10 instructionRows scoped instruction-kept (omega arith), (bearer-lawful 11 entryRows scoped entry-kept, (flat-lawful 12 downmixRows, tt)))
+
+-- ---- the record
+
+again : (g : Columns) (run : Payload) → every flagged g (cells (layouts pieces) g) ≡ true → fields (drcOf (row 8 g) run) ≡ row 8 g
+unfolding layouts cells shown head every flatten each
+again g run e = let (a, _) = and-both (isFlag (g 1)) _ e in λ i. g 0 ∷ bit-back (g 1) a i ∷ g 2 ∷ g 3 ∷ g 4 ∷ g 5 ∷ g 6 ∷ g 7 ∷ []
+
+kept : (m : MpegH3dAudioDrcLoudness) → fields (drcOf (heedsOf body (of (fields m))) (m .trailing)) ≡ heedsOf body (of (fields m))
+unfolding layouts heeds cells shown head flatten has each
+kept m = go (m .info .present)
+  where
+    top : Bool → List ℕ
+    top a =
+        heedsOf body (of (m .reserved ∷ bit a ∷ m .info .part .«reserved_drc» ∷ m .info .part .«reserved_loudness» ∷ m .info .part .«reserved_downmix» ∷ m .info .part .«drc_instructions» ∷ m .info .part .«loudness_infos» ∷ m .info .part .«downmix_definitions» ∷ []))
+
+    go : (a : Bool) → fields (drcOf (top a) (m .trailing)) ≡ top a
+    go true = refl
+    go false = refl
+
+pub body-lawful : Lawful-body body
+unfolding form form-proper form-all form-in-bytes proper all has distinct free eights total sure flatten below bytewide in-bytes head places places-test bounds each
+body-lawful = record {
+  rows = rows-lawful;
+  proper = refl;
+  below = refl;
+  in-bytes = refl;
+  apart = refl;
+  absent-out = λ j h. refl;
+  absent-small = λ j. omega arith;
+  again = again;
+  kept = kept;
+  run-of = λ c r. refl;
+  run-set = λ c r q. refl;
+  held = λ g w c k n a b. all-cons (c 0 refl) (all-cons (c 2 refl) (all-cons (c 3 refl) (all-cons (c 4 refl) (all-cons (w 5) (all-cons (w 6) (all-cons (w 7) (all-cons a (all-cons b all-nil))))))));
+}
 
 pub lawful : Lawful kind
-unfolding kind value needs total tables
-lawful = record {
-  run-of = λ t r. refl;
-  run-set = λ t r q. refl;
-  format = format;
-  reads = format-reads;
-  placed = format-spans;
-  all-there = λ t. refl;
-  shaped = λ t bs d. let h = few t bs d in all-cons (parents-wide instructionRows (t .«drc_instructions»)) (all-cons (h .additional) (all-cons (borne-wide entryRows (t .«loudness_infos»)) (all-cons (h .downmixes) all-nil)));
-  bounded = λ t bs d. let n = few t bs d .few in omega (arith, n, parents-long instructionRows (t .«drc_instructions»), length-map (t .«loudness_infos») (borneRow entry));
-  laid = λ t bs rest lent d f.
-      let h = known t bs rest d in
-      let s = bs ++ rest in
-      ap (λ (r : List ℕ). valueOf (of r) (filled (tables t) lent) s) (fields-again (means s t) (span (length bs) (length rest)) h) ∙ laid s t lent h ∙ sym (format-means s t);
-  held = λ t bs rest d l. let n = length-append bs rest in held (means (bs ++ rest) t) (known t bs rest d) (length bs) (length rest) (omega (arith, n, l)) (omega (arith, n, l));
-  columns = λ t bs rest d l. let n = few t bs (d .takes) .few in let m = length-append bs rest in columns-so (bs ++ rest) t (known t bs rest d) (standing t bs rest d) l (omega (arith, n, m, l));
-  ready = λ t bs rest lent d f. ready (bs ++ rest) t _ lent (known t bs rest d) (standing t bs rest d);
-  heeds = heeds;
-  spells = spells;
-}
+unfolding kind
+lawful = B.lawful body body-lawful

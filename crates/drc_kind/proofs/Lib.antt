@@ -1,6 +1,3 @@
-pub mod Format
-pub mod Laws
-pub mod Heeds
 pub mod Lawful
 pub mod Mirrored
 pub mod Claims

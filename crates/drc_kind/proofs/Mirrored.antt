@@ -1,17 +1,22 @@
--- The layouts read what the Rust's own functions read, line by line: a scope, each row, and the body.
-use Prim.Native.Nat.{ℕ, _+_, _*_}
+-- The layouts read what the Rust's own functions read, line by line: a scope, each row, and the body; and the body is written as the Rust's own.
+use Prim.Native.Nat.{ℕ, _+_, _*_, _/_}
 use mathlib.Core.Path.{_≡_, refl, sym, ap, _∙_}
-use mathlib.Core.List.{List, [], _∷_, _++_}
-use mathlib.Core.Bool.{Bool, true, false}
-use lib.ListN.{getD}
-use lib.Dec.{eqb}
+use mathlib.Core.List.{List, [], _∷_, _++_, append-nil}
+use mathlib.Core.Bool.{Bool, true, false, _&&_}
+use lib.ListN.{length, getD}
+use lib.Dec.{eqb, leb}
 use Rattle.wire.specs.Lists.{each}
 use Rattle.wire.specs.Bits.{part, total, split}
 use Rattle.wire.specs.Prog.{Prog, ret, look, u8, pass, span, many, _>>=_}
-use Rattle.wire.specs.Act.{pick}
-use Rattle.wire.specs.Layout.{Layout, end, one, optional, _▹_, num, reserved, flag, Columns, blank, set, has, put, puts, reads, row, flat, Family, Borne}
+use Rattle.wire.specs.Act.{demand, pick, rows}
+use Rattle.wire.specs.declared.pen.Fault.the-variants as F
+use Rattle.wire.specs.Layout.{Layout, end, one, optional, _▹_, num, reserved, flag, Columns, of, blank, set, has, put, puts, reads, writes, demands, row, flat, Family, Borne}
 use Rattle.wire.proofs.Runs.{bind-assoc}
 use Rattle.wire.proofs.Fields.{part-below}
+use Rattle.frame.specs.Kind.{Lent}
+use Rattle.frame.specs.Body as B
+use Rattle.frame.specs.Body.{layouts, parse, inside, pieced, beyond}
+use Rattle.frame.proofs.Pieces.{and-true}
 use Rattle.pairs.specs.Layout.{pair}
 use Rattle.scopes.specs.Layout.{ids, scope}
 use Rattle.scopes.proofs.Taken.{case-at}
@@ -19,11 +24,14 @@ use Rattle.target_loudness.specs.Layout as L
 use Rattle.instructions.specs.Layout as I
 use Rattle.loudness.specs.Layout as E
 use Rattle.downmixes.specs.Layout as D
+use Rattle.drc_kind.specs.declared.rows.MpegH3dAudioDrcLoudness.{MpegH3dAudioDrcLoudness}
+use Rattle.drc_kind.specs.Layout as T
 use Rattle.drc_kind.specs.Layout.{head, counts}
-use Rattle.drc_kind.specs.Rows.{Tree}
+use Rattle.drc_kind.specs.Rows.{fields, Tree, treeIs}
 use Rattle.drc_kind.specs.Read as R
 use Rattle.drc_kind.specs.Read.{given, bodyOver}
-use Rattle.drc_kind.specs.Kind.{parse}
+use Rattle.drc_kind.specs.Write.{table, counted, instructionActs, entryActs, downmixActs, actsOf, acts}
+use Rattle.drc_kind.specs.Kind.{body, kind}
 
 abbrev none : ℕ → List ℕ
 none n = each blank 0 n
@@ -183,8 +191,8 @@ downmix-so = refl
 -- ---- the body, over any reader of each row
 
 module _ (instruction : Prog Family) (entry : Prog Borne) (definition : Prog (List ℕ)) where
-  abbrev to-lists : Columns → Prog Tree
-  to-lists g = many (g 5) instruction >>= λ is. many (g 6) entry >>= λ ls. many (g 7) definition >>= λ ds. ret (record { top = row 8 g; «drc_instructions» = is; «loudness_infos» = ls; «downmix_definitions» = ds })
+  abbrev pub to-lists : Columns → Prog Tree
+  to-lists g = many (g 5) instruction >>= λ is. many (g 6) entry >>= λ ls. many (g 7) definition >>= λ ds. ret (treeIs (row 8 g) is ls ds)
 
   body-so : reads head blank >>= to-lists ≡ bodyOver instruction entry definition
   unfolding head reads puts put split total bodyOver u8 many _>>=_ each
@@ -196,20 +204,37 @@ module _ (instruction : Prog Family) (entry : Prog Borne) (definition : Prog (Li
       there : ℕ → Prog Tree
       there b0 =
           u8 >>= λ a. u8 >>= λ l. u8 >>= λ d. many (part 0 6 a) instruction >>= λ is. many (part 0 6 l) entry >>= λ ls. many (part 0 5 d) definition >>= λ ds.
-          ret (record { top = part 1 7 b0 ∷ part 0 1 b0 ∷ part 6 2 a ∷ part 6 2 l ∷ part 5 3 d ∷ part 0 6 a ∷ part 0 6 l ∷ part 0 5 d ∷ []; «drc_instructions» = is; «loudness_infos» = ls; «downmix_definitions» = ds })
+          ret (treeIs (part 1 7 b0 ∷ part 0 1 b0 ∷ part 6 2 a ∷ part 6 2 l ∷ part 5 3 d ∷ part 0 6 a ∷ part 0 6 l ∷ part 0 5 d ∷ []) is ls ds)
 
       missing : ℕ → Prog Tree
-      missing b0 = ret (record { top = part 1 7 b0 ∷ part 0 1 b0 ∷ 0 ∷ 0 ∷ 0 ∷ 0 ∷ 0 ∷ 0 ∷ []; «drc_instructions» = []; «loudness_infos» = []; «downmix_definitions» = [] })
+      missing b0 = ret (treeIs (part 1 7 b0 ∷ part 0 1 b0 ∷ 0 ∷ 0 ∷ 0 ∷ 0 ∷ 0 ∷ 0 ∷ []) [] [] [])
 
       go : (a : List ℕ) (x : Bool) → _≡_ {A = Prog Tree} ((pick x (reads counts (F a)) (ret (F a)) >>= λ g. ret g) >>= to-lists) (pick x (there (getD a 0 0)) (missing (getD a 0 0)))
       go a true = refl
       go a false = refl
 
+-- nothing of the record is read between the lists
+pub by-lists : kind .program ≡ reads head blank >>= to-lists I.instructions E.entries (flat 4 D.downmix)
+unfolding kind parse reads _>>=_
+by-lists = refl
+
 -- the body reads as the Rust's `parse`, over the layouts of its rows
-pub parse-over : parse ≡ bodyOver I.instructions E.entries (flat 4 D.downmix)
-unfolding parse
-parse-over = body-so I.instructions E.entries (flat 4 D.downmix)
+pub parse-over : kind .program ≡ bodyOver I.instructions E.entries (flat 4 D.downmix)
+parse-over = by-lists ∙ body-so I.instructions E.entries (flat 4 D.downmix)
 
 -- and with those of its rows
-pub mirrored : parse ≡ R.body
+pub mirrored : kind .program ≡ R.body
 mirrored = parse-over ∙ (λ i. bodyOver (instruction-so i) (entry-so i) (downmix-so i))
+
+-- ---- and is written as the Rust's `write`
+
+pub written-so : (m : MpegH3dAudioDrcLoudness) (lent : Lent) (store : List ℕ) → kind .acts m lent store ≡ acts m lent store
+unfolding kind acts actsOf layouts inside pieced beyond writes
+written-so m lent store = go (of (fields m))
+  where
+    go : (g : Columns) → B.actsOf body g lent store ≡ actsOf g lent store
+    go g =
+        let c = counted g in
+        λ i. demand F.Range (leb (c 5) (length (table 0 lent) / 24) && (leb (c 6) (length (table 2 lent) / 7) && and-true (leb (c 7) (length (table 3 lent) / 4)) i))
+        ∷ demands T.layouts g
+        ++ (writes head g ++ (rows (instructionActs lent) 0 (c 5) ++ (rows (entryActs lent store) 0 (c 6) ++ append-nil (rows (downmixActs lent) 0 (c 7)) i)))

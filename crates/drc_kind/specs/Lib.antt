@@ -1,4 +1,5 @@
 pub mod Layout
 pub mod Rows
 pub mod Read
+pub mod Write
 pub mod Kind

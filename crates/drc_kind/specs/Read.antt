@@ -7,7 +7,7 @@ use Rattle.wire.specs.Bits.{part}
 use Rattle.wire.specs.Prog.{Prog, ret, u8, pass, span, many, _>>=_}
 use Rattle.wire.specs.Act.{pick}
 use Rattle.wire.specs.Layout.{Family, Borne, blank, has}
-use Rattle.drc_kind.specs.Rows.{Tree}
+use Rattle.drc_kind.specs.Rows.{Tree, treeIs}
 
 -- the n columns of an optional part: what the program reads if the flag is 1, else 0
 abbrev pub given : ℕ → ℕ → Prog (List ℕ) → Prog (List ℕ)
@@ -96,12 +96,7 @@ bodyOver instruction loudness downmix = do
     is ← many (part 0 6 a) instruction
     ls ← many (part 0 6 l) loudness
     ds ← many (part 0 5 d) downmix
-    ret (record {
-      top = part 1 7 b0 ∷ part 0 1 b0 ∷ part 6 2 a ∷ part 6 2 l ∷ part 5 3 d ∷ part 0 6 a ∷ part 0 6 l ∷ part 0 5 d ∷ [];
-      «drc_instructions» = is;
-      «loudness_infos» = ls;
-      «downmix_definitions» = ds;
-    })) (ret (record { top = part 1 7 b0 ∷ part 0 1 b0 ∷ 0 ∷ 0 ∷ 0 ∷ 0 ∷ 0 ∷ 0 ∷ []; «drc_instructions» = []; «loudness_infos» = []; «downmix_definitions» = [] }))
+    ret (treeIs (part 1 7 b0 ∷ part 0 1 b0 ∷ part 6 2 a ∷ part 6 2 l ∷ part 5 3 d ∷ part 0 6 a ∷ part 0 6 l ∷ part 0 5 d ∷ []) is ls ds)) (ret (treeIs (part 1 7 b0 ∷ part 0 1 b0 ∷ 0 ∷ 0 ∷ 0 ∷ 0 ∷ 0 ∷ 0 ∷ []) [] [] []))
 
 abbrev pub body : Prog Tree
 body = bodyOver instruction loudness downmix

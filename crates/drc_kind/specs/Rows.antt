@@ -1,16 +1,14 @@
 -- The top record of the DRC and loudness body as columns, and what was read of a body: rows as their columns.
 use Prim.Native.Nat.{ℕ}
-use mathlib.Core.List.{List, [], _∷_, _++_, map}
+use mathlib.Core.List.{List, [], _∷_, _++_}
 use mathlib.Core.Bool.{false}
 use lib.ListN.{getD}
 use lib.Dec.{eqb}
 use Rattle.wire.specs.Bits.{bit}
 use Rattle.wire.specs.declared.rows.Payload.{Payload}
-use Rattle.wire.specs.Layout.{Family, parents, kids, Borne, borneRow}
-use Rattle.frame.specs.Kind.{Rows, Bound, bounded}
+use Rattle.wire.specs.Layout.{Family, Borne}
+use Rattle.frame.specs.Kind.{Bound, bounded}
 use Rattle.frame.specs.Entry.{Need}
-use Rattle.instructions.specs.Layout.{instruction}
-use Rattle.loudness.specs.Layout.{entry}
 use Rattle.drc_kind.specs.declared.rows.DrcLoudnessInfo.{DrcLoudnessInfo}
 use Rattle.drc_kind.specs.declared.rows.Info.{Info}
 use Rattle.drc_kind.specs.declared.rows.MpegH3dAudioDrcLoudness.{MpegH3dAudioDrcLoudness}
@@ -56,27 +54,19 @@ bounds m =
     ∷ bounded 65536 (m .info .part .«drc_instructions») ∷ bounded 65536 (m .info .part .«loudness_infos») ∷ bounded 65536 (m .info .part .«downmix_definitions»)
     ∷ bounded 65536 (m .trailing .offset) ∷ bounded 65536 (m .trailing .length) ∷ []
 
--- ---- the 8 columns and the rows of the three lists: the instructions each with its additional IDs; A is a loudness entry that was read, or what it means
+-- ---- what is read: the instructions each with its additional IDs, the loudness entries and the downmix definitions, and the 8 columns with them; A is a loudness entry that was read, or what it means
 
-pub record Body (A : Type 0) : Type 0 where
-  pub top : List ℕ
-  pub «drc_instructions» : List Family
-  pub «loudness_infos» : List A
-  pub «downmix_definitions» : List (List ℕ)
+abbrev pub Lists : Type 0 → Type 0
+Lists A = List Family × (List A × (List (List ℕ) × Unit {0}))
 
 abbrev pub Tree : Type 0
-Tree = Body Borne
+Tree = List ℕ × Lists Borne
 
 abbrev pub Value : Type 0
-Value = Body (List ℕ × List ℕ)
+Value = List ℕ × Lists (List ℕ × List ℕ)
 
-unfoldable pub tables : Tree → List Rows
-tables t =
-    record { number = 9; columns = 24; rows = parents instruction (t .«drc_instructions») }
-    ∷ record { number = 10; columns = 2; rows = kids (t .«drc_instructions») }
-    ∷ record { number = 11; columns = 7; rows = map (borneRow entry) (t .«loudness_infos») }
-    ∷ record { number = 12; columns = 4; rows = t .«downmix_definitions» }
-    ∷ []
+abbrev pub treeIs : List ℕ → List Family → List Borne → List (List ℕ) → Tree
+treeIs top instructions entries downmixes = (top, (instructions, (entries, (downmixes, tt))))
 
 -- the four tables by their numbers and columns (document 01, "Row tables"), and the rows that each needs
 abbrev pub needed : (instructions additional loudness downmixes : ℕ) → List Need

@@ -1,5 +1,5 @@
 -- Of a body whose lists were found: where they stand and how many rows they have, its sizes, its record and its tables; and what the entry points answer then.
-use Prim.Native.Nat.{ℕ, zero, suc, _+_, _≤_, _<_}
+use Prim.Native.Nat.{ℕ, _+_, _≤_, _<_}
 use mathlib.Core.Path.{_≡_, refl, sym, ap, subst, _∙_}
 use mathlib.Core.List.{List, [], _∷_, _++_, flatten, flatMap}
 use mathlib.Core.Bool.{Bool, true, false, _&&_}
@@ -8,7 +8,7 @@ use native.Mathlib.Omega.{arith}
 use lib.ListN.{length, getD, length-map}
 use lib.Dec.{eqb}
 use borrow.Author.Tests.{eqb-true}
-use Rattle.wire.specs.Lists.{sum, firsts}
+use Rattle.wire.specs.Lists.{each, sum, firsts}
 use Rattle.wire.specs.Bits.{part, zeros}
 use Rattle.wire.specs.Prog.{done, run, many}
 use Rattle.wire.specs.Reads.{rowsOf}
@@ -23,9 +23,11 @@ use Rattle.frame.specs.declared.Refusal.the-variants as R
 use Rattle.frame.specs.declared.Room.{Room}
 use Rattle.frame.specs.declared.Room.the-variants as M
 use Rattle.frame.specs.Kind.{Lent}
-use Rattle.frame.specs.Numbers.{accepted, refused, refusal}
+use Rattle.frame.specs.Numbers.{accepted}
 use Rattle.frame.specs.Entry as E
-use Rattle.frame.specs.Entry.{Need, needs, sizes, tail, onto, first, others, lacking, filled, Measures, Reads, Tallies}
+use Rattle.frame.specs.Entry.{needs, sizes, tail, onto, first, others, lacking, filled, Measures, Reads, Tallies}
+use Rattle.frame.specs.Body as B
+use Rattle.frame.specs.Body.{placed, tables}
 use Rattle.frame.specs.Sight.{andTables}
 use Rattle.frame.proofs.Entries.{measures-done, reads-done, judges, tallies}
 use Rattle.frame.proofs.Tables.{enough, reads-lowest, same-rows, no-more, no-rows}
@@ -36,10 +38,9 @@ use Rattle.drc_kind.specs.declared.rows.DrcLoudnessInfo.{DrcLoudnessInfo}
 use Rattle.drc_kind.specs.declared.rows.Info.{Info}
 use Rattle.drc_kind.specs.declared.rows.MpegH3dAudioDrcLoudness.{MpegH3dAudioDrcLoudness}
 use Rattle.drc_kind.specs.Layout.{head, layouts}
-use Rattle.drc_kind.specs.Rows.{noInfo, Tree, tables, needed}
-use Rattle.drc_kind.specs.Kind as K
+use Rattle.drc_kind.specs.Rows.{noInfo, drcOf, Tree, treeIs, needed}
 use Rattle.drc_kind.specs.Kind.{kind}
-use Rattle.drc_kind.proofs.Format.{instructionRows}
+use Rattle.drc_kind.proofs.Lawful.{instructionRows}
 use Rattle.drc_loudness.specs.declared.parsing.Places.{Places}
 use Rattle.drc_loudness.specs.declared.Opening.the-variants as O
 use Rattle.drc_loudness.specs.declared.Sizes.{Sizes}
@@ -87,25 +88,24 @@ module _ {s : List ℕ} {p : Places} (f : Found s p) where
   pub downmixes-counted : infoIn s .«downmix_definitions» ≡ length (f .in-downmixes)
   downmixes-counted = sym (many-long (flat 4 downmix) s _ _ _ _ (f .downmixes-read))
 
-  needs-found : needed (infoIn s .«drc_instructions») (p .additional) (infoIn s .«loudness_infos») (infoIn s .«downmix_definitions») ≡ needs (tables (tree f))
-  unfolding needs tables
+  needs-found : needed (infoIn s .«drc_instructions») (p .additional) (infoIn s .«loudness_infos») (infoIn s .«downmix_definitions») ≡ needs (kind .tables (tree f))
+  unfolding needs kind tables
   needs-found = λ i. needed ((instructions-counted ∙ sym (parents-long instructionRows (f .in-instructions))) i) (f .additional-are i) ((entries-counted ∙ sym (length-map (f .in-entries) (borneRow entry))) i) (downmixes-counted i)
 
   module _ (h : length s ≤ 65535) where
     -- what is measured, and what is read into tables that have room
     measures-found : Measures kind s (accepted (sizes kind (record { tree = tree f; before = p .k })))
-    unfolding kind
     measures-found = measures-done kind s h (found-reads s p f)
 
-    reads-found : (lent : Lent) → lacking (needs (tables (tree f))) lent ≡ none → Reads kind s lent (accepted (kind .top (tree f) (tail (p .k) s))) (filled (tables (tree f)) lent)
-    unfolding kind
+    reads-found : (lent : Lent) → lacking (needs (kind .tables (tree f))) lent ≡ none → Reads kind s lent (accepted (drcOf (tree f .0) (tail (p .k) s))) (filled (kind .tables (tree f)) lent)
+    unfolding kind placed each
     reads-found lent e = reads-done kind s lent (judges kind s {o = done (tree f) (p .k)} h (sym (found-reads s p f))) e
 
 -- ---- the record and the sizes, from the bytes
 
 module _ {s : List ℕ} {p : Places} where
   pub counted : {r : Sizes} {i : DrcLoudnessInfo} → i ≡ infoIn s → r .instructions ≡ i .«drc_instructions» → r .additional ≡ p .additional → r .loudness ≡ i .«loudness_infos» → r .downmixes ≡ i .«downmix_definitions» → r .k ≡ p .k → Counted s p r
-  unfolding sizes kind
+  unfolding sizes
   counted e a b c d k = record {
     is = λ f.
         (λ j. record { tables = needed ((a ∙ λ j. e j .«drc_instructions») j) (b j) ((c ∙ λ j. e j .«loudness_infos») j) ((d ∙ λ j. e j .«downmix_definitions») j); before = k j })
@@ -127,11 +127,10 @@ module _ {s : List ℕ} {p : Places} (f : Found s p) (h : length s < 65536) {z :
 
 -- the same of any two finds
 pub rooms-so : {s : List ℕ} {p : Places} {z : Sizes} → Counted s p z → (lent : Lent) {r : Room} → r ≡ andTables M.Enough (sized z .tables) lent → r ≡ M.Enough → Rooms s p lent
-unfolding sizes kind
+unfolding sizes
 rooms-so {z = z} c lent e d = record { has = λ f. ap (λ (y : E.Sizes). lacking (y .tables) lent) (sym (c .is f)) ∙ enough (sized z .tables) lent (sym e ∙ d) }
 
 pub opened-so : {s : List ℕ} {p : Places} → Found s p → length s < 65536 → {lent after : Lent} → Rooms s p lent → Stored s p lent after → Opens s lent (O.At p) after
-unfolding kind
 opened-so {s} {p} f h {lent} r w = record { gives = record { found = f; few = h; reads = λ m. rw (m .is f, w .is f) (reads-found f (omega arith) lent (r .has f)) } }
 
 -- ---- no rows: no table is needed, and none changes
@@ -154,30 +153,29 @@ bare-counted {s} {p} f {z} c e =
 
 module _ {s : List ℕ} {p : Places} (b : Bare s p) where
   abbrev bare : List Family → List Borne → List (List ℕ) → Tree
-  bare is ls ds = record { top = tree (b .found) .top; «drc_instructions» = is; «loudness_infos» = ls; «downmix_definitions» = ds }
+  bare is ls ds = treeIs (topOf s) is ls ds
 
   is-bare : tree (b .found) ≡ bare [] [] []
   is-bare = λ i. bare (b .no-instructions i) (b .no-entries i) (b .no-downmixes i)
 
-  none-lack : (lent : Lent) → lacking (needs (tables (bare [] [] []))) lent ≡ none
-  unfolding needs tables firsts flatMap
+  none-lack : (lent : Lent) → lacking (needs (kind .tables (bare [] [] []))) lent ≡ none
+  unfolding needs kind tables firsts flatMap
   none-lack lent = no-rows _ _ lent refl (no-rows _ _ _ refl (no-rows _ _ _ refl (no-rows _ _ _ refl (no-more _))))
 
-  stays : (t₁ t₂ t₃ t₄ : List ℕ) → filled (tables (bare [] [] [])) (t₁ ∷ t₂ ∷ t₃ ∷ t₄ ∷ []) ≡ t₁ ∷ t₂ ∷ t₃ ∷ t₄ ∷ []
-  unfolding filled tables first others flatten firsts flatMap
+  stays : (t₁ t₂ t₃ t₄ : List ℕ) → filled (kind .tables (bare [] [] [])) (t₁ ∷ t₂ ∷ t₃ ∷ t₄ ∷ []) ≡ t₁ ∷ t₂ ∷ t₃ ∷ t₄ ∷ []
+  unfolding filled kind tables first others flatten firsts flatMap
   stays t₁ t₂ t₃ t₄ = refl
 
   pub bare-opens : length s < 65536 → (t₁ t₂ t₃ t₄ : List ℕ) → Opens s (t₁ ∷ t₂ ∷ t₃ ∷ t₄ ∷ []) (O.At p) (t₁ ∷ t₂ ∷ t₃ ∷ t₄ ∷ [])
-  unfolding kind
   bare-opens h t₁ t₂ t₃ t₄ =
       let lent = t₁ ∷ t₂ ∷ t₃ ∷ t₄ ∷ [] in
-      let n : lacking (needs (tables (tree (b .found)))) lent ≡ none = ap (λ (t : Tree). lacking (needs (tables t)) lent) is-bare ∙ none-lack lent in
-      let k : filled (tables (tree (b .found))) lent ≡ lent = ap (λ (t : Tree). filled (tables t) lent) is-bare ∙ stays t₁ t₂ t₃ t₄ in
+      let n : lacking (needs (kind .tables (tree (b .found)))) lent ≡ none = ap (λ (t : Tree). lacking (needs (kind .tables t)) lent) is-bare ∙ none-lack lent in
+      let k : filled (kind .tables (tree (b .found))) lent ≡ lent = ap (λ (t : Tree). filled (kind .tables t) lent) is-bare ∙ stays t₁ t₂ t₃ t₄ in
       record {
         gives = record {
           found = b .found;
           few = h;
-          reads = λ m. rw (m .is (b .found)) (subst (λ (after : Lent). Reads kind s lent (accepted (kind .top (tree (b .found)) (tail (p .k) s))) after) k (reads-found (b .found) (omega arith) lent n));
+          reads = λ m. rw (m .is (b .found)) (subst (λ (after : Lent). Reads kind s lent (accepted (drcOf (tree (b .found) .0) (tail (p .k) s))) after) k (reads-found (b .found) (omega arith) lent n));
         };
       }
 
@@ -229,15 +227,15 @@ pub zeros-so : {s : List ℕ} {p : Places} {i : DrcLoudnessInfo} → i ≡ infoI
     → x ≡ instructionsTally (rowsOf (run (many (i .«drc_instructions») instructions) s at))
     → y ≡ entriesTally (rowsOf (run (many (i .«loudness_infos») entries) s (p .loudness)))
     → z ≡ downmixesTally (rowsOf (run (many (i .«downmix_definitions») (flat 4 downmix)) s (p .downmixes))) → Zeros s p r
-unfolding K.zeros
+unfolding kind B.zeros B.layouts
 zeros-so {s} {p} e q w a x y z = record {
   is = λ f.
       let x′ = x ∙ (λ j. instructionsTally (rowsOf (run (many (e j .«drc_instructions») instructions) s (q j)))) ∙ (λ j. instructionsTally (rowsOf (f .instructions-read j))) in
       let y′ = y ∙ (λ j. entriesTally (rowsOf (run (many (e j .«loudness_infos») entries) s (p .loudness)))) ∙ (λ j. entriesTally (rowsOf (f .entries-read j))) in
       let z′ = z ∙ (λ j. downmixesTally (rowsOf (run (many (e j .«downmix_definitions») (flat 4 downmix)) s (p .downmixes)))) ∙ (λ j. downmixesTally (rowsOf (f .downmixes-read j))) in
-      w ∙ λ j. a j + x′ j + (y′ j + z′ j);
+      omega (arith, w, a, x′, y′, z′);
 }
 
 pub tallies-so : {s : List ℕ} {p : Places} → Found s p → length s < 65536 → {n : ℕ} → Zeros s p n → Tallies kind s (accepted n)
-unfolding kind onto
+unfolding onto
 tallies-so {s} {p} f h z = rw (z .is f) (tallies kind s (judges kind s {o = done (tree f) (p .k)} (omega arith) (sym (found-reads s p f))))

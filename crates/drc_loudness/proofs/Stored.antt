@@ -6,25 +6,26 @@ use mathlib.Core.Bool.{true}
 use native.Mathlib.Omega.{arith}
 use lib.ListN.{length, drop, length-map}
 use lib.Seq.{sets, slice}
+use Rattle.wire.specs.Lists.{Every, all-nil, all-cons}
 use Rattle.wire.specs.Prog.{Out, run, many}
 use Rattle.wire.specs.Reads.{rowsOf, isDone}
 use Rattle.wire.specs.Nest.{Fillable, Nests}
 use Rattle.wire.specs.Layout.{flat, Borne, kids, brokenRow, borneRow}
 use Rattle.wire.proofs.Takes.{run-takes}
 use Rattle.wire.proofs.Tables.{flat-map}
-use Rattle.wire.proofs.Rowed.{parents-long}
+use Rattle.wire.proofs.Rowed.{Wide, parents-long}
 use Rattle.wire.proofs.Fronts.{front, Both, both}
 use Rattle.wire.proofs.Borne.{borne-wide}
 use Rattle.frame.specs.Entry.{needs, room, first, others, filled}
+use Rattle.frame.specs.Body.{tables}
+use Rattle.frame.proofs.Lawful.{Shaped}
 use Rattle.frame.proofs.MoreRoom.{none-fit, fit-head}
 use Rattle.instructions.specs.Layout.{instruction, instructions}
 use Rattle.loudness.specs.Layout.{entry, entries}
 use Rattle.downmixes.specs.Layout.{downmix}
 use Rattle.drc_kind.specs.declared.rows.DrcLoudnessInfo.{DrcLoudnessInfo}
-use Rattle.drc_kind.specs.Rows.{tables}
-use Rattle.drc_kind.specs.Kind.{parse}
-use Rattle.drc_kind.proofs.Format.{instructionRows, entryRows}
-use Rattle.drc_kind.proofs.Laws.{Few, few}
+use Rattle.drc_kind.specs.Kind.{kind}
+use Rattle.drc_kind.proofs.Lawful.{instructionRows, entryRows, lawful}
 use Rattle.drc_loudness.specs.declared.parsing.Places.{Places}
 use Rattle.drc_loudness.specs.Walk.{rowsAt, Found, tree, Rooms, Stored}
 use Rattle.drc_loudness.proofs.Walked.{infoIn, found-reads}
@@ -40,9 +41,9 @@ module _ {s : List ℕ} {p : Places} (f : Found s p) (t₁ t₂ t₃ t₄ : List
     downmixes : length (f .in-downmixes) * 4 ≤ length t₄
 
   space : Space
-  unfolding needs tables room first others
+  unfolding needs kind tables room first others
   space =
-      let h₁ = fit-head (none-fit (needs (tables (tree f))) (t₁ ∷ t₂ ∷ t₃ ∷ t₄ ∷ []) (r .has f)) in
+      let h₁ = fit-head (none-fit (needs (kind .tables (tree f))) (t₁ ∷ t₂ ∷ t₃ ∷ t₄ ∷ []) (r .has f)) in
       let h₂ = fit-head (h₁ .1) in
       let h₃ = fit-head (h₂ .1) in
       let h₄ = fit-head (h₃ .1) in
@@ -66,12 +67,17 @@ module _ {s : List ℕ} {p : Places} (f : Found s p) (t₁ t₂ t₃ t₄ : List
 
     -- ---- and what they leave
 
-    wide : Few (tree f) (slice 0 (p .k) s)
-    wide = few (tree f) (slice 0 (p .k) s) (run-takes parse s 0 (found-reads s p f) (omega arith))
+    -- the rows of tables 10 and 12 have their columns
+    wide : Every (Wide 2) (kids (f .in-instructions)) × Every (Wide 4) (f .in-downmixes)
+    unfolding kind tables
+    wide = go (lawful .shaped (tree f) (slice 0 (p .k) s) (run-takes (kind .program) s 0 (found-reads s p f) (omega arith)))
+      where
+        go : Every Shaped (kind .tables (tree f)) → Every (Wide 2) (kids (f .in-instructions)) × Every (Wide 4) (f .in-downmixes)
+        go (all-cons _ (all-cons a (all-cons _ (all-cons b all-nil)))) = (a, b)
 
     instructions-stored : {at : ℕ} {t′ u′ : List ℕ} → at ≡ rowsAt s → Nests instructions (λ x. length (x .1)) (λ n x. brokenRow instruction (n, x)) (λ x. flatten (x .1)) s at (i .«drc_instructions») t₁ t₂ t′ u′
         → Both instruction (f .in-instructions) t₁ t₂ t′ u′
-    instructions-stored q v = both instructionRows instructions {end = p .loudness} (f .in-instructions) t₁ t₂ v (rw (q, e) (f .instructions-read)) (wide .additional) (space .instructions) (space .additional)
+    instructions-stored q v = both instructionRows instructions {end = p .loudness} (f .in-instructions) t₁ t₂ v (rw (q, e) (f .instructions-read)) (wide .0) (space .instructions) (space .additional)
 
     entries-stored : {t′ : List ℕ} → t′ ≡ sets t₃ 0 (flatMap (borneRow entry) (rowsOf (run (many (i .«loudness_infos») entries) s (p .loudness)))) → t′ ≡ flatten (map (borneRow entry) (f .in-entries)) ++ drop (length (flatten (map (borneRow entry) (f .in-entries)))) t₃
     entries-stored q =
@@ -84,7 +90,7 @@ module _ {s : List ℕ} {p : Places} (f : Found s p) (t₁ t₂ t₃ t₄ : List
     downmixes-stored q =
         let l = f .in-downmixes in
         q ∙ (λ j. sets t₄ 0 (flatMap (λ r. r) (rowsOf (run (many (e j .«downmix_definitions») (flat 4 downmix)) s (p .downmixes))))) ∙ ap (λ (o : Out (List (List ℕ))). sets t₄ 0 (flatMap (λ r. r) (rowsOf o))) (f .downmixes-read)
-        ∙ ap (sets t₄ 0) (flat-map (λ (r : List ℕ). r) l ∙ ap flatten (map-id l)) ∙ front 4 l t₄ (wide .downmixes) (space .downmixes)
+        ∙ ap (sets t₄ 0) (flat-map (λ (r : List ℕ). r) l ∙ ap flatten (map-id l)) ∙ front 4 l t₄ (wide .1) (space .downmixes)
 
 -- all four tables
 pub stored : {s : List ℕ} {p : Places} (t₁ t₂ t₃ t₄ : List ℕ) {u₁ u₂ u₃ u₄ : List ℕ} {i : DrcLoudnessInfo} {at : ℕ} → i ≡ infoIn s → at ≡ rowsAt s → Rooms s p (t₁ ∷ t₂ ∷ t₃ ∷ t₄ ∷ [])
@@ -92,7 +98,7 @@ pub stored : {s : List ℕ} {p : Places} (t₁ t₂ t₃ t₄ : List ℕ) {u₁ 
     → u₃ ≡ sets t₃ 0 (flatMap (borneRow entry) (rowsOf (run (many (i .«loudness_infos») entries) s (p .loudness))))
     → u₄ ≡ sets t₄ 0 (flatMap (λ r. r) (rowsOf (run (many (i .«downmix_definitions») (flat 4 downmix)) s (p .downmixes))))
     → Stored s p (t₁ ∷ t₂ ∷ t₃ ∷ t₄ ∷ []) (u₁ ∷ u₂ ∷ u₃ ∷ u₄ ∷ [])
-unfolding filled tables first others
+unfolding filled kind tables first others
 stored {s} {p} t₁ t₂ t₃ t₄ e q r a b c = record {
   is = λ f.
       let x = instructions-stored f t₁ t₂ t₃ t₄ r e q a in

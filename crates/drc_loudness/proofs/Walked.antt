@@ -29,10 +29,10 @@ use Rattle.downmixes.specs.Layout.{downmix}
 use Rattle.drc_kind.specs.declared.rows.DrcLoudnessInfo.{DrcLoudnessInfo}
 use Rattle.drc_kind.specs.declared.rows.Info.{Info}
 use Rattle.drc_kind.specs.Layout.{head, counts}
-use Rattle.drc_kind.specs.Rows.{noInfo, Tree}
+use Rattle.drc_kind.specs.Rows.{noInfo, Tree, treeIs}
 use Rattle.drc_kind.specs.Read.{bodyOver}
-use Rattle.drc_kind.specs.Kind.{parse, kind}
-use Rattle.drc_kind.proofs.Mirrored.{parse-over}
+use Rattle.drc_kind.specs.Kind.{kind}
+use Rattle.drc_kind.proofs.Mirrored.{by-lists, parse-over}
 use Rattle.drc_loudness.specs.declared.parsing.Places.{Places}
 use Rattle.drc_loudness.specs.Walk.{flagAt, infoThere, infoAt, rowsAt, Begun, Found, treeOf, tree}
 
@@ -52,7 +52,7 @@ behind-head s = many (infoIn s .«drc_instructions») instructions >>= λ is. be
 
 -- ---- the first bytes
 
-pub head-there : (s : List ℕ) → 1 ≤ length s → rowsAt s ≤ length s → From parse s 0 (behind-head s) (rowsAt s)
+pub head-there : (s : List ℕ) → 1 ≤ length s → rowsAt s ≤ length s → From (kind .program) s 0 (behind-head s) (rowsAt s)
 unfolding rowsAt infoAt bodyOver run many _>>=_
 head-there s h l = record { same = ap (λ (p : Prog Tree). run p s 0) parse-over ∙ first ∙ go (eqb (flagAt s) 1) l; inside = l }
   where
@@ -66,15 +66,15 @@ head-there s h l = record { same = ap (λ (p : Prog Tree). run p s 0) parse-over
     lists : Bool → Prog Tree
     lists x =
         many (info x .«drc_instructions») instructions >>= λ is. many (info x .«loudness_infos») entries >>= λ ls. many (info x .«downmix_definitions») (flat 4 downmix) >>= λ ds.
-        ret (record { top = top x; «drc_instructions» = is; «loudness_infos» = ls; «downmix_definitions» = ds })
+        ret (treeIs (top x) is ls ds)
 
     counts : ℕ → Prog Tree
     counts b0 =
         u8 >>= λ a. u8 >>= λ l. u8 >>= λ d. many (part 0 6 a) instructions >>= λ is. many (part 0 6 l) entries >>= λ ls. many (part 0 5 d) (flat 4 downmix) >>= λ ds.
-        ret (record { top = part 1 7 b0 ∷ part 0 1 b0 ∷ part 6 2 a ∷ part 6 2 l ∷ part 5 3 d ∷ part 0 6 a ∷ part 0 6 l ∷ part 0 5 d ∷ []; «drc_instructions» = is; «loudness_infos» = ls; «downmix_definitions» = ds })
+        ret (treeIs (part 1 7 b0 ∷ part 0 1 b0 ∷ part 6 2 a ∷ part 6 2 l ∷ part 5 3 d ∷ part 0 6 a ∷ part 0 6 l ∷ part 0 5 d ∷ []) is ls ds)
 
     missing : ℕ → Prog Tree
-    missing b0 = ret (record { top = part 1 7 b0 ∷ part 0 1 b0 ∷ 0 ∷ 0 ∷ 0 ∷ 0 ∷ 0 ∷ 0 ∷ []; «drc_instructions» = []; «loudness_infos» = []; «downmix_definitions» = [] })
+    missing b0 = ret (treeIs (part 1 7 b0 ∷ part 0 1 b0 ∷ 0 ∷ 0 ∷ 0 ∷ 0 ∷ 0 ∷ 0 ∷ []) [] [] [])
 
     first : run (bodyOver instructions entries (flat 4 downmix)) s 0 ≡ run (pick (eqb (flagAt s) 1) (counts (getD s 0 0)) (missing (getD s 0 0))) s 1
     first = byte-next _ s 0 (omega arith) refl
@@ -87,9 +87,8 @@ head-there s h l = record { same = ap (λ (p : Prog Tree). run p s 0) parse-over
 bind-cut : {A B : Type 0} (p : Prog A) (k : A → Prog B) (s : List ℕ) (at : ℕ) {x : Short} → run p s at ≡ short x → run (p >>= k) s at ≡ short x
 bind-cut {A} p k s at e = run-bind p k s at ∙ ap (λ (o : Out A). andThen o (λ a n. run (k a) s n)) e
 
-head-cut : (s : List ℕ) {x : Short} → ends (spans head blank s 0) s 0 ≡ short x → run parse s 0 ≡ short x
-unfolding parse
-head-cut s e = bind-cut (reads head blank) _ s 0 (read-so head blank s 0 ∙ ap (mapOut (λ (u : Unit {0}). taken head blank s 0)) e)
+head-cut : (s : List ℕ) {x : Short} → ends (spans head blank s 0) s 0 ≡ short x → run (kind .program) s 0 ≡ short x
+head-cut s e = ap (λ (p : Prog Tree). run p s 0) by-lists ∙ bind-cut (reads head blank) _ s 0 (read-so head blank s 0 ∙ ap (mapOut (λ (u : Unit {0}). taken head blank s 0)) e)
 
 head-spans : (s : List ℕ) → spans head blank s 0 ≡ ones 1 ++ pick (eqb (flagAt s) 1) (ones 3) []
 unfolding head took putsAt put split total ones
@@ -141,7 +140,7 @@ module _ (s : List ℕ) {o : Out (Unit {0})} (e : o ≡ ends (ones 1) s 0) where
 
 -- they end before the first list
 module _ (s : List ℕ) {o : Out (Unit {0})} (e : o ≡ ends (spans head blank s 0) s 0) where
-  pub head-shorts : {x y : Short} → o ≡ short x → y ≡ shortOf o → run parse s 0 ≡ short y
+  pub head-shorts : {x y : Short} → o ≡ short x → y ≡ shortOf o → run (kind .program) s 0 ≡ short y
   head-shorts d q = head-cut s (sym e ∙ d) ∙ ap short (sym (q ∙ ap shortOf d))
 
   pub begins : {n : ℕ} → o ≡ done tt n → Begun s n
@@ -154,7 +153,7 @@ module _ (s : List ℕ) {o : Out (Unit {0})} (e : o ≡ ends (spans head blank s
 
   -- without them
   pub cut-head : {x : Short} → o ≡ short x → Measures kind s (too-short x)
-  unfolding kind ones
+  unfolding ones
   cut-head {x} d = measures-short kind s (omega (arith, few)) (head-cut s (sym e ∙ d))
     where
       got : 4 ≤ length s → (b : Bool) → ends (ones 1 ++ pick b (ones 3) []) s 0 ≡ done tt (pick b 4 1)
@@ -242,10 +241,10 @@ pub record InInstructions (s : List ℕ) (v m : ℕ) : Type 0 where
   pub flagged : flagAt s ≡ 1
   pub four : 4 ≤ length s
   pub small : v ≤ 441
-  pub on : Went-on (many (infoIn s .«drc_instructions») instructions) ids (behind-instructions s) parse s 0 (rowsAt s) v m
+  pub on : Went-on (many (infoIn s .«drc_instructions») instructions) ids (behind-instructions s) (kind .program) s 0 (rowsAt s) v m
 
 module _ (s : List ℕ) (t : flagAt s ≡ 1) (h : 4 ≤ length s) {i : DrcLoudnessInfo} (e : i ≡ infoThere s) where
-  start : From parse s 0 (behind-head s) (rowsAt s)
+  start : From (kind .program) s 0 (behind-head s) (rowsAt s)
   start = head-there s (omega arith) (omega (arith, rows-four s t))
 
   same : i ≡ infoIn s
@@ -260,7 +259,7 @@ module _ (s : List ℕ) (t : flagAt s ≡ 1) (h : 4 ≤ length s) {i : DrcLoudne
         let n : infoIn s .«drc_instructions» < 64 = subst (λ (i : DrcLoudnessInfo). i .«drc_instructions» < 64) (sym (info-there s t)) (part-below 0 6 (getD s 1 0)) in
         record { flagged = t; four = h; small = omega (arith, sum-small summed g, n); on = sum-onward (many (infoIn s .«drc_instructions») instructions) (behind-instructions s) start summed g }
 
-    pub instructions-cut : {y : Short} → r ≡ S.Short y → run parse s 0 ≡ short y
+    pub instructions-cut : {y : Short} → r ≡ S.Short y → run (kind .program) s 0 ≡ short y
     instructions-cut g = sym (sum-cut-off (many (infoIn s .«drc_instructions») instructions) (behind-instructions s) start summed g)
 
 -- behind the entries
@@ -268,7 +267,7 @@ pub record InEntries (s : List ℕ) (v m n : ℕ) : Type 0 where
   pub before : InInstructions s v m
   pub value : List Borne
   pub reads : run (many (infoIn s .«loudness_infos») entries) s m ≡ done value n
-  pub place : From parse s 0 (behind-entries s (before .on .value) value) n
+  pub place : From (kind .program) s 0 (behind-entries s (before .on .value) value) n
 
 module _ {s : List ℕ} {v m : ℕ} (w : InInstructions s v m) {i : DrcLoudnessInfo} (e : i ≡ infoThere s) {o : Out (Unit {0})} (q : o ≡ endOf (run (many (i .«loudness_infos») entries) s m)) where
   same-entries : o ≡ endOf (run (many (infoIn s .«loudness_infos») entries) s m)
@@ -279,7 +278,7 @@ module _ {s : List ℕ} {v m : ℕ} (w : InInstructions s v m) {i : DrcLoudnessI
       let (x, r, _) = as-done (λ (x : List Borne). tt) (run (many (infoIn s .«loudness_infos») entries) s m) (sym same-entries ∙ d) in
       record { before = w; value = x; reads = r; place = onward (many (infoIn s .«loudness_infos») entries) (behind-entries s (w .on .value)) (w .on .place) refl r }
 
-  pub entries-cut : {x y : Short} → o ≡ short x → y ≡ shortOf o → run parse s 0 ≡ short y
+  pub entries-cut : {x y : Short} → o ≡ short x → y ≡ shortOf o → run (kind .program) s 0 ≡ short y
   entries-cut d z = sym (cut-off-as (many (infoIn s .«loudness_infos») entries) (λ x. tt) (behind-entries s (w .on .value)) (w .on .place) same-entries d z)
 
 module _ {s : List ℕ} {v m n : ℕ} (w : InEntries s v m n) {i : DrcLoudnessInfo} (e : i ≡ infoThere s) {o : Out (Unit {0})} (q : o ≡ endOf (run (many (i .«downmix_definitions») (flat 4 downmix)) s n)) where
@@ -301,7 +300,7 @@ module _ {s : List ℕ} {v m n : ℕ} (w : InEntries s v m n) {i : DrcLoudnessIn
         additional-few = w .before .small;
       }
 
-  pub downmixes-cut : {x y : Short} → o ≡ short x → y ≡ shortOf o → run parse s 0 ≡ short y
+  pub downmixes-cut : {x y : Short} → o ≡ short x → y ≡ shortOf o → run (kind .program) s 0 ≡ short y
   downmixes-cut d z = sym (cut-off-as (many (infoIn s .«downmix_definitions») (flat 4 downmix)) (λ x. tt) (λ ds. ret (treeOf s (w .before .on .value) (w .value) ds)) (w .place) same-downmixes d z)
 
 -- ---- what was found
@@ -318,7 +317,7 @@ one-before s = some (eqb (flagAt s) 1)
 pub first-there : {s : List ℕ} {p : Places} → Found s p → 1 ≤ length s
 first-there {s} f = omega (arith, f .head, one-before s)
 
-pub found-reads : (s : List ℕ) (p : Places) (f : Found s p) → run parse s 0 ≡ done (tree f) (p .k)
+pub found-reads : (s : List ℕ) (p : Places) (f : Found s p) → run (kind .program) s 0 ≡ done (tree f) (p .k)
 found-reads s p f =
     let w₀ = head-there s (first-there f) (f .head) in
     let w₁ = onward (many (infoIn s .«drc_instructions») instructions) (behind-instructions s) w₀ refl (f .instructions-read) in

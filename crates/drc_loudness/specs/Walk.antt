@@ -18,9 +18,8 @@ use Rattle.downmixes.specs.Layout.{downmix}
 use Rattle.drc_kind.specs.declared.rows.DrcLoudnessInfo.{DrcLoudnessInfo}
 use Rattle.drc_kind.specs.declared.rows.Info.{Info}
 use Rattle.drc_kind.specs.declared.rows.MpegH3dAudioDrcLoudness.{MpegH3dAudioDrcLoudness}
-use Rattle.drc_kind.specs.Rows.{noInfo, drcOf, Tree, tables}
-use Rattle.drc_kind.specs.Kind as K
-use Rattle.drc_kind.specs.Kind.{parse, kind}
+use Rattle.drc_kind.specs.Rows.{noInfo, drcOf, Tree, treeIs}
+use Rattle.drc_kind.specs.Kind.{kind}
 use Rattle.drc_loudness.specs.declared.parsing.Places.{Places}
 use Rattle.drc_loudness.specs.declared.parsing.Walk.{Walk}
 use Rattle.drc_loudness.specs.declared.parsing.Walk.the-variants as W
@@ -74,30 +73,30 @@ topOf s =
     part 1 7 (getD s 0 0) ∷ flagAt s ∷ i .«reserved_drc» ∷ i .«reserved_loudness» ∷ i .«reserved_downmix» ∷ i .«drc_instructions» ∷ i .«loudness_infos» ∷ i .«downmix_definitions» ∷ []
 
 abbrev pub treeOf : List ℕ → List Family → List Borne → List (List ℕ) → Tree
-treeOf s is ls ds = record { top = topOf s; «drc_instructions» = is; «loudness_infos» = ls; «downmix_definitions» = ds }
+treeOf s is ls ds = treeIs (topOf s) is ls ds
 
 abbrev pub tree : {s : List ℕ} {p : Places} → Found s p → Tree
 tree {s} f = treeOf s (f .in-instructions) (f .in-entries) (f .in-downmixes)
 
 -- of a body whose lists were found: its record, its sizes, its tally, the room for its rows, and what filling the tables leaves
 pub record Recorded (s : List ℕ) (p : Places) (r : MpegH3dAudioDrcLoudness) : Type 0 where
-  pub is : (f : Found s p) → r ≡ drcOf (tree f .top) (tail (p .k) s)
+  pub is : (f : Found s p) → r ≡ drcOf (tree f .0) (tail (p .k) s)
 
 pub record Counted (s : List ℕ) (p : Places) (r : Sizes) : Type 0 where
   pub is : (f : Found s p) → sized r ≡ sizes kind (record { tree = tree f; before = p .k })
 
 pub record Zeros (s : List ℕ) (p : Places) (r : ℕ) : Type 0 where
-  pub is : (f : Found s p) → r ≡ K.zeros (tree f)
+  pub is : (f : Found s p) → r ≡ kind .zeros (tree f)
 
 pub record Rooms (s : List ℕ) (p : Places) (lent : Lent) : Type 0 where
-  pub has : (f : Found s p) → lacking (needs (tables (tree f))) lent ≡ none
+  pub has : (f : Found s p) → lacking (needs (kind .tables (tree f))) lent ≡ none
 
 pub record Stored (s : List ℕ) (p : Places) (lent after : Lent) : Type 0 where
-  pub is : (f : Found s p) → after ≡ filled (tables (tree f)) lent
+  pub is : (f : Found s p) → after ≡ filled (kind .tables (tree f)) lent
 
 abbrev pub walks : List ℕ → Walk → Type 0
 walks s (W.Done p) = Found s p
-walks s (W.Short x) = run parse s 0 ≡ short x
+walks s (W.Short x) = run (kind .program) s 0 ≡ short x
 
 pub record Walks (s : List ℕ) (r : Walk) : Type 0 where
   pub finds : walks s r

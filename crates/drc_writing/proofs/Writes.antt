@@ -26,12 +26,14 @@ use Rattle.drc_kind.specs.declared.rows.Info.{Info}
 use Rattle.drc_kind.specs.declared.rows.MpegH3dAudioDrcLoudness.{MpegH3dAudioDrcLoudness}
 use Rattle.drc_kind.specs.Layout.{head}
 use Rattle.drc_kind.specs.Rows.{fields}
-use Rattle.drc_kind.specs.Kind.{actsOf, acts}
+use Rattle.drc_kind.specs.Write.{actsOf, acts}
+use Rattle.drc_kind.specs.Kind.{kind}
+use Rattle.drc_kind.proofs.Mirrored.{written-so}
 use Rattle.drc_writing.specs.Write.{countFields, allWithin, listsActs, infoActs, drcActs, Listed}
 
-pub drc-acts : (m : MpegH3dAudioDrcLoudness) (lent : Lent) (store : List ℕ) → acts m lent store ≡ drcActs m lent store
+pub drc-acts : (m : MpegH3dAudioDrcLoudness) (lent : Lent) (store : List ℕ) → kind .acts m lent store ≡ drcActs m lent store
 unfolding acts actsOf drcActs infoActs allWithin head cells matches matched shown writes every has flatten rows each
-drc-acts m lent store = go m (m .info .present)
+drc-acts m lent store = written-so m lent store ∙ go m (m .info .present)
   where
     with : MpegH3dAudioDrcLoudness → Bool → MpegH3dAudioDrcLoudness
     with m a = record { reserved = m .reserved; info = record { present = a; part = m .info .part }; trailing = m .trailing }
@@ -144,14 +146,14 @@ module _ (i : Info) (lent : Lent) (store : List ℕ) {n : ℕ} {l : List ℕ} wh
   unfolding infoActs
   info-empty t = rw t (fill-none n l)
 
--- ---- the actions of the layouts, checked and filled as those of the lists
+-- ---- the actions of the kind, checked and filled as those of the lists
 
 module _ (m : MpegH3dAudioDrcLoudness) (lent : Lent) (store : List ℕ) where
-  pub written-as : {k : ℕ} {p r : Pen} → Checked (drcActs m lent store) k p r → Checked (acts m lent store) k p r
+  pub written-as : {k : ℕ} {p r : Pen} → Checked (drcActs m lent store) k p r → Checked (kind .acts m lent store) k p r
   written-as {k} {p} {r} w = subst (λ (q : List Act). Checked q k p r) (sym (drc-acts m lent store)) w
 
-  pub ready-as : {n : ℕ} {l : List ℕ} → Ready (acts m lent store) n l → Ready (drcActs m lent store) n l
+  pub ready-as : {n : ℕ} {l : List ℕ} → Ready (kind .acts m lent store) n l → Ready (drcActs m lent store) n l
   ready-as {n} {l} w = subst (λ (q : List Act). Ready q n l) (drc-acts m lent store) w
 
-  pub filled-as : {n r : ℕ} {l o : List ℕ} → Filled (drcActs m lent store) n l r o → Filled (acts m lent store) n l r o
+  pub filled-as : {n r : ℕ} {l o : List ℕ} → Filled (drcActs m lent store) n l r o → Filled (kind .acts m lent store) n l r o
   filled-as {n} {r} {l} {o} w = subst (λ (q : List Act). Filled q n l r o) (sym (drc-acts m lent store)) w

@@ -12,7 +12,7 @@ use Rattle.frame.specs.Kind.{Lent}
 use Rattle.drc_kind.specs.declared.rows.DrcLoudnessInfo.{DrcLoudnessInfo}
 use Rattle.drc_kind.specs.declared.rows.Info.{Info}
 use Rattle.drc_kind.specs.declared.rows.MpegH3dAudioDrcLoudness.{MpegH3dAudioDrcLoudness}
-use Rattle.drc_kind.specs.Kind.{table, instructionActs, entryActs, downmixActs}
+use Rattle.drc_kind.specs.Write.{table, instructionActs, entryActs, downmixActs}
 
 -- ---- the bytes of the top record
 

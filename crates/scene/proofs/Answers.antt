@@ -6,7 +6,7 @@ use mathlib.Core.Bool.{Bool, true, false}
 use native.Mathlib.Omega.{arith}
 use lib.ListN.{length, getD}
 use lib.Dec.{eqb}
-use Rattle.wire.specs.Lists.{sum}
+use Rattle.wire.specs.Lists.{each, sum}
 use Rattle.wire.specs.Bits.{part, zeros}
 use Rattle.wire.specs.Prog.{done, run, many}
 use Rattle.wire.specs.Reads.{rowsOf}
@@ -16,6 +16,7 @@ use Rattle.frame.specs.declared.Refusal.the-variants as R
 use Rattle.frame.specs.declared.Room.{Room}
 use Rattle.frame.specs.declared.Room.the-variants as M
 use Rattle.frame.specs.Kind.{Lent}
+use Rattle.frame.specs.Body as B
 use Rattle.frame.specs.Numbers.{accepted, refused, refusal}
 use Rattle.frame.specs.Entry as E
 use Rattle.frame.specs.Entry.{lacking, onto, sizes, Reads, Measures, Tallies}
@@ -31,8 +32,6 @@ use Rattle.scene.specs.declared.Opening.the-variants as O
 use Rattle.scene.specs.declared.Sizes.{Sizes}
 use Rattle.scene_kind.specs.Layout as T
 use Rattle.scene_kind.specs.Layout.{layouts}
-use Rattle.scene_kind.specs.Rows.{tables}
-use Rattle.scene_kind.specs.Kind as K
 use Rattle.scene_kind.specs.Kind.{kind}
 use Rattle.scene.specs.Contract.{sized}
 use Rattle.scene.specs.Walk.{Flags, rowsAt, countAt, reservedAt, reservedZeros, groupsFlag, switchesFlag, presetsFlag, Found, tree, Counted, Zeros, Rooms, Stored, Opens}
@@ -54,7 +53,7 @@ unfolding sizes kind
 rooms-so {z = z} c lent e d = record { has = λ f. ap (λ (y : E.Sizes). lacking (y .tables) lent) (sym (c .is f)) ∙ enough (sized z .tables) lent (sym e ∙ d) }
 
 pub opened-so : {s : List ℕ} {p : Places} → Found s p → length s < 65536 → {lent after : Lent} → Rooms s p lent → Stored s p lent after → Opens s lent (O.At p) after
-unfolding kind
+unfolding kind B.placed each
 opened-so {s} {p} f h {lent} r w = record { gives = record { found = f; few = h; reads = λ m. rw (m .is f, w .is f) (reads-found f (omega arith) lent (r .has f)) } }
 
 -- ---- the tally
@@ -97,10 +96,10 @@ abbrev presetsTally : List Family → ℕ
 presetsTally l = sum (familyTally preset condition) l
 
 module _ {s : List ℕ} {p : Places} (f : Found s p) where
-  zeros-found : K.zeros (tree f)
+  zeros-found : kind .zeros (tree f)
       ≡ zeros 5 (part 0 5 (getD s 0 0)) + (reservedZeros 1 7 s (groupsFlag s) 2 + (reservedZeros 3 5 s (switchesFlag s) (p .«switch_groups») + reservedZeros 3 5 s (presetsFlag s) (p .presets))) + groupsTally (f .in-groups .rows)
       + (switchesTally (f .in-switches .rows) + presetsTally (f .in-presets .rows))
-  unfolding K.zeros
+  unfolding kind B.layouts B.zeros
   zeros-found =
       let x = groups-stand f .is in
       let y = switches-stand f .is in
@@ -108,7 +107,8 @@ module _ {s : List ℕ} {p : Places} (f : Found s p) where
       let a = (λ i. pick (eqb (groupsFlag s) 1) (zeros 1 (x i .reserved)) 0) ∙ reserved-so 1 7 1 s (groupsFlag s) 2 in
       let b = (λ i. pick (eqb (switchesFlag s) 1) (zeros 3 (y i .reserved)) 0) ∙ reserved-so 3 5 7 s (switchesFlag s) (p .«switch_groups») in
       let c = (λ i. pick (eqb (presetsFlag s) 1) (zeros 3 (z i .reserved)) 0) ∙ reserved-so 3 5 7 s (presetsFlag s) (p .presets) in
-      (λ i. (top-tally (of (tree f .top)) ∙ (λ i. zeros 5 (part 0 5 (getD s 0 0)) + (a i + (b i + c i)))) i + groupsTally (f .in-groups .rows) + (switchesTally (f .in-switches .rows) + presetsTally (f .in-presets .rows)))
+      let t = top-tally (of (tree f .0)) ∙ (λ i. zeros 5 (part 0 5 (getD s 0 0)) + (a i + (b i + c i))) in
+      (λ i. t i + (groupsTally (f .in-groups .rows) + (switchesTally (f .in-switches .rows) + (presetsTally (f .in-presets .rows) + 0)))) ∙ omega arith
 
   pub tallies-so : length s < 65536 → {n : ℕ} → Zeros s p n → Tallies kind s (accepted n)
   unfolding kind onto

@@ -8,7 +8,7 @@ use native.Mathlib.Omega.{arith}
 use lib.ListN.{length, getD}
 use lib.Dec.{eqb, leb}
 use borrow.Author.Tests.{eqb-true, ne-eqb, eq-eqb, leb-true, leb-false}
-use Rattle.wire.specs.Lists.{firsts}
+use Rattle.wire.specs.Lists.{each, firsts}
 use Rattle.wire.specs.Bits.{part, total}
 use Rattle.wire.specs.Prog.{Prog, Out, done, short, needing, run, many, _>>=_}
 use Rattle.wire.specs.Reads.{mapOut, shortOf}
@@ -21,6 +21,7 @@ use Rattle.wire.proofs.Walk.{From, onward, cut-off}
 use Rattle.wire.proofs.Cells.{clash}
 use Rattle.wire.proofs.Straight.{ones-got, ones-lacks, ends-at, ends-within}
 use Rattle.frame.specs.Kind.{Lent}
+use Rattle.frame.specs.Body.{placed, tables}
 use Rattle.frame.specs.Numbers.{accepted}
 use Rattle.frame.specs.Entry.{needs, lacking, first, others, filled, tail, too-short, Reads, Measures}
 use Rattle.frame.proofs.Entries.{measures-short}
@@ -29,8 +30,8 @@ use Rattle.scene_groups.specs.Layout.{group}
 use Rattle.switch_groups.specs.Layout.{switchGroups}
 use Rattle.presets.specs.Layout.{presets}
 use Rattle.scene_kind.specs.Read.{Section, section}
-use Rattle.scene_kind.specs.Rows.{Scene, tables}
-use Rattle.scene_kind.specs.Kind.{parse, kind}
+use Rattle.scene_kind.specs.Rows.{Scene, sceneIs}
+use Rattle.scene_kind.specs.Kind.{pieces, kind}
 use Rattle.scene.specs.declared.parsing.Places.{Places}
 use Rattle.scene.specs.declared.Opening.the-variants as O
 use Rattle.scene.specs.Walk.{Flags, rowsAt, countAt, groupsFlag, switchesFlag, presetsFlag, tree, Bare, Opens}
@@ -117,13 +118,13 @@ none-so {s} {n} {v} h e l =
 
 module _ {s : List ℕ} {p : Places} (b : Bare s p) where
   abbrev none-of : (gs : List (List ℕ)) (ss ps : List Family) → Scene
-  none-of gs ss ps = record { top = tree (b .found) .top; groups = gs; «switch_groups» = ss; presets = ps }
+  none-of gs ss ps = sceneIs (tree (b .found) .0) gs ss ps
 
-  enough : (lent : Lent) → lacking (needs (tables (none-of [] [] []))) lent ≡ none
+  enough : (lent : Lent) → lacking (needs (tables pieces (none-of [] [] [] .1))) lent ≡ none
   unfolding needs tables firsts flatMap
   enough lent = no-rows _ _ lent refl (no-rows _ _ _ refl (no-rows _ _ _ refl (no-rows _ _ _ refl (no-rows _ _ _ refl (no-more _)))))
 
-  stays : (x y z u v : List ℕ) → filled (tables (none-of [] [] [])) (x ∷ y ∷ z ∷ u ∷ v ∷ []) ≡ x ∷ y ∷ z ∷ u ∷ v ∷ []
+  stays : (x y z u v : List ℕ) → filled (tables pieces (none-of [] [] [] .1)) (x ∷ y ∷ z ∷ u ∷ v ∷ []) ≡ x ∷ y ∷ z ∷ u ∷ v ∷ []
   unfolding filled tables first others flatten firsts flatMap
   stays x y z u v = refl
 
@@ -131,11 +132,11 @@ module _ {s : List ℕ} {p : Places} (b : Bare s p) where
   bare-is = λ i. none-of (b .no-groups i) (b .no-switches i) (b .no-presets i)
 
   pub bare-opens : length s < 65536 → (x y z u v : List ℕ) → Opens s (x ∷ y ∷ z ∷ u ∷ v ∷ []) (O.At p) (x ∷ y ∷ z ∷ u ∷ v ∷ [])
-  unfolding kind
+  unfolding kind placed each
   bare-opens h x y z u v =
       let lent = x ∷ y ∷ z ∷ u ∷ v ∷ [] in
-      let e : lacking (needs (tables (tree (b .found)))) lent ≡ none = ap (λ (t : Scene). lacking (needs (tables t)) lent) bare-is ∙ enough lent in
-      let k : filled (tables (tree (b .found))) lent ≡ lent = ap (λ (t : Scene). filled (tables t) lent) bare-is ∙ stays x y z u v in
+      let e : lacking (needs (tables pieces (tree (b .found) .1))) lent ≡ none = ap (λ (t : Scene). lacking (needs (tables pieces (t .1))) lent) bare-is ∙ enough lent in
+      let k : filled (tables pieces (tree (b .found) .1)) lent ≡ lent = ap (λ (t : Scene). filled (tables pieces (t .1)) lent) bare-is ∙ stays x y z u v in
       record {
         gives = record {
           found = b .found;
@@ -158,7 +159,7 @@ section-passed p r w full s flag l e =
     let a : rowsAt flag 2 ≡ 2 = ap (λ (b : Bool). 2 + pick b 1 0) x in
     section-bare p r w full s flag 2 (omega arith) (ap (λ (b : Bool). pick b (part 0 w (getD s 2 0)) 0) x) ∙ ap (done (sectionOf p r w full s flag 2 [])) a
 
-cut : {A : Type 0} (p : Prog A) {s : List ℕ} (f : A → Prog Scene) → From parse s 0 (p >>= f) 2 → run p s 2 ≡ short (needing 3) → run parse s 0 ≡ short (needing 3)
+cut : {A : Type 0} (p : Prog A) {s : List ℕ} (f : A → Prog Scene) → From (kind .program) s 0 (p >>= f) 2 → run p s 2 ≡ short (needing 3) → run (kind .program) s 0 ≡ short (needing 3)
 cut p f w e = sym (cut-off p f w refl e (sym (ap shortOf e)))
 
 flag-is : (v : ℕ) → eqb v 1 ≡ true → v ≡ 1
@@ -173,7 +174,7 @@ flag-off zero h e = refl
 flag-off (suc zero) h e = clash refl e
 flag-off (suc (suc v)) h e = absurd (omega arith)
 
-first-cut : (s : List ℕ) → length s ≡ 2 → 32 ≤ getD s 0 0 → getD s 0 0 < 256 → run parse s 0 ≡ short (needing 3)
+first-cut : (s : List ℕ) → length s ≡ 2 → 32 ≤ getD s 0 0 → getD s 0 0 < 256 → run (kind .program) s 0 ≡ short (needing 3)
 first-cut s l low high = go (eqb (groupsFlag s) 1) (eqb (switchesFlag s) 1) (eqb (presetsFlag s) 1) refl refl refl
   where
     groups : Prog (Section (List ℕ))
@@ -182,13 +183,13 @@ first-cut s l low high = go (eqb (groupsFlag s) 1) (eqb (switchesFlag s) 1) (eqb
     switches : Prog (Section Family)
     switches = section (switchesFlag s) 3 5 7 switchGroups
 
-    w₀ : From parse s 0 (groups >>= behind-groups s) 2
+    w₀ : From (kind .program) s 0 (groups >>= behind-groups s) 2
     w₀ = head-there s (omega arith)
 
-    w₁ : (groupsFlag s ≡ 1 → ⊥) → From parse s 0 (behind-groups s (sectionOf (flat 27 group) 1 7 1 s (groupsFlag s) 2 [])) 2
+    w₁ : (groupsFlag s ≡ 1 → ⊥) → From (kind .program) s 0 (behind-groups s (sectionOf (flat 27 group) 1 7 1 s (groupsFlag s) 2 [])) 2
     w₁ a = onward groups (behind-groups s) w₀ refl (section-passed (flat 27 group) 1 7 1 s (groupsFlag s) l a)
 
-    go : (x y z : Bool) → eqb (groupsFlag s) 1 ≡ x → eqb (switchesFlag s) 1 ≡ y → eqb (presetsFlag s) 1 ≡ z → run parse s 0 ≡ short (needing 3)
+    go : (x y z : Bool) → eqb (groupsFlag s) 1 ≡ x → eqb (switchesFlag s) 1 ≡ y → eqb (presetsFlag s) 1 ≡ z → run (kind .program) s 0 ≡ short (needing 3)
     go true y z a b c = cut groups (behind-groups s) w₀ (section-missing (flat 27 group) 1 7 1 s (groupsFlag s) l (flag-is _ a))
     go false true z a b c = cut switches _ (w₁ (flag-is-not _ a)) (section-missing switchGroups 3 5 7 s (switchesFlag s) l (flag-is _ b))
     go false false true a b c =
@@ -206,11 +207,11 @@ module _ (s : List ℕ) (h : 2 ≤ length s) {o : Out (Unit {0})} (e : o ≡ end
   unfolding ones total
   first-there d = omega (arith, ends-within (ones 1) s 2 h (sym e ∙ d), ends-at (ones 1) s 2 (sym e ∙ d))
 
-  pub cut-so : 32 ≤ getD s 0 0 → getD s 0 0 < 256 → {x y : Short} → o ≡ short x → y ≡ shortOf o → run parse s 0 ≡ short y
+  pub cut-so : 32 ≤ getD s 0 0 → getD s 0 0 < 256 → {x y : Short} → o ≡ short x → y ≡ shortOf o → run (kind .program) s 0 ≡ short y
   unfolding ends ones
   cut-so low high {x} {y} d z = go (leb 3 (length s)) refl (sym e ∙ d)
     where
-      go : (b : Bool) → leb 3 (length s) ≡ b → _≡_ {A = Out (Unit {0})} (elim b [ true ↦ done tt 3 | false ↦ short (needing 3) ]) (short x) → run parse s 0 ≡ short y
+      go : (b : Bool) → leb 3 (length s) ≡ b → _≡_ {A = Out (Unit {0})} (elim b [ true ↦ done tt 3 | false ↦ short (needing 3) ]) (short x) → run (kind .program) s 0 ≡ short y
       go true q w = absurd (let z : _≡_ {A = ℕ} 0 1 = cc w in omega arith)
       go false q w = let k = leb-false 3 (length s) q in let v : needing 3 ≡ x = cc w in first-cut s (omega (arith, k)) low high ∙ ap short (v ∙ sym (z ∙ ap shortOf d))
 

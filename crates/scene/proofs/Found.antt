@@ -11,6 +11,7 @@ use Rattle.wire.proofs.Walk.{ends}
 use Rattle.wire.proofs.Loops.{many-long}
 use Rattle.wire.proofs.Rowed.{parents-long}
 use Rattle.frame.specs.Kind.{Lent}
+use Rattle.frame.specs.Body.{tables}
 use Rattle.frame.specs.Numbers.{accepted}
 use Rattle.frame.specs.Entry.{needs, sizes, tail, Measures, Reads, filled, lacking}
 use Rattle.frame.proofs.Entries.{measures-done, reads-done, judges}
@@ -20,11 +21,11 @@ use Rattle.presets.specs.Layout.{presets}
 use Rattle.scene.specs.declared.parsing.Places.{Places}
 use Rattle.scene.specs.declared.Sizes.{Sizes as CodeSizes}
 use Rattle.scene_kind.specs.declared.rows.MpegH3dAudioScene.{MpegH3dAudioScene}
-use Rattle.scene_kind.specs.Rows.{section, tables, needed}
+use Rattle.scene_kind.specs.Rows.{section, needed}
 use Rattle.scene_kind.specs.Read.{all}
-use Rattle.scene_kind.specs.Kind.{kind}
+use Rattle.scene_kind.specs.Kind.{pieces, kind}
 use Rattle.scene.specs.Walk.{Flags, rowsAt, countAt, reservedAt, groupsFlag, switchesFlag, presetsFlag, Found, tree, Recorded, Counted}
-use Rattle.scene_kind.proofs.Format.{switchRows, presetRows}
+use Rattle.scene_kind.proofs.Lawful.{switchRows, presetRows}
 use Rattle.scene.proofs.Sections.{Stands, stands}
 use Rattle.scene.proofs.Walked.{found-reads}
 
@@ -59,7 +60,7 @@ module _ {s : List ℕ} {p : Places} (f : Found s p) where
   pub presets-counted : countAt 5 s (presetsFlag s) (p .presets) ≡ length (f .in-presets .rows)
   presets-counted = sym (many-long presets s _ _ _ _ (presets-stand .reads))
 
-  pub needs-found : needed (countAt 7 s (groupsFlag s) 2) (countAt 5 s (switchesFlag s) (p .«switch_groups»)) (p .members) (countAt 5 s (presetsFlag s) (p .presets)) (p .conditions) ≡ needs (tables (tree f))
+  pub needs-found : needed (countAt 7 s (groupsFlag s) 2) (countAt 5 s (switchesFlag s) (p .«switch_groups»)) (p .members) (countAt 5 s (presetsFlag s) (p .presets)) (p .conditions) ≡ needs (tables pieces (tree f .1))
   unfolding needs tables
   needs-found = λ i.
       needed (groups-counted i) ((switches-counted ∙ sym (parents-long switchRows (f .in-switches .rows))) i) (f .members-are i) ((presets-counted ∙ sym (parents-long presetRows (f .in-presets .rows))) i) (f .conditions-are i)
@@ -70,7 +71,7 @@ module _ {s : List ℕ} {p : Places} (f : Found s p) where
     unfolding kind
     measures-found = measures-done kind s h (found-reads s p f)
 
-    pub reads-found : (lent : Lent) → lacking (needs (tables (tree f))) lent ≡ none → Reads kind s lent (accepted (kind .top (tree f) (tail (p .k) s))) (filled (tables (tree f)) lent)
+    pub reads-found : (lent : Lent) → lacking (needs (tables pieces (tree f .1))) lent ≡ none → Reads kind s lent (accepted (kind .top (tree f) (tail (p .k) s))) (filled (tables pieces (tree f .1)) lent)
     unfolding kind
     reads-found lent e = reads-done kind s lent (judges kind s {o = done (tree f) (p .k)} h (sym (found-reads s p f))) e
 

@@ -6,25 +6,26 @@ use mathlib.Core.Bool.{true}
 use native.Mathlib.Omega.{arith}
 use lib.ListN.{length, drop}
 use lib.Seq.{sets, slice}
+use Rattle.wire.specs.Lists.{Every, all-nil, all-cons}
 use Rattle.wire.specs.Prog.{Out, run, many}
 use Rattle.wire.specs.Reads.{rowsOf, isDone}
 use Rattle.wire.specs.Nest.{Fillable, Nests}
 use Rattle.wire.specs.Layout.{flat, kids, brokenRow}
 use Rattle.wire.proofs.Takes.{run-takes}
 use Rattle.wire.proofs.Tables.{flat-map}
-use Rattle.wire.proofs.Rowed.{parents-long}
+use Rattle.wire.proofs.Rowed.{Wide, parents-long}
 use Rattle.wire.proofs.Fronts.{front, Both, both}
+use Rattle.frame.specs.Body.{tables}
 use Rattle.frame.specs.Entry.{needs, room, first, others, filled}
+use Rattle.frame.proofs.Lawful.{Shaped}
 use Rattle.frame.proofs.MoreRoom.{none-fit, fit-head}
 use Rattle.scene_groups.specs.Layout.{group}
 use Rattle.switch_groups.specs.Layout.{switchGroup, switchGroups}
 use Rattle.presets.specs.Layout.{preset, presets}
 use Rattle.scene.specs.declared.parsing.Places.{Places}
-use Rattle.scene_kind.specs.Rows.{tables}
-use Rattle.scene_kind.specs.Kind.{parse}
+use Rattle.scene_kind.specs.Kind.{pieces, kind}
 use Rattle.scene.specs.Walk.{Flags, rowsAt, countAt, groupsFlag, switchesFlag, presetsFlag, Found, tree, Rooms, Stored}
-use Rattle.scene_kind.proofs.Format.{switchRows, presetRows}
-use Rattle.scene_kind.proofs.Laws.{Few, few}
+use Rattle.scene_kind.proofs.Lawful.{switchRows, presetRows, lawful}
 use Rattle.scene.proofs.Walked.{found-reads}
 use Rattle.scene.proofs.Found.{groups-stand, switches-stand, presets-stand, groups-counted, switches-counted, presets-counted, at-presets, at-switches}
 
@@ -41,7 +42,7 @@ module _ {s : List ℕ} {p : Places} (f : Found s p) (t₁ t₂ t₃ t₄ t₅ :
   space : Space
   unfolding needs tables room first others
   space =
-      let h₁ = fit-head (none-fit (needs (tables (tree f))) (t₁ ∷ t₂ ∷ t₃ ∷ t₄ ∷ t₅ ∷ []) (r .has f)) in
+      let h₁ = fit-head (none-fit (needs (tables pieces (tree f .1))) (t₁ ∷ t₂ ∷ t₃ ∷ t₄ ∷ t₅ ∷ []) (r .has f)) in
       let h₂ = fit-head (h₁ .1) in
       let h₃ = fit-head (h₂ .1) in
       let h₄ = fit-head (h₃ .1) in
@@ -73,8 +74,18 @@ module _ {s : List ℕ} {p : Places} (f : Found s p) (t₁ t₂ t₃ t₄ t₅ :
 
   -- ---- and what they leave
 
-  wide : Few (tree f) (slice 0 (p .k) s)
-  wide = few (tree f) (slice 0 (p .k) s) (run-takes parse s 0 (found-reads s p f) (omega arith))
+  -- every row is as wide as its table
+  record Widths : Type 0 where
+    groups : Every (Wide 27) (f .in-groups .rows)
+    members : Every (Wide 2) (kids (f .in-switches .rows))
+    conditions : Every (Wide 13) (kids (f .in-presets .rows))
+
+  wide : Widths
+  unfolding kind tables
+  wide = go (lawful .shaped (tree f) (slice 0 (p .k) s) (run-takes (kind .program) s 0 (found-reads s p f) (omega arith)))
+    where
+      go : Every Shaped (tables pieces (tree f .1)) → Widths
+      go (all-cons a (all-cons _ (all-cons b (all-cons _ (all-cons c all-nil))))) = record { groups = a; members = b; conditions = c }
 
   pub groups-stored : {g : ℕ} {t′ : List ℕ} → g ≡ groupsFlag s → t′ ≡ sets t₁ 0 (flatMap (λ r. r) (rowsOf (run (many (countAt 7 s g 2) (flat 27 group)) s (rowsAt g 2)))) → t′ ≡ flatten (f .in-groups .rows) ++ drop (length (flatten (f .in-groups .rows))) t₁
   groups-stored e q =

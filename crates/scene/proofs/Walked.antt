@@ -23,7 +23,7 @@ use Rattle.presets.specs.Layout.{presets}
 use Rattle.scene.specs.declared.parsing.Places.{Places}
 use Rattle.scene_kind.specs.Rows.{Scene}
 use Rattle.scene_kind.specs.Read.{Section, section, sceneOver}
-use Rattle.scene_kind.specs.Kind.{parse}
+use Rattle.scene_kind.specs.Kind.{kind}
 use Rattle.scene.specs.Walk.{groupsFlag, switchesFlag, presetsFlag, Found, treeOf, tree}
 use Rattle.scene_kind.proofs.Mirrored.{parse-over}
 
@@ -43,14 +43,14 @@ behind-head s = section (groupsFlag s) 1 7 1 (flat 27 group) >>= behind-groups s
 
 -- ---- the first two bytes
 
-pub head-there : (s : List ℕ) → 2 ≤ length s → From parse s 0 (behind-head s) 2
+pub head-there : (s : List ℕ) → 2 ≤ length s → From (kind .program) s 0 (behind-head s) 2
 unfolding sceneOver
 head-there s h = record {
   same = ap (λ (p : Prog Scene). run p s 0) parse-over ∙ byte-next _ s 0 (omega arith) refl ∙ byte-next _ s 1 (omega arith) refl;
   inside = h;
 }
 
-pub head-cut : (s : List ℕ) {x : Short} → ends (ones 2) s 0 ≡ short x → run parse s 0 ≡ short x
+pub head-cut : (s : List ℕ) {x : Short} → ends (ones 2) s 0 ≡ short x → run (kind .program) s 0 ≡ short x
 unfolding sceneOver run u8 _>>=_ ends ones
 head-cut s {x} e = ap (λ (p : Prog Scene). run p s 0) parse-over ∙ go (leb 1 (length s)) (leb 2 (length s)) _ e
   where
@@ -76,7 +76,7 @@ members x = length (kids (x .rows))
 pub record InGroups (s : List ℕ) (m : ℕ) : Type 0 where
   pub value : Section (List ℕ)
   pub reads : run (section (groupsFlag s) 1 7 1 (flat 27 group)) s 2 ≡ done value m
-  pub place : From parse s 0 (behind-groups s value) m
+  pub place : From (kind .program) s 0 (behind-groups s value) m
 
 module _ {s : List ℕ} {n g : ℕ} (h : Two s n) (q : g ≡ groupsFlag s) {o : Out (Unit {0})} (e : o ≡ endOf (run (section g 1 7 1 (flat 27 group)) s n)) where
   same : o ≡ endOf (run (section (groupsFlag s) 1 7 1 (flat 27 group)) s 2)
@@ -85,13 +85,13 @@ module _ {s : List ℕ} {n g : ℕ} (h : Two s n) (q : g ≡ groupsFlag s) {o : 
   pub groups-found : {m : ℕ} → o ≡ done tt m → InGroups s m
   groups-found d = let (x, r, _) = as-done (λ (x : Section (List ℕ)). tt) (run (section (groupsFlag s) 1 7 1 (flat 27 group)) s 2) (sym same ∙ d) in record { value = x; reads = r; place = onward (section (groupsFlag s) 1 7 1 (flat 27 group)) (behind-groups s) (head-there s (h .inside)) refl r }
 
-  pub groups-cut : {x y : Short} → o ≡ short x → y ≡ shortOf o → run parse s 0 ≡ short y
+  pub groups-cut : {x y : Short} → o ≡ short x → y ≡ shortOf o → run (kind .program) s 0 ≡ short y
   groups-cut d z = sym (cut-off-as (section (groupsFlag s) 1 7 1 (flat 27 group)) (λ x. tt) (behind-groups s) (head-there s (h .inside)) same d z)
 
 pub record InSwitches (s : List ℕ) (m v n : ℕ) : Type 0 where
   pub before : InGroups s m
   pub small : v ≤ 992
-  pub on : Went-on (section (switchesFlag s) 3 5 7 switchGroups) members (behind-switches s (before .value)) parse s 0 m v n
+  pub on : Went-on (section (switchesFlag s) 3 5 7 switchGroups) members (behind-switches s (before .value)) (kind .program) s 0 m v n
 
 module _ {s : List ℕ} {t m : ℕ} (w : InGroups s m) (q : t ≡ switchesFlag s) {r : Sum} (x : Summed (section t 3 5 7 switchGroups) members 992 s m r) where
   summed : Summed (section (switchesFlag s) 3 5 7 switchGroups) members 992 s m r
@@ -100,7 +100,7 @@ module _ {s : List ℕ} {t m : ℕ} (w : InGroups s m) (q : t ≡ switchesFlag s
   pub switches-found : {v n : ℕ} → r ≡ S.Got v n → InSwitches s m v n
   switches-found e = record { before = w; small = sum-small summed e; on = sum-onward (section (switchesFlag s) 3 5 7 switchGroups) (behind-switches s (w .value)) (w .place) summed e }
 
-  pub switches-cut : {y : Short} → r ≡ S.Short y → run parse s 0 ≡ short y
+  pub switches-cut : {y : Short} → r ≡ S.Short y → run (kind .program) s 0 ≡ short y
   switches-cut e = sym (sum-cut-off (section (switchesFlag s) 3 5 7 switchGroups) (behind-switches s (w .value)) (w .place) summed e)
 
 module _ {s : List ℕ} {u m v n : ℕ} (w : InSwitches s m v n) (q : u ≡ presetsFlag s) {r : Sum} (x : Summed (section u 3 5 7 presets) members 496 s n r) where
@@ -124,12 +124,12 @@ module _ {s : List ℕ} {u m v n : ℕ} (w : InSwitches s m v n) (q : u ≡ pres
         conditions-few = sum-small summed-presets e;
       }
 
-  pub presets-cut : {y : Short} → r ≡ S.Short y → run parse s 0 ≡ short y
+  pub presets-cut : {y : Short} → r ≡ S.Short y → run (kind .program) s 0 ≡ short y
   presets-cut e = sym (sum-cut-off (section (presetsFlag s) 3 5 7 presets) (behind-presets s (w .before .value) (w .on .value)) (w .on .place) summed-presets e)
 
 -- ---- what was found
 
-pub found-reads : (s : List ℕ) (p : Places) (f : Found s p) → run parse s 0 ≡ done (tree f) (p .k)
+pub found-reads : (s : List ℕ) (p : Places) (f : Found s p) → run (kind .program) s 0 ≡ done (tree f) (p .k)
 found-reads s p f =
     let w₀ = head-there s (f .head) in
     let w₁ = onward (section (groupsFlag s) 1 7 1 (flat 27 group)) (behind-groups s) w₀ refl (f .groups-read) in

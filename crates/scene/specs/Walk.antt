@@ -10,6 +10,7 @@ use Rattle.wire.specs.Prog.{done, short, run}
 use Rattle.wire.specs.Act.{pick}
 use Rattle.wire.specs.Layout.{flat, Family, kids}
 use Rattle.frame.specs.Kind.{Lent}
+use Rattle.frame.specs.Body.{tables}
 use Rattle.frame.specs.Numbers.{accepted, refused, refusal}
 use Rattle.frame.specs.Entry.{needs, lacking, filled, tail, sizes, Reads}
 use Rattle.scene_groups.specs.Layout.{group}
@@ -24,10 +25,9 @@ use Rattle.scene_kind.specs.declared.rows.MpegH3dAudioScene.{MpegH3dAudioScene}
 use Rattle.scene.specs.declared.Opening.{Opening}
 use Rattle.scene.specs.declared.Opening.the-variants as O
 use Rattle.scene.specs.declared.Sizes.{Sizes}
-use Rattle.scene_kind.specs.Rows.{Scene, sceneOf, tables}
+use Rattle.scene_kind.specs.Rows.{Scene, sceneIs, sceneOf}
 use Rattle.scene_kind.specs.Read.{all, Section, section}
-use Rattle.scene_kind.specs.Kind as K
-use Rattle.scene_kind.specs.Kind.{parse, kind}
+use Rattle.scene_kind.specs.Kind.{pieces, kind}
 use Rattle.scene.specs.Contract.{sized}
 
 -- of a section whose byte stands at a position, if its flag is 1: where its rows begin, and how many there are
@@ -79,30 +79,30 @@ topOf s g x p =
     part 0 5 (getD s 0 0) ∷ all (getD s 1 0) ∷ groupsFlag s ∷ g .count ∷ x .reserved ∷ switchesFlag s ∷ x .count ∷ p .reserved ∷ presetsFlag s ∷ p .count ∷ g .reserved ∷ []
 
 abbrev pub treeOf : List ℕ → Section (List ℕ) → Section Family → Section Family → Scene
-treeOf s g x p = record { top = topOf s g x p; groups = g .rows; «switch_groups» = x .rows; presets = p .rows }
+treeOf s g x p = sceneIs (topOf s g x p) (g .rows) (x .rows) (p .rows)
 
 abbrev pub tree : {s : List ℕ} {p : Places} → Found s p → Scene
 tree {s} f = treeOf s (f .in-groups) (f .in-switches) (f .in-presets)
 
 -- of a body whose sections were found: its record, its sizes, its tally, the room for its rows, and what filling the tables leaves
 pub record Recorded (s : List ℕ) (p : Places) (r : MpegH3dAudioScene) : Type 0 where
-  pub is : (f : Found s p) → r ≡ sceneOf (tree f .top) (tail (p .k) s)
+  pub is : (f : Found s p) → r ≡ sceneOf (tree f .0) (tail (p .k) s)
 
 pub record Counted (s : List ℕ) (p : Places) (r : Sizes) : Type 0 where
   pub is : (f : Found s p) → sized r ≡ sizes kind (record { tree = tree f; before = p .k })
 
 pub record Zeros (s : List ℕ) (p : Places) (r : ℕ) : Type 0 where
-  pub is : (f : Found s p) → r ≡ K.zeros (tree f)
+  pub is : (f : Found s p) → r ≡ kind .zeros (tree f)
 
 pub record Rooms (s : List ℕ) (p : Places) (lent : Lent) : Type 0 where
-  pub has : (f : Found s p) → lacking (needs (tables (tree f))) lent ≡ none
+  pub has : (f : Found s p) → lacking (needs (tables pieces (tree f .1))) lent ≡ none
 
 pub record Stored (s : List ℕ) (p : Places) (lent after : Lent) : Type 0 where
-  pub is : (f : Found s p) → after ≡ filled (tables (tree f)) lent
+  pub is : (f : Found s p) → after ≡ filled (tables pieces (tree f .1)) lent
 
 abbrev pub walks : List ℕ → Walk → Type 0
 walks s (W.Done p) = Found s p
-walks s (W.Short x) = run parse s 0 ≡ short x
+walks s (W.Short x) = run (kind .program) s 0 ≡ short x
 
 pub record Walks (s : List ℕ) (r : Walk) : Type 0 where
   pub finds : walks s r
@@ -116,7 +116,7 @@ pub record Bare (s : List ℕ) (p : Places) : Type 0 where
 
 abbrev pub looks : List ℕ → Look → Type 0
 looks s (L.Bare p) = Bare s p
-looks s (L.Short x) = run parse s 0 ≡ short x
+looks s (L.Short x) = run (kind .program) s 0 ≡ short x
 looks s L.Rows = 2 ≤ length s
 
 pub record Looks (s : List ℕ) (r : Look) : Type 0 where

@@ -20,6 +20,7 @@ use Rattle.wire.proofs.Running.{RunsOn, Told, runs-on}
 use Rattle.frame.specs.Kind.{Lent}
 use Rattle.frame.specs.Numbers.{accepted, refuses}
 use Rattle.frame.specs.Entry.{leaves, onto, into, Sizes, needs, lacking, room, first, others, filled, judging, sizes, placing, reading, measuring, tallying, gives, trail, writing}
+use Rattle.frame.specs.Body.{layouts, parse, placed, tables, zeros, heeds, heededRows, table}
 use Rattle.frame.specs.Claims.{Lowest, rows-agree, none-read, Claims}
 use Rattle.frame.proofs.Judged.{was, ran-well, measured as was-measured}
 use Rattle.frame.proofs.Lawful.{Samples}
@@ -29,12 +30,11 @@ use Rattle.switch_groups.specs.Layout.{member, switchGroup}
 use Rattle.presets.specs.Layout.{preset}
 use Rattle.scene_kind.specs.declared.rows.MpegH3dAudioScene.{MpegH3dAudioScene}
 use Rattle.scene_kind.specs.Layout as T
-use Rattle.scene_kind.specs.Rows.{section, sceneOf, Scene, tables, needed}
+use Rattle.scene_kind.specs.Rows.{section, sceneOf, Scene, needed}
 use Rattle.scene_kind.specs.Read as R
 use Rattle.scene_kind.specs.Read.{Section}
-use Rattle.scene_kind.specs.Kind.{parse, zeros, table, value, heeded, kind}
-use Rattle.scene_kind.proofs.Format.{switchRows, presetRows}
-use Rattle.scene_kind.proofs.Lawful.{lawful}
+use Rattle.scene_kind.specs.Kind.{pieces, kind}
+use Rattle.scene_kind.proofs.Lawful.{switchRows, presetRows, lawful}
 use Rattle.scene_kind.proofs.Mirrored.{mirrored}
 
 -- 5F 07 E1 85 E0 83 83: one switch group, whose one member is its default
@@ -69,7 +69,7 @@ abbrev pub sized : (groups switches members presets conditions : ℕ) → ℕ �
 sized g s m p c k = record { tables = needed g s m p c; before = k }
 
 samples : Samples kind
-unfolding reading into judging placing run measuring onto sizes tallying kind parse reads put puts split total bytes pass _>>=_ many pair T.groups T.switchGroups T.presets tables zeros tally shown sum firsts flatMap needs lacking room first others filled flatten each cells ones
+unfolding reading into judging placing run measuring onto sizes tallying kind parse reads put puts split total bytes pass _>>=_ many pair T.groups T.switchGroups T.presets tables zeros tally shown sum firsts flatMap needs lacking room first others filled flatten each cells ones placed layouts
 samples = record {
   lent = [] ∷ (9 ∷ 9 ∷ 9 ∷ 9 ∷ 9 ∷ 9 ∷ 9 ∷ 9 ∷ 9 ∷ 9 ∷ []) ∷ (9 ∷ 9 ∷ 9 ∷ []) ∷ [] ∷ [] ∷ [];
   one = 0x5F ∷ 0x07 ∷ 0xE1 ∷ 0x85 ∷ 0xE0 ∷ 0x83 ∷ 0x83 ∷ [];
@@ -110,7 +110,7 @@ same-bytes body out lent after m b e l = claims .round .writes-what-is-read body
 -- two bodies that agree in the Rust's structs and in the trailing bytes are one body
 pub one-body : (body body′ : List ℕ) (lent lent′ after after′ : Lent) (m m′ : MpegH3dAudioScene) → Every Byte body → Every Byte body′
     → reading kind body lent ≡ leaves (accepted m) after → reading kind body′ lent′ ≡ leaves (accepted m′) after′
-    → value m after body ≡ value m′ after′ body′ → trail kind m body ≡ trail kind m′ body′ → body ≡ body′
+    → kind .value m after body ≡ kind .value m′ after′ body′ → trail kind m body ≡ trail kind m′ body′ → body ≡ body′
 unfolding kind
 one-body body body′ lent lent′ after after′ m m′ b b′ e e′ v t = claims .round .apart body body′ lent lent′ m m′ after after′ b b′ e e′ (λ i. record { value = v i; trailing = t i })
 
@@ -120,11 +120,11 @@ unfolding sizes kind tables needs
 sized-so body z e =
     let (s, j, q) = was-measured kind body z e in
     let t = s .tree in
-    let g = length (t .groups) in
-    let x = length (parents switchGroup (t .«switch_groups»)) in
-    let m = length (kids (t .«switch_groups»)) in
-    let p = length (parents preset (t .presets)) in
-    let c = length (kids (t .presets)) in
+    let g = length (t .1 .0) in
+    let x = length (parents switchGroup (t .1 .1 .0)) in
+    let m = length (kids (t .1 .1 .0)) in
+    let p = length (parents preset (t .1 .1 .1 .0)) in
+    let c = length (kids (t .1 .1 .1 .0)) in
     (g, x, m, p, c, sym (subst (λ (z : Sizes). sized g x m p c (z .before) ≡ z) q refl))
 
 pub lacks-room : (body : List ℕ) (lent : Lent) (t r : ℕ)
@@ -157,8 +157,8 @@ without-groups m count reserved = record {
   trailing = m .trailing;
 }
 
-alike : (m : MpegH3dAudioScene) (count count′ reserved reserved′ : ℕ) → heeded (without-groups m count reserved) ≡ heeded (without-groups m count′ reserved′)
-unfolding heeded cells shown T.groups T.switchGroups T.presets flatten has each
+alike : (m : MpegH3dAudioScene) (count count′ reserved reserved′ : ℕ) → kind .heeded (without-groups m count reserved) ≡ kind .heeded (without-groups m count′ reserved′)
+unfolding kind heeds layouts cells shown T.groups T.switchGroups T.presets flatten has each
 alike m count count′ reserved reserved′ = go (m .«switch_groups» .present) (m .presets .present)
   where
     with : Bool → Bool → MpegH3dAudioScene
@@ -174,7 +174,7 @@ alike m count count′ reserved reserved′ = go (m .«switch_groups» .present)
       trailing = m .trailing;
     }
 
-    go : (s p : Bool) → heeded (without-groups (with s p) count reserved) ≡ heeded (without-groups (with s p) count′ reserved′)
+    go : (s p : Bool) → kind .heeded (without-groups (with s p) count reserved) ≡ kind .heeded (without-groups (with s p) count′ reserved′)
     go true true = refl
     go true false = refl
     go false true = refl
@@ -183,7 +183,7 @@ alike m count count′ reserved reserved′ = go (m .«switch_groups» .present)
 pub absent-groups : (m : MpegH3dAudioScene) (count count′ reserved reserved′ : ℕ) (groups switches members presets conditions store out : List ℕ)
     → writing kind (without-groups m count reserved) (groups ∷ switches ∷ members ∷ presets ∷ conditions ∷ []) store out
     ≡ writing kind (without-groups m count′ reserved′) (groups ∷ switches ∷ members ∷ presets ∷ conditions ∷ []) store out
-unfolding kind
+unfolding kind heededRows
 absent-groups m count count′ reserved reserved′ groups switches members presets conditions store out =
     claims .writing .unread (without-groups m count reserved) (without-groups m count′ reserved′) _ _ store out (alike m count count′ reserved reserved′)
     (rows-agree refl (λ i. refl) (rows-agree refl (λ i. refl) (rows-agree refl (λ i. refl) (rows-agree refl (λ i. refl) (rows-agree refl (λ i. refl) none-read)))))
@@ -203,7 +203,7 @@ section-absent {A} flag r w ones p e d =
     let (z, _) = takes-ret (not-there _ _ (eqb flag 1) e d) in
     (sym (ap (λ (v : Section A). v .reserved) z), sym (ap (λ (v : Section A). v .count) z))
 
-absent-so : (t : Scene) (bs : List ℕ) (run : Payload) → Takes parse 0 t bs → Absent (sceneOf (t .top) run)
+absent-so : (t : Scene) (bs : List ℕ) (run : Payload) → Takes (kind .program) 0 t bs → Absent (sceneOf (t .0) run)
 unfolding R.sceneOver
 absent-so t bs run d =
     let u₀ = takes-split {B = Scene} u8 _ (subst (λ (p : Prog Scene). Takes p 0 t bs) mirrored d) in
@@ -211,17 +211,17 @@ absent-so t bs run d =
     let u₂ = takes-split {B = Scene} (R.section (part 7 1 (u₀ .value)) 1 7 1 R.group) _ (u₁ .second) in
     let u₃ = takes-split {B = Scene} (R.section (part 6 1 (u₀ .value)) 3 5 7 R.switchGroup) _ (u₂ .second) in
     let (p, e, z) = map-takes {B = Scene} (R.section (part 5 1 (u₀ .value)) 3 5 7 R.preset) _ (u₃ .second) in
-    subst (λ (t : Scene). Absent (sceneOf (t .top) run)) e (record {
+    subst (λ (t : Scene). Absent (sceneOf (t .0) run)) e (record {
       groups = λ a. section-absent _ 1 7 1 R.group a (u₂ .first);
       switches = λ a. section-absent _ 3 5 7 R.switchGroup a (u₃ .first);
       presets = λ a. section-absent _ 3 5 7 R.preset a z;
     })
 
 pub absent-read : (body : List ℕ) (lent after : Lent) (m : MpegH3dAudioScene) → reading kind body lent ≡ leaves (accepted m) after → Absent m
-unfolding kind
+unfolding kind placed each
 absent-read body lent after m e =
     let w = was kind body lent m after e in
-    let d = run-takes parse body 0 (ran-well kind body (w .sound) (w .judges) .reads) (omega arith) in
+    let d = run-takes (kind .program) body 0 (ran-well kind body (w .sound) (w .judges) .reads) (omega arith) in
     subst Absent (w .top-is) (absent-so (w .sound .tree) _ _ d)
 
 -- ---- of tables that were read: the lists of their rows stand one after the other
@@ -280,13 +280,13 @@ section-listed {A} P flag r w ones p h {at} {v} {bs} d = go (eqb flag 1) d
     go false d = let (e, _) = takes-ret d in subst (λ (v : Section A). (v .count ≡ length (v .rows)) × Every P (v .rows)) e (refl, all-nil)
 
 record Listed-so (t : Scene) : Type 0 where
-  groups : getD (t .top) 3 0 ≡ length (t .groups)
-  switches : getD (t .top) 6 0 ≡ length (t .«switch_groups»)
-  presets : getD (t .top) 9 0 ≡ length (t .presets)
-  members : Every (Told switchGroup) (t .«switch_groups»)
-  conditions : Every (Told preset) (t .presets)
+  groups : getD (t .0) 3 0 ≡ length (t .1 .0)
+  switches : getD (t .0) 6 0 ≡ length (t .1 .1 .0)
+  presets : getD (t .0) 9 0 ≡ length (t .1 .1 .1 .0)
+  members : Every (Told switchGroup) (t .1 .1 .0)
+  conditions : Every (Told preset) (t .1 .1 .1 .0)
 
-listed-so : (t : Scene) (bs : List ℕ) → Takes parse 0 t bs → Listed-so t
+listed-so : (t : Scene) (bs : List ℕ) → Takes (kind .program) 0 t bs → Listed-so t
 unfolding R.sceneOver
 listed-so t bs d =
     let u₀ = takes-split {B = Scene} u8 _ (subst (λ (p : Prog Scene). Takes p 0 t bs) mirrored d) in
@@ -304,32 +304,32 @@ pub record Lists (m : MpegH3dAudioScene) (after : Lent) (members conditions : �
   pub members-run : RunsOn switchGroup 0 (each (λ i. row 9 (at 9 (table 1 after) i)) 0 (m .«switch_groups» .count)) members
   pub conditions-run : RunsOn preset 0 (each (λ i. row 7 (at 7 (table 3 after) i)) 0 (m .presets .count)) conditions
 
-lists-so : (t : Scene) (lent : Lent) (run : Payload) → Listed-so t → Lists (sceneOf (t .top) run) (filled (tables t) lent) (length (kids (t .«switch_groups»))) (length (kids (t .presets)))
+lists-so : (t : Scene) (lent : Lent) (run : Payload) → Listed-so t → Lists (sceneOf (t .0) run) (filled (tables pieces (t .1)) lent) (length (kids (t .1 .1 .0))) (length (kids (t .1 .1 .1 .0)))
 unfolding filled tables first others
 lists-so t lent run h =
-    let ss = parents switchGroup (t .«switch_groups») in
-    let ps = parents preset (t .presets) in
+    let ss = parents switchGroup (t .1 .1 .0) in
+    let ps = parents preset (t .1 .1 .1 .0) in
     record {
-      members-run = runs-on switchRows switch-first switch-count (t .«switch_groups») (drop (length (flatten ss)) (table 1 lent)) (h .switches) (h .members);
-      conditions-run = runs-on presetRows preset-first preset-count (t .presets) (drop (length (flatten ps)) (table 3 lent)) (h .presets) (h .conditions);
+      members-run = runs-on switchRows switch-first switch-count (t .1 .1 .0) (drop (length (flatten ss)) (table 1 lent)) (h .switches) (h .members);
+      conditions-run = runs-on presetRows preset-first preset-count (t .1 .1 .1 .0) (drop (length (flatten ps)) (table 3 lent)) (h .presets) (h .conditions);
     }
 
 pub read-lists : (body : List ℕ) (lent after : Lent) (m : MpegH3dAudioScene) → reading kind body lent ≡ leaves (accepted m) after
     → (members : ℕ) × (conditions : ℕ) × (k : ℕ) × (measuring kind body ≡ accepted (sized (m .groups .count) (m .«switch_groups» .count) members (m .presets .count) conditions k)) × Lists m after members conditions
-unfolding kind measuring onto sizes tables needs
+unfolding kind measuring onto sizes tables needs placed each
 read-lists body lent after m e =
     let w = was kind body lent m after e in
     let t = w .sound .tree in
-    let d = run-takes parse body 0 (ran-well kind body (w .sound) (w .judges) .reads) (omega arith) in
+    let d = run-takes (kind .program) body 0 (ran-well kind body (w .sound) (w .judges) .reads) (omega arith) in
     let h = listed-so t _ d in
-    let x = length (kids (t .«switch_groups»)) in
-    let y = length (kids (t .presets)) in
+    let x = length (kids (t .1 .1 .0)) in
+    let y = length (kids (t .1 .1 .1 .0)) in
     let k = w .sound .before in
-    let z : measuring kind body ≡ accepted (sized (getD (t .top) 3 0) (getD (t .top) 6 0) x (getD (t .top) 9 0) y k) = ap (onto (sizes kind)) (w .judges)
-    ∙ λ i. accepted (sized (sym (h .groups) i) ((parents-long switchRows (t .«switch_groups») ∙ sym (h .switches)) i) x ((parents-long presetRows (t .presets) ∙ sym (h .presets)) i) y k) in (
+    let z : measuring kind body ≡ accepted (sized (getD (t .0) 3 0) (getD (t .0) 6 0) x (getD (t .0) 9 0) y k) = ap (onto (sizes kind)) (w .judges)
+    ∙ λ i. accepted (sized (sym (h .groups) i) ((parents-long switchRows (t .1 .1 .0) ∙ sym (h .switches)) i) x ((parents-long presetRows (t .1 .1 .1 .0) ∙ sym (h .presets)) i) y k) in (
       x,
       y,
       k,
       subst (λ (m : MpegH3dAudioScene). measuring kind body ≡ accepted (sized (m .groups .count) (m .«switch_groups» .count) x (m .presets .count) y k)) (w .top-is) z,
-      subst (λ (l : Lent). Lists m l x y) (w .after-is) (subst (λ (m : MpegH3dAudioScene). Lists m (filled (tables t) lent) x y) (w .top-is) (lists-so t lent _ h)),
+      subst (λ (l : Lent). Lists m l x y) (w .after-is) (subst (λ (m : MpegH3dAudioScene). Lists m (filled (tables pieces (t .1)) lent) x y) (w .top-is) (lists-so t lent _ h)),
     )

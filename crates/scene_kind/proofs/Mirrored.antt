@@ -11,16 +11,17 @@ use Rattle.wire.specs.Prog.{Prog, ret, look, u8, bytes, many, _>>=_}
 use Rattle.wire.specs.Act.{pick}
 use Rattle.wire.specs.Layout.{end, one, optional, num, reserved, flag, Columns, blank, put, puts, reads, row, flat, broken, Family}
 use Rattle.wire.proofs.Runs.{bind-assoc}
+use Rattle.frame.specs.Body.{parse}
 use Rattle.scene_groups.specs.Layout as G
 use Rattle.pairs.specs.Layout.{pair}
 use Rattle.switch_groups.specs.Layout as S
 use Rattle.conditions.specs.Layout as C
 use Rattle.presets.specs.Layout as P
 use Rattle.scene_kind.specs.Layout as T
-use Rattle.scene_kind.specs.Rows.{Scene}
+use Rattle.scene_kind.specs.Rows.{Scene, sceneIs}
 use Rattle.scene_kind.specs.Read as R
 use Rattle.scene_kind.specs.Read.{given, all, Section, section, sceneOver}
-use Rattle.scene_kind.specs.Kind.{parse}
+use Rattle.scene_kind.specs.Kind.{kind}
 
 -- ---- a group, from its last part back: the columns F so far are 0 in the parts that are left
 
@@ -157,14 +158,11 @@ preset-so = λ i. broken P.preset (condition-so i)
 -- ---- the body, from the presets back: the columns g so far have the section as an absent one
 
 module _ (G : Prog (List ℕ)) (S P : Prog Family) where
-  abbrev built : List ℕ → List (List ℕ) → List Family → List Family → Scene
-  built top gs ss ps = record { top = top; groups = gs; «switch_groups» = ss; presets = ps }
-
   abbrev to-presets : List (List ℕ) → List Family → Columns → Prog Scene
-  to-presets gs ss h = many (h 9) P >>= λ ps. ret (built (row 11 h) gs ss ps)
+  to-presets gs ss h = many (h 9) P >>= λ ps. ret (sceneIs (row 11 h) gs ss ps)
 
   abbrev with-presets : Columns → List (List ℕ) → List Family → Section Family → Prog Scene
-  with-presets g gs ss p = ret (built (g 0 ∷ g 1 ∷ g 2 ∷ g 3 ∷ g 4 ∷ g 5 ∷ g 6 ∷ p .reserved ∷ g 8 ∷ p .count ∷ g 10 ∷ []) gs ss (p .rows))
+  with-presets g gs ss p = ret (sceneIs (g 0 ∷ g 1 ∷ g 2 ∷ g 3 ∷ g 4 ∷ g 5 ∷ g 6 ∷ p .reserved ∷ g 8 ∷ p .count ∷ g 10 ∷ []) gs ss (p .rows))
 
   presets-so : (g : Columns) (gs : List (List ℕ)) (ss : List Family) → g 7 ≡ 7 → g 9 ≡ 0 → reads T.presets g >>= to-presets gs ss ≡ section (g 8) 3 5 7 P >>= with-presets g gs ss
   unfolding T.presets reads puts put split total section u8 many _>>=_ each
@@ -173,14 +171,14 @@ module _ (G : Prog (List ℕ)) (S P : Prog Family) where
       go : (x : Bool) → _≡_ {A = Prog Scene} ((pick x (reads (one (reserved 3 7 ∷ num 5 9 ∷ []) end) g) (ret g) >>= λ g. ret g) >>= to-presets gs ss)
           (pick x (u8 >>= λ b. many (part 0 5 b) P >>= λ l. ret (record { reserved = part 5 3 b; count = part 0 5 b; rows = l })) (ret (record { reserved = 7; count = 0; rows = [] })) >>= with-presets g gs ss)
       go true = λ i. look 1 (λ b. sym (bind-assoc (many (part 0 5 (getD b 0 0)) P) (λ l. ret (record { reserved = part 5 3 (getD b 0 0); count = part 0 5 (getD b 0 0); rows = l })) (with-presets g gs ss)) i)
-      go false = λ i. many (e₉ i) P >>= λ ps. ret (built (g 0 ∷ g 1 ∷ g 2 ∷ g 3 ∷ g 4 ∷ g 5 ∷ g 6 ∷ e₇ i ∷ g 8 ∷ e₉ i ∷ g 10 ∷ []) gs ss ps)
+      go false = λ i. many (e₉ i) P >>= λ ps. ret (sceneIs (g 0 ∷ g 1 ∷ g 2 ∷ g 3 ∷ g 4 ∷ g 5 ∷ g 6 ∷ e₇ i ∷ g 8 ∷ e₉ i ∷ g 10 ∷ []) gs ss ps)
 
   abbrev to-switches : List (List ℕ) → Columns → Prog Scene
   to-switches gs g = many (g 6) S >>= λ ss. reads T.presets g >>= to-presets gs ss
 
   abbrev with-switches : Columns → List (List ℕ) → Section Family → Prog Scene
   with-switches f gs s =
-      section (f 8) 3 5 7 P >>= λ p. ret (built (f 0 ∷ f 1 ∷ f 2 ∷ f 3 ∷ s .reserved ∷ f 5 ∷ s .count ∷ p .reserved ∷ f 8 ∷ p .count ∷ f 10 ∷ []) gs (s .rows) (p .rows))
+      section (f 8) 3 5 7 P >>= λ p. ret (sceneIs (f 0 ∷ f 1 ∷ f 2 ∷ f 3 ∷ s .reserved ∷ f 5 ∷ s .count ∷ p .reserved ∷ f 8 ∷ p .count ∷ f 10 ∷ []) gs (s .rows) (p .rows))
 
   switches-so : (f : Columns) (gs : List (List ℕ)) → f 4 ≡ 7 → f 6 ≡ 0 → f 7 ≡ 7 → f 9 ≡ 0 → reads T.switchGroups f >>= to-switches gs ≡ section (f 5) 3 5 7 S >>= with-switches f gs
   unfolding T.switchGroups reads puts put split total section u8 many _>>=_
@@ -197,7 +195,7 @@ module _ (G : Prog (List ℕ)) (S P : Prog Family) where
       go true = λ i. look 1 (λ b. ((λ i. many (part 0 5 (getD b 0 0)) S >>= λ ss. presets-so (counted b) gs ss e₇ e₉ i) ∙ sym (bind-assoc (many (part 0 5 (getD b 0 0)) S) (λ l. ret (sec b l)) (with-switches f gs))) i)
       go false =
           (λ i. many (f 6) S >>= λ ss. presets-so f gs ss e₇ e₉ i)
-          ∙ (λ i. many (e₆ i) S >>= λ ss. section (f 8) 3 5 7 P >>= λ p. ret (built (f 0 ∷ f 1 ∷ f 2 ∷ f 3 ∷ e₄ i ∷ f 5 ∷ e₆ i ∷ p .reserved ∷ f 8 ∷ p .count ∷ f 10 ∷ []) gs ss (p .rows)))
+          ∙ (λ i. many (e₆ i) S >>= λ ss. section (f 8) 3 5 7 P >>= λ p. ret (sceneIs (f 0 ∷ f 1 ∷ f 2 ∷ f 3 ∷ e₄ i ∷ f 5 ∷ e₆ i ∷ p .reserved ∷ f 8 ∷ p .count ∷ f 10 ∷ []) gs ss (p .rows)))
 
   abbrev to-groups : Columns → Prog Scene
   to-groups f = many (f 3) G >>= λ gs. reads T.switchGroups f >>= to-switches gs
@@ -205,7 +203,7 @@ module _ (G : Prog (List ℕ)) (S P : Prog Family) where
   abbrev with-groups : Columns → Section (List ℕ) → Prog Scene
   with-groups f g =
       section (f 5) 3 5 7 S >>= λ s. section (f 8) 3 5 7 P >>= λ p.
-      ret (built (f 0 ∷ f 1 ∷ f 2 ∷ g .count ∷ s .reserved ∷ f 5 ∷ s .count ∷ p .reserved ∷ f 8 ∷ p .count ∷ g .reserved ∷ []) (g .rows) (s .rows) (p .rows))
+      ret (sceneIs (f 0 ∷ f 1 ∷ f 2 ∷ g .count ∷ s .reserved ∷ f 5 ∷ s .count ∷ p .reserved ∷ f 8 ∷ p .count ∷ g .reserved ∷ []) (g .rows) (s .rows) (p .rows))
 
   groups-so : reads T.groups T.absent >>= to-groups ≡ sceneOver G S P
   unfolding T.groups reads puts put split total section sceneOver u8 many _>>=_
@@ -226,10 +224,10 @@ module _ (G : Prog (List ℕ)) (S P : Prog Family) where
       go a b false = switches-so (headed a b) [] refl refl refl refl
 
 -- the body reads as the Rust's `parse`, over the layouts of its rows
-pub parse-over : parse ≡ sceneOver (flat 27 G.group) S.switchGroups P.presets
-unfolding parse
+pub parse-over : kind .program ≡ sceneOver (flat 27 G.group) S.switchGroups P.presets
+unfolding kind parse reads _>>=_
 parse-over = groups-so (flat 27 G.group) S.switchGroups P.presets
 
 -- and with those of its rows
-pub mirrored : parse ≡ R.scene
+pub mirrored : kind .program ≡ R.scene
 mirrored = parse-over ∙ (λ i. sceneOver (group-so i) (switch-so i) (preset-so i))

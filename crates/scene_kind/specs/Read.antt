@@ -8,7 +8,7 @@ use Rattle.wire.specs.Bits.{part}
 use Rattle.wire.specs.Prog.{Prog, ret, u8, bytes, many, _>>=_}
 use Rattle.wire.specs.Act.{pick}
 use Rattle.wire.specs.Layout.{Family, blank}
-use Rattle.scene_kind.specs.Rows.{Scene}
+use Rattle.scene_kind.specs.Rows.{Scene, sceneIs}
 
 -- the n columns of an optional part: what the program reads if the flag is 1, else 0
 abbrev pub given : ℕ → ℕ → Prog (List ℕ) → Prog (List ℕ)
@@ -123,12 +123,7 @@ sceneOver group switchGroup preset = do
   g ← section (part 7 1 flags) 1 7 1 group
   s ← section (part 6 1 flags) 3 5 7 switchGroup
   p ← section (part 5 1 flags) 3 5 7 preset
-  ret (record {
-    top = part 0 5 flags ∷ all id ∷ part 7 1 flags ∷ g .count ∷ s .reserved ∷ part 6 1 flags ∷ s .count ∷ p .reserved ∷ part 5 1 flags ∷ p .count ∷ g .reserved ∷ [];
-    groups = g .rows;
-    «switch_groups» = s .rows;
-    presets = p .rows;
-  })
+  ret (sceneIs (part 0 5 flags ∷ all id ∷ part 7 1 flags ∷ g .count ∷ s .reserved ∷ part 6 1 flags ∷ s .count ∷ p .reserved ∷ part 5 1 flags ∷ p .count ∷ g .reserved ∷ []) (g .rows) (s .rows) (p .rows))
 
 abbrev pub scene : Prog Scene
 scene = sceneOver group switchGroup preset

@@ -5,11 +5,9 @@ use lib.ListN.{getD}
 use lib.Dec.{eqb}
 use Rattle.wire.specs.Bits.{bit}
 use Rattle.wire.specs.declared.rows.Payload.{Payload}
-use Rattle.wire.specs.Layout.{of, Family, parents, kids}
-use Rattle.frame.specs.Kind.{Rows, Bound, bounded}
+use Rattle.wire.specs.Layout.{Family}
+use Rattle.frame.specs.Kind.{Bound, bounded}
 use Rattle.frame.specs.Entry.{Need}
-use Rattle.switch_groups.specs.Layout.{switchGroup}
-use Rattle.presets.specs.Layout.{preset}
 use Rattle.scene_kind.specs.declared.rows.Section.{Section}
 use Rattle.scene_kind.specs.declared.rows.MpegH3dAudioScene.{MpegH3dAudioScene}
 
@@ -65,22 +63,16 @@ bounds m =
     ∷ bounded 256 (m .«reserved_presets») ∷ bounded 65536 (m .presets .count)
     ∷ bounded 256 (m .«reserved_groups») ∷ bounded 65536 (m .trailing .offset) ∷ bounded 65536 (m .trailing .length) ∷ []
 
--- ---- what is read: the 11 columns, the groups, and the switch groups and presets each with its own rows
+-- ---- what is read: the groups, the switch groups and the presets, the last two each with its own rows; and the 11 columns with them
 
-pub record Scene : Type 0 where
-  pub top : List ℕ
-  pub groups : List (List ℕ)
-  pub «switch_groups» : List Family
-  pub presets : List Family
+abbrev pub Lists : Type 0
+Lists = List (List ℕ) × (List Family × (List Family × Unit {0}))
 
-unfoldable pub tables : Scene → List Rows
-tables t =
-    record { number = 1; columns = 27; rows = t .groups }
-    ∷ record { number = 2; columns = 9; rows = parents switchGroup (t .«switch_groups») }
-    ∷ record { number = 3; columns = 2; rows = kids (t .«switch_groups») }
-    ∷ record { number = 4; columns = 7; rows = parents preset (t .presets) }
-    ∷ record { number = 5; columns = 13; rows = kids (t .presets) }
-    ∷ []
+abbrev pub Scene : Type 0
+Scene = List ℕ × Lists
+
+abbrev pub sceneIs : List ℕ → List (List ℕ) → List Family → List Family → Scene
+sceneIs top groups switches presets = (top, (groups, (switches, (presets, tt))))
 
 -- the five tables by their numbers and columns (document 01, "Row tables"), and the rows that each needs
 abbrev pub needed : (groups switches members presets conditions : ℕ) → List Need

@@ -1,8 +1,8 @@
 -- The layouts write the scene body section after section.
 use Prim.Native.Nat.{ℕ, _+_, _*_, _/_, _^_, _≤_, _<_}
-use mathlib.Core.List.{List, [], _∷_, _++_, map, flatten}
-use mathlib.Core.Bool.{Bool, true, false}
-use mathlib.Core.Path.{_≡_, refl, sym, subst}
+use mathlib.Core.List.{List, [], _∷_, _++_, append-nil, map, flatten}
+use mathlib.Core.Bool.{Bool, true, false, _&&_}
+use mathlib.Core.Path.{_≡_, refl, sym, subst, _∙_}
 use native.Mathlib.Omega.{arith}
 use native.Mathlib.Nat.{le-div-iff-mul-le}
 use lib.ListN.{length}
@@ -10,24 +10,27 @@ use lib.Dec.{leb, ltb}
 use borrow.Author.Tests.{ltb-true, leb-true, le-leb}
 use Rattle.wire.specs.Lists.{each}
 use Rattle.wire.specs.Bits.{Field, fit}
-use Rattle.wire.specs.Act.{Act, byte, when, pick, rows}
+use Rattle.wire.specs.Act.{Act, demand, byte, when, pick, rows}
+use Rattle.wire.specs.declared.pen.Fault.the-variants as F
 use Rattle.wire.specs.Pen.{Checked, Ready, Filled}
 use Rattle.wire.specs.declared.pen.Fault.{Fault}
 use Rattle.wire.specs.declared.pen.Pen.{Pen}
 use Rattle.wire.specs.declared.pen.Pen.the-variants.{At, Stop}
 use Rattle.wire.proofs.Acts.{and-both}
 use Rattle.wire.proofs.Passes.{then, more, here, nothing, stopped, byte-fits, Filling, fill-start, fill-none}
-use Rattle.wire.specs.Layout.{of, cells, matches, matched, shown, writes, every, has}
+use Rattle.wire.specs.Layout.{cells, matches, matched, shown, writes, every, has}
 use Rattle.frame.specs.Kind.{Lent}
+use Rattle.frame.specs.Body.{layouts, inside, pieced, beyond, table}
+use Rattle.frame.proofs.Pieces.{and-true}
 use Rattle.scene_kind.specs.declared.rows.Section.{Section}
 use Rattle.scene_kind.specs.declared.rows.MpegH3dAudioScene.{MpegH3dAudioScene}
 use Rattle.scene_kind.specs.Layout as T
-use Rattle.scene_kind.specs.Rows.{fields}
-use Rattle.scene_kind.specs.Kind.{actsOf, acts}
-use Rattle.scene_writing.specs.Write.{countByte, sectionActs, within, allWithin, sceneActs}
+use Rattle.scene_kind.specs.Kind.{kind}
+use Rattle.scene_writing.specs.Write.{headBytes, countByte, groupActs, switchActs, presetActs, groupsActs, switchGroupsActs, presetsActs, sectionActs, within, allWithin, sceneActs}
 
-pub scene-acts : (m : MpegH3dAudioScene) (lent : Lent) (store : List ℕ) → acts m lent store ≡ sceneActs m lent
-unfolding acts actsOf sceneActs sectionActs within T.groups T.switchGroups T.presets cells matches matched shown writes every has flatten rows each
+-- the actions of the kind, section after section
+pub scene-acts : (m : MpegH3dAudioScene) (lent : Lent) (store : List ℕ) → kind .acts m lent store ≡ sceneActs m lent
+unfolding kind layouts inside pieced beyond sceneActs sectionActs within T.groups T.switchGroups T.presets cells matches matched shown writes every has flatten rows each
 scene-acts m lent store = go m (m .groups .present) (m .«switch_groups» .present) (m .presets .present)
   where
     with : MpegH3dAudioScene → Bool → Bool → Bool → MpegH3dAudioScene
@@ -43,15 +46,27 @@ scene-acts m lent store = go m (m .groups .present) (m .«switch_groups» .prese
       trailing = m .trailing;
     }
 
-    go : (m : MpegH3dAudioScene) (a b c : Bool) → actsOf (of (fields (with m a b c))) lent ≡ sceneActs (with m a b c) lent
-    go m true true true = refl
-    go m true true false = refl
-    go m true false true = refl
-    go m true false false = refl
-    go m false true true = refl
-    go m false true false = refl
-    go m false false true = refl
-    go m false false false = refl
+    -- the last piece is empty: neither its rows nor its bytes count
+    ends : MpegH3dAudioScene → (Bool → Bool) → (List Act → List Act) → List Act
+    ends m t f =
+        demand F.Range (within (m .groups) 27 (table 0 lent) && (within (m .«switch_groups») 9 (table 1 lent) && t (within (m .presets) 7 (table 3 lent))))
+        ∷ demand F.Field true
+        ∷ demand F.Empty true
+        ∷ map byte (headBytes m)
+        ++ (groupsActs m (groupActs lent) ++ (switchGroupsActs m (switchActs lent) ++ f (presetsActs m (presetActs lent))))
+
+    go : (m : MpegH3dAudioScene) (a b c : Bool) → kind .acts (with m a b c) lent store ≡ sceneActs (with m a b c) lent
+    go m a b c = case a b c ∙ λ i. ends (with m a b c) (λ t. and-true t i) (λ q. append-nil q i)
+      where
+        case : (a b c : Bool) → kind .acts (with m a b c) lent store ≡ ends (with m a b c) (λ t. t && true) (λ q. q ++ [])
+        case true true true = refl
+        case true true false = refl
+        case true false true = refl
+        case true false false = refl
+        case false true true = refl
+        case false true false = refl
+        case false false true = refl
+        case false false false = refl
 
 -- ---- a section in the check pass
 
@@ -119,11 +134,11 @@ module _ (s : Section) (fs : List Field) (row : ℕ → List Act) {n : ℕ} {l :
 
 -- ---- the actions of the layouts, checked as those of the sections
 
-pub written-as : (m : MpegH3dAudioScene) (lent : Lent) (store : List ℕ) {k : ℕ} {p r : Pen} → Checked (sceneActs m lent) k p r → Checked (acts m lent store) k p r
+pub written-as : (m : MpegH3dAudioScene) (lent : Lent) (store : List ℕ) {k : ℕ} {p r : Pen} → Checked (sceneActs m lent) k p r → Checked (kind .acts m lent store) k p r
 written-as m lent store {k} {p} {r} w = subst (λ (q : List Act). Checked q k p r) (sym (scene-acts m lent store)) w
 
-pub ready-as : (m : MpegH3dAudioScene) (lent : Lent) (store : List ℕ) {n : ℕ} {l : List ℕ} → Ready (acts m lent store) n l → Ready (sceneActs m lent) n l
+pub ready-as : (m : MpegH3dAudioScene) (lent : Lent) (store : List ℕ) {n : ℕ} {l : List ℕ} → Ready (kind .acts m lent store) n l → Ready (sceneActs m lent) n l
 ready-as m lent store {n} {l} w = subst (λ (q : List Act). Ready q n l) (scene-acts m lent store) w
 
-pub filled-as : (m : MpegH3dAudioScene) (lent : Lent) (store : List ℕ) {n r : ℕ} {l o : List ℕ} → Filled (sceneActs m lent) n l r o → Filled (acts m lent store) n l r o
+pub filled-as : (m : MpegH3dAudioScene) (lent : Lent) (store : List ℕ) {n r : ℕ} {l o : List ℕ} → Filled (sceneActs m lent) n l r o → Filled (kind .acts m lent store) n l r o
 filled-as m lent store {n} {r} {l} {o} w = subst (λ (q : List Act). Filled q n l r o) (sym (scene-acts m lent store)) w

@@ -7,10 +7,15 @@ use lib.Dec.{leb}
 use Rattle.wire.specs.Bits.{Field, field, bit}
 use Rattle.wire.specs.Act.{Act, demand, byte, when, pick, rows}
 use Rattle.wire.specs.declared.pen.Fault.the-variants as F
+use Rattle.wire.specs.Layout.{at, flatActs, familyActs}
 use Rattle.frame.specs.Kind.{Lent}
+use Rattle.frame.specs.Body.{table}
+use Rattle.scene_groups.specs.Layout.{group}
+use Rattle.switch_groups.specs.Layout.{member, switchGroup}
+use Rattle.conditions.specs.Layout.{condition}
+use Rattle.presets.specs.Layout.{preset}
 use Rattle.scene_kind.specs.declared.rows.Section.{Section}
 use Rattle.scene_kind.specs.declared.rows.MpegH3dAudioScene.{MpegH3dAudioScene}
-use Rattle.scene_kind.specs.Kind.{table, groupActs, switchActs, presetActs}
 
 -- ---- the bytes of the top record
 
@@ -23,6 +28,17 @@ headBytes m = flagsByte m ∷ (field 8 (m .«scene_info_id») ∷ []) ∷ []
 -- r reserved bits above a count of w bits
 abbrev pub countByte : (r w : ℕ) → ℕ → Section → List Field
 countByte r w reserved s = field r reserved ∷ field w (s .count) ∷ []
+
+-- ---- the rows of the tables
+
+abbrev pub groupActs : Lent → ℕ → List Act
+groupActs lent i = flatActs group (at 27 (table 0 lent) i)
+
+abbrev pub switchActs : Lent → ℕ → List Act
+switchActs lent = familyActs switchGroup 2 member (table 1 lent) (table 2 lent)
+
+abbrev pub presetActs : Lent → ℕ → List Act
+presetActs lent = familyActs preset 13 condition (table 3 lent) (table 4 lent)
 
 -- ---- the sections
 

@@ -26,7 +26,7 @@ use Rattle.wire.proofs.Forms.{Form, last, hole, form-go, form-means, fo
 use Rattle.wire.proofs.Rowed.{Wide, Good, row-on, on-all, after-demands, each-as, each-clean, each-wide, found, room-for}
 
 -- a payload with its length stands behind the head; no column steers it
-abbrev pub bear-form : Bearing → Form
+abbrev pub bear-form : Bearing → Form (Payload × Unit {0}) (List ℕ × Unit {0})
 bear-form b = hole (b .head) 0 (λ v. sized) (last end)
 
 unfoldable pub bear-test : Bearing → Bool
@@ -43,7 +43,7 @@ module _ (x : Bear) where
   abbrev b : Bearing
   b = x .row
 
-  abbrev form : Form
+  abbrev form : Form (Payload × Unit {0}) (List ℕ × Unit {0})
   form = bear-form b
 
   pub record Bear-tests : Type 0 where

@@ -1,6 +1,6 @@
 -- Laws of rows that are laid out as a syntax table, of every layout that passes one computed test (`proper`): what is written is read, what is read is written, a
 -- row means what its actions say, and its columns fit.
-use Prim.Native.Nat.{ℕ, zero, suc, _+_, _*_, _/_, _%_, _^_, _≤_, _<_}
+use Prim.Native.Nat.{ℕ, zero, suc, _+_, _-_, _*_, _/_, _%_, _^_, _≤_, _<_}
 use mathlib.Core.List.{List, [], _∷_, _++_, map, map-append, flatten}
 use mathlib.Core.Bool.{Bool, true, false, not, _&&_, _||_}
 use mathlib.Core.Logic.{_⊎_, inl, inr}
@@ -12,13 +12,13 @@ use lib.Seq.{slice}
 use lib.Dec.{eqb, leb, ltb}
 use borrow.Author.Tests.{eqb-true, eq-eqb, leb-true, le-leb, ltb-true, not-true}
 use Rattle.wire.specs.Lists.{Every, Byte}
-use Rattle.wire.specs.Bits.{Field, field, fit, join, split, total, widths}
+use Rattle.wire.specs.Bits.{isFlag, Field, field, fit, join, split, total, widths}
 use Rattle.wire.specs.Prog.{Prog, look, Out, done, short, needing, run, passed, _>>=_}
 use Rattle.wire.specs.declared.rows.Payload.{Payload}
 use Rattle.wire.specs.Act.{Act, demand, byte, pick}
 use Rattle.wire.specs.declared.pen.Fault.the-variants as F
 use Rattle.wire.specs.Pen.{clean, bytes}
-use Rattle.wire.specs.Layout.{Cell, num, reserved, flag, less-one, Layout, end, line, word, choose, follows, judged, width, column, stored, loaded, flagged, counted, Columns, set, put, puts, reads, fieldOf, byteOf, writes, shown, matches, every, has, mix, columns}
+use Rattle.wire.specs.Layout.{Cell, num, reserved, flag, unset, less-one, Layout, end, line, word, choose, follows, judged, width, column, stored, loaded, flagged, counted, Columns, set, put, puts, reads, fieldOf, byteOf, writes, shown, matches, every, has, mix, columns}
 use Rattle.wire.proofs.Fields.{wider, fits-cons, cons-fits, split-fits, split-widths, join-split, split-join}
 use Rattle.wire.proofs.Lists.{every-head, every-tail, every-left, every-right}
 use Rattle.wire.proofs.Acts.{and-both, both-and, Makes, makes-both, clean-append, clean-both, bytes-append}
@@ -139,6 +139,7 @@ abbrev pub slim : Cell → Bool
 slim (num w k) = leb w 16
 slim (reserved w k) = leb w 16
 slim (flag k) = true
+slim (unset k) = true
 slim (less-one w k) = leb w 15
 
 -- what a table has is good for the cell
@@ -188,22 +189,37 @@ apart-both a b c x y j e = elim (either (has j a) (has j b) (sym (has-append j a
 
 -- ---- a byte of cells
 
+-- a flag upside down is a flag if it fits
+turned-flag : (v : ℕ) → pick (isFlag v) (1 - v) v < 2 → v ≤ 1
+turned-flag v h = go (isFlag v) refl h
+  where
+    go : (b : Bool) → isFlag v ≡ b → pick b (1 - v) v < 2 → v ≤ 1
+    go true e h = leb-true v 1 e
+    go false e h = omega arith
+
 back-loaded : (c : Cell) (v : ℕ) → v < 2 ^ width c → stored c (loaded c v) ≡ v
 back-loaded (num w k) v h = refl
 back-loaded (reserved w k) v h = refl
 back-loaded (flag k) v h = refl
+back-loaded (unset k) zero h = refl
+back-loaded (unset k) (suc zero) h = refl
+back-loaded (unset k) (suc (suc v)) h = absurd (omega (arith, h))
 back-loaded (less-one w k) v h = omega arith
 
 loaded-back : (c : Cell) (v : ℕ) → sound c v ≡ true → loaded c (stored c v) ≡ v
 loaded-back (num w k) v e = refl
 loaded-back (reserved w k) v e = refl
 loaded-back (flag k) v e = refl
+loaded-back (unset k) zero e = refl
+loaded-back (unset k) (suc zero) e = refl
+loaded-back (unset k) (suc (suc v)) e = let h = leb-true (suc (suc v)) 1 (and-both (isFlag (suc (suc v))) true e .0) in absurd (omega (arith, h))
 loaded-back (less-one w k) v e = let h = leb-true 1 v e in omega arith
 
 loaded-counts : (c : Cell) (v : ℕ) → v < 2 ^ width c → sound c (loaded c v) ≡ true
 loaded-counts (num w k) v h = refl
 loaded-counts (reserved w k) v h = refl
 loaded-counts (flag k) v h = both-and (le-leb v 1 (omega (arith, h))) refl
+loaded-counts (unset k) v h = both-and (le-leb (1 - v) 1 (omega arith)) refl
 loaded-counts (less-one w k) v h = le-leb 1 (v + 1) (omega arith)
 
 suits-all : (c : Cell) (t : List ℕ) (x : ℕ) → suits c t ≡ true → (stored c (getD t x 0) < 2 ^ width c) × (sound c (getD t x 0) ≡ true)
@@ -772,6 +788,7 @@ fit-flags (c ∷ cs) g e = let (a, b) = fits-cons (width c) (stored c (g (column
     go (num w k) v h = refl
     go (reserved w k) v h = refl
     go (flag k) v h = le-leb v 1 (omega (arith, h))
+    go (unset k) v h = le-leb v 1 (turned-flag v h)
     go (less-one w k) v h = refl
 
 -- ---- how large a column can be
@@ -789,6 +806,7 @@ eight-slim : (c : Cell) → width c ≤ 8 → slim c ≡ true
 eight-slim (num w k) h = le-leb w 16 (omega arith)
 eight-slim (reserved w k) h = le-leb w 16 (omega arith)
 eight-slim (flag k) h = refl
+eight-slim (unset k) h = refl
 eight-slim (less-one w k) h = le-leb w 15 (omega arith)
 
 eights-narrow : (css : List (List Cell)) → eights css ≡ true → narrow (flatten css) ≡ true
@@ -846,6 +864,7 @@ cells-small (c ∷ cs) g n s e j h =
     go (num w k) v n s h = omega (arith, wider w 16 (leb-true w 16 n) h)
     go (reserved w k) v n s h = omega (arith, wider w 16 (leb-true w 16 n) h)
     go (flag k) v n s h = omega (arith, h)
+    go (unset k) v n s h = let z = turned-flag v h in omega arith
     go (less-one w k) v n s h = omega (arith, wider w 15 (leb-true w 15 n) h)
 
 -- sound cells have flags that are flags, and counts that are not 0
@@ -872,6 +891,7 @@ bytewide [] = true
 bytewide (num w k ∷ cs) = leb w 8 && bytewide cs
 bytewide (reserved w k ∷ cs) = leb w 8 && bytewide cs
 bytewide (flag k ∷ cs) = bytewide cs
+bytewide (unset k ∷ cs) = bytewide cs
 bytewide (less-one w k ∷ cs) = false
 
 pub cells-byte : (cs : List Cell) (g : Columns) → bytewide cs ≡ true → fit (map (fieldOf g) cs) ≡ true → (j : ℕ) → has j (columns cs) ≡ true → g j < 256
@@ -889,7 +909,42 @@ cells-byte (c ∷ cs) g u e j h =
     go (num w k) u v h = let (a, b) = and-both (leb w 8) (bytewide cs) u in (b, omega (arith, wider w 8 (leb-true w 8 a) h))
     go (reserved w k) u v h = let (a, b) = and-both (leb w 8) (bytewide cs) u in (b, omega (arith, wider w 8 (leb-true w 8 a) h))
     go (flag k) u v h = (u, omega (arith, h))
+    go (unset k) u v h = let z = turned-flag v h in (u, omega arith)
     go (less-one w k) u v h = clash u refl
+
+pub bytewide-both : (cs ds : List Cell) → bytewide cs ≡ true → bytewide ds ≡ true → bytewide (cs ++ ds) ≡ true
+unfolding bytewide
+bytewide-both [] ds a b = b
+bytewide-both (num w k ∷ cs) ds a b = let (x, y) = and-both (leb w 8) (bytewide cs) a in both-and x (bytewide-both cs ds y b)
+bytewide-both (reserved w k ∷ cs) ds a b = let (x, y) = and-both (leb w 8) (bytewide cs) a in both-and x (bytewide-both cs ds y b)
+bytewide-both (flag k ∷ cs) ds a b = bytewide-both cs ds a b
+bytewide-both (unset k ∷ cs) ds a b = bytewide-both cs ds a b
+bytewide-both (less-one w k ∷ cs) ds a b = clash a refl
+
+-- a layout of such cells
+unfoldable pub in-bytes : Layout → Bool
+in-bytes end = true
+in-bytes (line css l) = bytewide (flatten css) && in-bytes l
+in-bytes (word k l) = false
+in-bytes (choose k is p q l) = in-bytes p && (in-bytes q && in-bytes l)
+in-bytes (follows c j t x l) = bytewide (c ∷ []) && in-bytes l
+in-bytes (judged p l) = in-bytes p && in-bytes l
+
+pub bytes-shown : (l : Layout) (g : Columns) → in-bytes l ≡ true → bytewide (shown l g) ≡ true
+unfolding in-bytes shown bytewide
+bytes-shown end g e = refl
+bytes-shown (line css l) g e = let (a, b) = and-both (bytewide (flatten css)) (in-bytes l) e in bytewide-both (flatten css) (shown l g) a (bytes-shown l g b)
+bytes-shown (word k l) g e = clash e refl
+bytes-shown (choose k is p q l) g e =
+    let (a, e₀) = and-both (in-bytes p) _ e in
+    let (b, c) = and-both (in-bytes q) (in-bytes l) e₀ in
+    bytewide-both (pick (is (g k)) (shown p g) (shown q g)) (shown l g) (go (is (g k)) (bytes-shown p g a) (bytes-shown q g b)) (bytes-shown l g c)
+  where
+    go : (b : Bool) → bytewide (shown p g) ≡ true → bytewide (shown q g) ≡ true → bytewide (pick b (shown p g) (shown q g)) ≡ true
+    go true x y = x
+    go false x y = y
+bytes-shown (follows c j t x l) g e = let (a, b) = and-both (bytewide (c ∷ [])) (in-bytes l) e in bytewide-both (c ∷ []) (shown l g) a (bytes-shown l g b)
+bytes-shown (judged p l) g e = let (a, b) = and-both (in-bytes p) (in-bytes l) e in bytewide-both (shown p g) (shown l g) (bytes-shown p g a) (bytes-shown l g b)
 
 -- ---- nothing is passed over unseen
 

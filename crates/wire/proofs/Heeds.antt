@@ -13,7 +13,7 @@ use Rattle.wire.proofs.Forms.{Form, last, form-shown, form-matches, for
 use Rattle.wire.proofs.Rowed.{Flat, flat-proper, flat-below, flats, row-on, on-all, Nest, Nest-tests, nest-tests, broken-form}
 
 -- the columns that writing reads are kept
-pub kept-on : (n : ℕ) (x : Form) → below n (form-all x) ≡ true → (f init : Columns) → On (columns (form-shown x f)) f (of (row n (mix (columns (form-shown x f)) f init)))
+pub kept-on : (n : ℕ) {T M : Type 0} (x : Form T M) → below n (form-all x) ≡ true → (f init : Columns) → On (columns (form-shown x f)) f (of (row n (mix (columns (form-shown x f)) f init)))
 kept-on n x b f init j e = go (has j (form-all x)) refl
   where
     ks : List ℕ
@@ -42,7 +42,7 @@ module _ (n : Nest) where
   abbrev b : Broken
   b = n .row
 
-  abbrev x : Form
+  abbrev x : Form (List (List ℕ) × Unit {0}) (List (List ℕ) × Unit {0})
   x = broken-form b (flats (n .kid))
 
   row-kept : (f : Columns) (j : ℕ) → has j (columns (form-shown x f)) ≡ true → f j ≡ of (brokenHeeds b f) j

@@ -85,7 +85,7 @@ row-on n ks b r g e j h = go (ltb j n) refl
     go true q = ap (λ (r : List ℕ). of r j) (sym e) ∙ each-in g 0 n j (ltb-true j n q) ∙ ap g (zero-add j)
     go false q = let l = ltb-false j n q in clash h (below-has n ks b j (omega arith))
 
-pub on-all : (x : Form) (f g : Columns) → On (form-all x) f g → On (columns (form-shown x f)) f g
+pub on-all : {T M : Type 0} (x : Form T M) (f g : Columns) → On (form-all x) f g → On (columns (form-shown x f)) f g
 on-all x f g h j e = go (has j (form-all x)) refl
   where
     go : (b : Bool) → has j (form-all x) ≡ b → f j ≡ g j
@@ -226,7 +226,7 @@ module _ (x : Flat) where
 
 -- ---- rows with rows of another table at one break
 
-abbrev pub broken-form : {A C : Type 0} → Broken → Codec A C → Form
+abbrev pub broken-form : {A C : Type 0} → Broken → Codec A C → Form (List A × Unit {0}) (List C × Unit {0})
 broken-form b m = hole (b .head) (b .count) (list m) (last (b .tail))
 
 -- the one test of a row with a break

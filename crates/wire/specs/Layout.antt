@@ -14,11 +14,12 @@ use Rattle.wire.specs.declared.rows.Payload.{Payload}
 use Rattle.wire.specs.declared.pen.Fault.{Fault}
 use Rattle.wire.specs.declared.pen.Fault.the-variants as F
 
--- a field of w bits with its column: a number, reserved bits, a flag of one bit, a count that is stored minus one
+-- a field of w bits with its column: a number, reserved bits, a flag of one bit, a flag that stands upside down, a count that is stored minus one
 pub data Cell : Type 0 where
   num : ℕ → ℕ → Cell
   reserved : ℕ → ℕ → Cell
   flag : ℕ → Cell
+  unset : ℕ → Cell
   less-one : ℕ → ℕ → Cell
 
 -- line: the bytes of one read, each a list of cells, the first the highest
@@ -55,25 +56,29 @@ abbrev pub width : Cell → ℕ
 width (num w k) = w
 width (reserved w k) = w
 width (flag k) = 1
+width (unset k) = 1
 width (less-one w k) = w
 
 abbrev pub column : Cell → ℕ
 column (num w k) = k
 column (reserved w k) = k
 column (flag k) = k
+column (unset k) = k
 column (less-one w k) = k
 
--- what stands in the byte for a column, and the column for what stands there
+-- what stands in the byte for a column, and the column for what stands there; what is no flag cannot be turned, and does not fit
 abbrev pub stored : Cell → ℕ → ℕ
 stored (num w k) v = v
 stored (reserved w k) v = v
 stored (flag k) v = v
+stored (unset k) v = pick (isFlag v) (1 - v) v
 stored (less-one w k) v = v - 1
 
 abbrev pub loaded : Cell → ℕ → ℕ
 loaded (num w k) v = v
 loaded (reserved w k) v = v
 loaded (flag k) v = v
+loaded (unset k) v = 1 - v
 loaded (less-one w k) v = v + 1
 
 -- what is demanded of it before any field: a flag is 0 or 1 (5); a count that is stored minus one is not 0 (7)
@@ -81,12 +86,14 @@ abbrev pub flagged : Cell → ℕ → Bool
 flagged (num w k) v = true
 flagged (reserved w k) v = true
 flagged (flag k) v = isFlag v
+flagged (unset k) v = isFlag v
 flagged (less-one w k) v = true
 
 abbrev pub counted : Cell → ℕ → Bool
 counted (num w k) v = true
 counted (reserved w k) v = true
 counted (flag k) v = true
+counted (unset k) v = true
 counted (less-one w k) v = leb 1 v
 
 -- its reserved bits at 0
@@ -94,6 +101,7 @@ abbrev pub idle : Cell → ℕ → ℕ
 idle (num w k) v = 0
 idle (reserved w k) v = zeros w v
 idle (flag k) v = 0
+idle (unset k) v = 0
 idle (less-one w k) v = 0
 
 -- ---- the columns of a row, by their numbers

@@ -29,7 +29,6 @@ returns-2 c =
     measures-so (rw (c .before .before .w .given .1) at (c .before .before .before .before .find-lists .ensures) .finds) (omega (arith, c .before .before .before .before .before .if1 .left)) (c .sizes-at .ensures)
 
 returns-3 : tie.Need-returns-3
-unfolding kind
 returns-3 c =
     measures-short kind _ (omega (arith, c .before .before .before .before .if1 .left)) (rw (c .before .w2 .given .1) at (c .before .before .before .find-lists .ensures) .finds)
 

@@ -46,7 +46,6 @@ returns-2 c =
     c .before .before .before .before .before .before .before .before .opened-found .ensures
 
 returns-3 : tie.Need-returns-3
-unfolding kind
 returns-3 c =
     record { gives = reads-unmeasured kind _ (measures-short kind _ (omega (arith, c .before .before .before .before .before .if1 .left)) (rw (c .before .w2 .given .1) at (c .before .before .before .walk-lists .ensures) .finds)) _ }
 
