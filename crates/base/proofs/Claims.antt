@@ -1,43 +1,48 @@
 -- What is claimed of the base body: every claim of every kind (frame, specs/Claims), and the few that matter most spelled out for its record.
-use Prim.Native.Nat.{ℕ, _-_, _≤_, _<_}
+use Prim.Native.Nat.{ℕ, _≤_, _<_}
 use mathlib.Core.Path.{_≡_, refl, sym, ap, subst, _∙_}
-use mathlib.Core.List.{List, [], _∷_, _++_}
-use mathlib.Core.Bool.{Bool, true, false, not}
+use mathlib.Core.List.{List, [], _∷_, _++_, flatten}
+use mathlib.Core.Bool.{false, not}
+use mathlib.Core.Option.{Option, none, some}
 use native.Mathlib.Omega.{arith}
 use lib.ListN.{length, getD, drop}
 use lib.Dec.{lit<, eqb}
-use lib.Count.{ones, onesIn}
-use Rattle.wire.specs.Lists.{Every, all-nil, all-cons, Byte}
-use Rattle.wire.specs.Bits.{part}
-use Rattle.wire.specs.Prog.{done, run, u8, pass, _>>=_, span, Within}
+use lib.Count.{ones}
+use Rattle.wire.specs.Lists.{Every, all-nil, all-cons, each, sum, Byte}
+use Rattle.wire.specs.Bits.{part, total, split}
+use Rattle.wire.specs.Prog.{run, u8, pass, _>>=_, Within}
+use Rattle.wire.specs.Act.{pick}
+use Rattle.wire.specs.Layout.{put, puts, reads, shown, cells, tally, has}
 use Rattle.wire.specs.declared.rows.Payload.{Payload}
-use Rattle.wire.proofs.Runs.{run-split, run-ret, u8-done}
+use Rattle.wire.proofs.Fields.{part-below}
 use Rattle.frame.specs.declared.Tallied.{Tallied}
 use Rattle.frame.specs.declared.Written.{Written}
 use Rattle.frame.specs.Numbers.{accepted, refuses, refusal, tallied, written}
-use Rattle.frame.specs.Entry.{leaves, onto, into, Sizes, needs, lacking, filled, judging, sizes, placing, reading, measuring, tallying, gives, trail, writing, Reads, Measures, Tallies, Writes}
+use Rattle.frame.specs.Entry.{leaves, onto, into, Sound, Sizes, needs, lacking, filled, judging, sizes, placing, reading, measuring, tallying, gives, trail, writing, Reads, Measures, Tallies, Writes}
+use Rattle.frame.specs.Body as B
+use Rattle.frame.specs.Body.{layouts, carried, parse, placed, given, tables, zeros, heeds, heededRows}
 use Rattle.frame.specs.Claims.{none-read, Claims}
 use Rattle.frame.proofs.Numbers.{refusal-once, tallied-once, written-once}
 use Rattle.frame.proofs.Judged.{not-refused, was, ran-well}
 use Rattle.frame.proofs.Lawful.{Samples}
 use Rattle.frame.proofs.Proofs as P
-use Rattle.base.specs.declared.rows.CompatibleSets.{CompatibleSets}
 use Rattle.base.specs.declared.rows.MpegH3dAudio.{MpegH3dAudio}
 use Rattle.base.specs.declared.Sizes as Base
 use Rattle.base.specs.declared.Reading.{Reading}
 use Rattle.base.specs.declared.Reading.the-variants as R
 use Rattle.base.specs.declared.Measured.{Measured}
 use Rattle.base.specs.declared.Measured.the-variants as M
-use Rattle.base.specs.Rows.{absentSets, listedSets, withSets}
-use Rattle.base.specs.Read.{sets, fields, parse}
-use Rattle.base.proofs.Bodies.{noSets, noneListed}
-use Rattle.base.specs.Tally.{tally}
-use Rattle.base.specs.Write.{value, heeded, payloads, kind}
+use Rattle.base.specs.Layout.{head}
+use Rattle.base.specs.Rows.{Tree, setsOf}
+use Rattle.base.specs.Kind.{kind}
 use Rattle.base.specs.Contract.{read, measured}
-use Rattle.base.proofs.Laws.{lawful}
+use Rattle.base.proofs.Bodies.{noSets, noneListed}
+use Rattle.base.proofs.Lawful.{lawful}
+use Rattle.base.proofs.Mirrored.{turned}
+use Rattle.base.proofs.Parsed.{BodyRun, body-run, record-so}
 
 samples : Samples kind
-unfolding reading into judging placing run measuring onto sizes tallying kind parse fields sets u8 pass _>>=_ tally ones onesIn needs lacking filled
+unfolding reading into judging placing run measuring onto sizes tallying kind parse head reads put puts split total carried u8 pass _>>=_ placed tables layouts cells shown flatten each sum tally zeros ones needs lacking filled
 samples = record {
   lent = [];
   one = 0x05 ∷ 0xBF ∷ 0xC6 ∷ 0x00 ∷ [];
@@ -77,8 +82,7 @@ same-bytes body out m b e l = claims .round .writes-what-is-read body [] m [] ou
 
 -- two bodies that agree in the Rust's struct and in the trailing bytes are one body
 pub one-body : (body body′ : List ℕ) (m m′ : MpegH3dAudio) → Every Byte body → Every Byte body′ → reading kind body [] ≡ leaves (accepted m) [] → reading kind body′ [] ≡ leaves (accepted m′) []
-    → value m [] body ≡ value m′ [] body′ → trail kind m body ≡ trail kind m′ body′ → body ≡ body′
-unfolding kind
+    → kind .value m [] body ≡ kind .value m′ [] body′ → trail kind m body ≡ trail kind m′ body′ → body ≡ body′
 one-body body body′ m m′ b b′ e e′ v t = claims .round .apart body body′ [] [] m m′ [] [] b b′ e e′ (λ i. record { value = v i; trailing = t i })
 
 -- a short refusal stands while the body is shorter than the need that it names
@@ -86,46 +90,49 @@ pub stands : (body more : List ℕ) (n : ℕ) → reading kind body [] ≡ leave
     → reading kind (body ++ more) [] ≡ leaves (refuses 1 (n ∷ [])) []
 stands body more n e l h = claims .more-bytes .short-stands body more [] n e l h
 
+-- the place of the sets, if there are any
+abbrev payloads : MpegH3dAudio → List Payload
+payloads m = pick (m .«compatible_sets» .present) (m .«compatible_sets» .indications ∷ []) []
+
+given-so : (x : Option Payload) → given x ≡ pick (setsOf x .present) (setsOf x .indications ∷ []) []
+given-so none = refl
+given-so (some p) = refl
+
+body-of : (body : List ℕ) (s : Sound Tree) → judging kind body ≡ accepted s → BodyRun body (s .tree) (s .before)
+body-of body s j = body-run body (ran-well kind body s j .reads)
+
 -- the trailing run and the sets of a record that was read stand in the body
 pub inside : (body : List ℕ) (m : MpegH3dAudio) → reading kind body [] ≡ leaves (accepted m) [] → Every (Within body) (m .trailing ∷ payloads m)
-unfolding kind payloads
+unfolding kind B.payloads
 inside body m e =
     let (s, j, q, a, h) = claims .bounded .payloads-inside body [] m [] e in
-    subst (λ (x : MpegH3dAudio). Every (Within body) (m .trailing ∷ payloads x)) q h
+    let w = body-of body s j in
+    let l : kind .payloads (s .tree) ≡ payloads m = ap (λ (t : Tree). given (t .1 .0)) (w .is) ∙ given-so (w .listing) ∙ sym (ap payloads (sym q ∙ record-so body w (m .trailing))) in
+    subst (λ (l : List Payload). Every (Within body) (m .trailing ∷ l)) l h
 
 -- offset and length of sets that are absent are not read
 abbrev without : MpegH3dAudio → Payload → MpegH3dAudio
-without m p = withSets m (record { present = false; indications = p })
+without m p = record {
+  «profile_level_indication» = m .«profile_level_indication»;
+  «interactivity_enabled» = m .«interactivity_enabled»;
+  «compatible_sets» = record { present = false; indications = p };
+  «reserved_flags» = m .«reserved_flags»;
+  «reserved_layout» = m .«reserved_layout»;
+  «reference_channel_layout» = m .«reference_channel_layout»;
+  trailing = m .trailing;
+}
 
 pub absent-sets : (m : MpegH3dAudio) (p p′ : Payload) (store out : List ℕ) → writing kind (without m p) [] store out ≡ writing kind (without m p′) [] store out
-unfolding kind heeded
+unfolding kind heeds layouts cells shown head flatten has each heededRows
 absent-sets m p p′ store out = claims .writing .unread (without m p) (without m p′) [] [] store out refl none-read
 
 -- bit 0x40 of byte 1 is set exactly if there are no sets
-sets-flag : (a : Bool) (s : List ℕ) (at : ℕ) {x : CompatibleSets} {k : ℕ} → run (sets a) s at ≡ done x k → x .present ≡ not a
-unfolding sets
-sets-flag true s at e = ap (λ (x : CompatibleSets). x .present) (sym (run-ret absentSets s at e .0))
-sets-flag false s at e =
-    let y = run-split u8 _ s at _ _ e in
-    let z = run-split (pass (y .value)) _ s (y .middle) _ _ (y .second) in
-    ap (λ (x : CompatibleSets). x .present) (sym (run-ret (listedSets (span (z .value) (y .value))) s (z .middle) (z .second) .0))
-
-parsed-flag : (s : List ℕ) {m : MpegH3dAudio} {k : ℕ} → run parse s 0 ≡ done m k → m .«compatible_sets» .present ≡ not (eqb (part 6 1 (getD s 1 0)) 1)
-unfolding parse fields
-parsed-flag s e =
-    let x = run-split u8 _ s 0 _ _ e in
-    let y = run-split u8 _ s (x .middle) _ _ (x .second) in
-    let z = run-split u8 _ s (y .middle) _ _ (y .second) in
-    let w = run-split (sets _) _ s (z .middle) _ _ (z .second) in
-    let q = run-ret _ s (w .middle) (w .second) .0 in
-    let b : y .value ≡ getD s 1 0 = u8-done s _ (y .first) .0 ∙ ap (λ (n : ℕ). getD s n 0) (u8-done s 0 (x .first) .1) in
-    ap (λ (m : MpegH3dAudio). m .«compatible_sets» .present) (sym q) ∙ sets-flag _ s (z .middle) (w .first) ∙ ap (λ (n : ℕ). not (eqb (part 6 1 n) 1)) b
-
 pub flag : (body : List ℕ) (m : MpegH3dAudio) → reading kind body [] ≡ leaves (accepted m) [] → m .«compatible_sets» .present ≡ not (eqb (part 6 1 (getD body 1 0)) 1)
-unfolding kind
+unfolding kind placed each
 flag body m e =
     let w = was kind body [] m [] e in
-    ap (λ (x : MpegH3dAudio). x .«compatible_sets» .present) (sym (w .top-is)) ∙ parsed-flag body (ran-well kind body (w .sound) (w .judges) .reads)
+    let r = body-of body (w .sound) (w .judges) in
+    ap (λ (x : MpegH3dAudio). x .«compatible_sets» .present) (sym (w .top-is)) ∙ ap (λ (t : Tree). eqb (getD (t .0) 2 0) 1) (r .is) ∙ turned (part 6 1 (getD body 1 0)) (part-below 6 1 (getD body 1 0))
 
 -- ---- the promises fix the answers themselves
 

@@ -1,6 +1,6 @@
 pub mod Bodies
 pub mod Parsed
 pub mod Stored
-pub mod Format
-pub mod Laws
+pub mod Lawful
+pub mod Mirrored
 pub mod Claims

@@ -1,37 +1,30 @@
--- Reading the base body, line by line as `MpegH3dAudio::parse`.
-use Prim.Native.Nat.{ℕ}
+-- Reading the base body line by line as the Rust: `MpegH3dAudio::parse`. The layouts read the same (proofs/Mirrored).
+use Prim.Native.Nat.{ℕ, _-_}
+use mathlib.Core.List.{List, [], _∷_}
 use mathlib.Core.Bool.{Bool, true, false}
+use mathlib.Core.Option.{Option, none, some}
 use lib.Dec.{eqb}
 use Rattle.wire.specs.Bits.{part}
-use Rattle.wire.specs.Prog.{Prog, ret, u8, pass, _>>=_, span}
-use Rattle.base.specs.declared.rows.CompatibleSets.{CompatibleSets}
-use Rattle.base.specs.declared.rows.MpegH3dAudio.{MpegH3dAudio}
-use Rattle.base.specs.Rows.{absentSets, listedSets}
+use Rattle.wire.specs.Prog.{Prog, ret, u8, pass, span, _>>=_}
+use Rattle.wire.specs.declared.rows.Payload.{Payload}
+use Rattle.base.specs.Rows.{Tree}
 
 -- the flag is upside down: set when there are no sets
-unfoldable pub sets : Bool → Prog CompatibleSets
-sets true = ret absentSets
+unfoldable pub sets : Bool → Prog (Option Payload)
+sets true = ret none
 sets false = do
   count ← u8
   at ← pass count
-  ret (listedSets (span at count))
+  ret (some (span at count))
 
--- the fields of the three bytes; the trailing run is not known yet
-unfoldable pub fields : ℕ → ℕ → ℕ → CompatibleSets → MpegH3dAudio
-fields profile b1 b2 s = record {
-  «profile_level_indication» = profile;
-  «interactivity_enabled» = eqb (part 7 1 b1) 1;
-  «compatible_sets» = s;
-  «reserved_flags» = part 0 6 b1;
-  «reserved_layout» = part 6 2 b2;
-  «reference_channel_layout» = part 0 6 b2;
-  trailing = span 0 0;
-}
+-- the fields of the three bytes; the place of the sets is not known yet
+abbrev pub columnsOf : ℕ → ℕ → ℕ → List ℕ
+columnsOf profile b1 b2 = part 0 8 profile ∷ part 7 1 b1 ∷ (1 - part 6 1 b1) ∷ 0 ∷ 0 ∷ part 0 6 b1 ∷ part 6 2 b2 ∷ part 0 6 b2 ∷ []
 
-unfoldable pub parse : Prog MpegH3dAudio
-parse = do
+unfoldable pub base : Prog Tree
+base = do
   profile ← u8
   b1 ← u8
   b2 ← u8
   s ← sets (eqb (part 6 1 b1) 1)
-  ret (fields profile b1 b2 s)
+  ret (columnsOf profile b1 b2, (s, tt))

@@ -1,21 +1,23 @@
 // The base body (kind 1; H.222.0 2.6.106, Table 2-121): read, measure, tally and write.
-mod parsing;
+pub mod parsing;
 pub mod rows;
 mod writing;
 
 ghost use mathlib.Core.Path.{_≡_};
 ghost use mathlib.Core.List.{[]};
-ghost use Prim.Native.Nat.{_<_};
 ghost use Rattle.frame.specs.Numbers.{tallied, written};
 ghost use Rattle.frame.specs.Entry.{Reads, Measures, Tallies, Writes};
-ghost use Rattle.base.specs.Tally.{tally};
-ghost use Rattle.base.specs.Write.{kind};
+ghost use Rattle.frame.specs.Body.{layouts};
+ghost use Rattle.wire.specs.Layout.{of, tally};
+ghost use Rattle.base.specs.Rows.{fields};
+ghost use Rattle.base.specs.Kind.{pieces, kind};
 ghost use Rattle.base.specs.Contract.{read, measured};
 use frame::Refusal;
 use frame::Tallied;
 use frame::Written;
 use rows::MpegH3dAudio;
-use wire::bits;
+use wire::bits::idle_bits;
+use wire::bits::wide;
 use wire::reads::Ends;
 
 // What reading answers: the top record, its trailing run included.
@@ -59,7 +61,7 @@ pub fn read(body: &[u8]) -> Reading
     }
 }
 
-// The reserved bits at 0, or 2, or 1.
+// The reserved bits at 0, or 2, or 1: all of them stand in the record.
 pub fn tally(body: &[u8]) -> Tallied
     ensures { λ r. ⌜ Tallies kind (now (body .entry)) (tallied r) ⌝ }
 {
@@ -70,13 +72,11 @@ pub fn tally(body: &[u8]) -> Tallied
     }
 }
 
-// The reserved bits at 0 of a record whose fields fit.
 fn zero_bits(m: MpegH3dAudio) -> usize
-    requires { ⌜ (m .«reserved_flags» < 64) × (m .«reserved_layout» < 4) ⌝ }
-    ensures { λ r. ⌜ r ≡ tally m ⌝ }
+    ensures { λ r. ⌜ r ≡ tally (layouts pieces) (of (fields m)) ⌝ }
 {
-    let flags = bits::zero_bits(bits::wide(m.reserved_flags), 6);
-    let layout = bits::zero_bits(bits::wide(m.reserved_layout), 2);
+    let flags = idle_bits(wide(m.reserved_flags), 6);
+    let layout = idle_bits(wide(m.reserved_layout), 2);
     (flags + layout) as usize
 }
 

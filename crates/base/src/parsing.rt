@@ -4,12 +4,14 @@ ghost use mathlib.Core.Bool.{true};
 ghost use Prim.Native.Nat.{_≤_};
 ghost use lib.ListN.{length};
 ghost use Rattle.wire.specs.Prog.{done, run};
-ghost use Rattle.wire.specs.Reads.{endOf, endsOut, isDone, posOf};
+ghost use Rattle.wire.specs.Straight.{ends, ones};
+ghost use Rattle.wire.specs.Reads.{mapOut, endOf, endsOut, isDone, posOf};
 ghost use Rattle.frame.specs.Numbers.{accepted};
 ghost use Rattle.frame.specs.Entry.{Measures};
 ghost use Rattle.frame.specs.Sight.{Tops};
-ghost use Rattle.base.specs.Read.{sets, parse};
-ghost use Rattle.base.specs.Write.{kind};
+ghost use Rattle.base.specs.Rows.{setsOf};
+ghost use Rattle.base.specs.Read.{sets};
+ghost use Rattle.base.specs.Kind.{kind};
 ghost use Rattle.base.specs.Contract.{sized};
 use super::Sizes;
 use super::rows::CompatibleSets;
@@ -20,6 +22,7 @@ use wire::reads::Byte;
 use wire::reads::Ends;
 use wire::reads::Run;
 use wire::reads::byte_at;
+use wire::reads::head;
 use wire::reads::run_at;
 use wire::rows::Payload;
 use wire::rows::trailing_run;
@@ -45,23 +48,22 @@ fn sets_end(body: &[u8], at: usize, absent: bool) -> Ends
     Ends::At(next)
 }
 
+// Where the three bytes before the sets end.
+pub fn head_end(body: &[u8]) -> Ends
+    ensures { λ r. ⌜ endsOut r ≡ ends (ones 3) (now (body .entry)) 0 ⌝ }
+{
+    head(body, 0, 3)
+}
+
 // Where the trailing run begins: k.
 pub fn end(body: &[u8]) -> Ends
-    ensures { λ r. ⌜ endsOut r ≡ endOf (run parse (now (body .entry)) 0) ⌝ }
+    ensures { λ r. ⌜ endsOut r ≡ endOf (run (kind .program) (now (body .entry)) 0) ⌝ }
 {
-    let a = byte_at(body, 0);
-    let Byte::Got(_, n1) = a else {
+    let a = head_end(body);
+    let Ends::At(n) = a else {
         return Ends::Short(a.short());
     };
-    let b = byte_at(body, n1);
-    let Byte::Got(b1, n2) = b else {
-        return Ends::Short(b.short());
-    };
-    let c = byte_at(body, n2);
-    let Byte::Got(_, n3) = c else {
-        return Ends::Short(c.short());
-    };
-    sets_end(body, n3, part(b1, 6, 1) == 1)
+    sets_end(body, n, part(wide(body[1]), 6, 1) == 1)
 }
 
 // ---- the body, once it was measured
@@ -69,7 +71,7 @@ pub fn end(body: &[u8]) -> Ends
 // The compatible sets, if there are any: their count is the fourth byte.
 fn sets_at(body: &[u8], absent: bool) -> CompatibleSets
     requires { ⌜ isDone (run (sets absent) (now body) 3) ≡ true ⌝ }
-    ensures { λ r. ⌜ done r (posOf (run (sets absent) (now (body .entry)) 3)) ≡ run (sets absent) (now (body .entry)) 3 ⌝ }
+    ensures { λ r. ⌜ done r (posOf (run (sets absent) (now (body .entry)) 3)) ≡ mapOut setsOf (run (sets absent) (now (body .entry)) 3) ⌝ }
 {
     if absent {
         CompatibleSets::absent()

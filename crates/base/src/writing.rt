@@ -3,78 +3,53 @@ ghost use mathlib.Core.Path.{_≡_};
 ghost use mathlib.Core.Bool.{true};
 ghost use mathlib.Core.List.{[]};
 ghost use Prim.Native.Nat.{_<_, _^_};
-ghost use Rattle.wire.specs.Bits.{fit, Packed};
 ghost use Rattle.wire.specs.Pen.{reach, Checked, Ready, Filled};
 ghost use Rattle.wire.specs.declared.pen.Pen.the-variants.{At};
 ghost use Rattle.frame.specs.Entry.{whole};
-ghost use Rattle.base.specs.Write.{inside, listed, flagsByte, layoutByte, setsActs, acts, kind};
-ghost use Rattle.base.specs.Contract.{CheckedSets};
+ghost use Rattle.wire.specs.Spell.{Spells, Spelt};
+ghost use Rattle.base.specs.Kind.{kind};
+ghost use Rattle.base.specs.Write.{flagsByte, headFields, inside, listed, setsActs, baseActs, CheckedSets};
 use super::rows::CompatibleSets;
 use super::rows::MpegH3dAudio;
 use wire::bits::fits;
-use wire::bits::fits2;
-use wire::bits::fits3;
 use wire::bits::flag;
-use wire::bits::pack2;
-use wire::bits::pack3;
 use wire::bits::wide;
 use wire::pen;
 use wire::pen::Fault;
 use wire::pen::Pen;
 use wire::rows::in_store;
+use wire::spell::Joined;
+use wire::spell::check_all;
+use wire::spell::fill_all;
+use wire::spell::one;
+use wire::spell::two;
 
-// ---- the two bytes of fields
+// ---- the bytes of the top record
 
-fn flags_fit(m: MpegH3dAudio) -> bool
-    ensures { λ r. ⌜ r ≡ fit (flagsByte m) ⌝ }
+fn flags_byte(m: MpegH3dAudio) -> u32
+    ensures { λ r. ⌜ Spells (flagsByte m) r ⌝ }
 {
     let sets = m.compatible_sets;
-    fits3(
-        flag(m.interactivity_enabled),
-        1,
-        flag(!sets.present),
-        1,
-        wide(m.reserved_flags),
-        6,
-    )
+    Joined::none()
+        .field(flag(m.interactivity_enabled), 1)
+        .field(flag(!sets.present), 1)
+        .field(wide(m.reserved_flags), 6)
+        .spelt()
 }
 
-fn flags_byte(m: MpegH3dAudio) -> u16
-    requires { ⌜ fit (flagsByte m) ≡ true ⌝ }
-    ensures { λ r. ⌜ Packed (flagsByte m) r ⌝ }
+fn head_bytes(m: MpegH3dAudio) -> [u32; 3]
+    ensures { λ r. ⌜ Spelt (headFields m) r ⌝ }
 {
-    let sets = m.compatible_sets;
-    pack3(
-        flag(m.interactivity_enabled),
-        1,
-        flag(!sets.present),
-        1,
-        wide(m.reserved_flags),
-        6,
-    )
-}
-
-fn layout_fits(m: MpegH3dAudio) -> bool
-    ensures { λ r. ⌜ r ≡ fit (layoutByte m) ⌝ }
-{
-    fits2(
-        wide(m.reserved_layout),
-        2,
-        wide(m.reference_channel_layout),
-        6,
-    )
-}
-
-fn layout_byte(m: MpegH3dAudio) -> u16
-    requires { ⌜ fit (layoutByte m) ≡ true ⌝ }
-    ensures { λ r. ⌜ Packed (layoutByte m) r ⌝ }
-{
-    pack2(
-        wide(m.reserved_layout),
-        2,
-        wide(m.reference_channel_layout),
-        6,
-    )
+    [
+        one(wide(m.profile_level_indication)),
+        flags_byte(m),
+        two(
+            wide(m.reserved_layout),
+            2,
+            wide(m.reference_channel_layout),
+            6,
+        ),
+    ]
 }
 
 // ---- the check pass
@@ -104,16 +79,14 @@ fn check_sets(p: Pen, sets: CompatibleSets) -> Pen
     }
 }
 
-// All but the trailing run.
+// All but the trailing run; the range of the sets first, at its start.
 fn check_fields(m: MpegH3dAudio, store: &[u8]) -> Pen
-    ensures { λ r. ⌜ Checked (acts m [] (now (store .entry))) 65539 (At 0) r ⌝ }
+    ensures { λ r. ⌜ Checked (baseActs m (now (store .entry))) 65539 (At 0) r ⌝ }
 {
     let sets = m.compatible_sets;
     if sets_inside(sets, store) {
-        let p1 = pen::byte(Pen::At(0), fits(wide(m.profile_level_indication), 8));
-        let p2 = pen::byte(p1, flags_fit(m));
-        let p3 = pen::byte(p2, layout_fits(m));
-        check_sets(p3, sets)
+        let p = check_all(Pen::At(0), true, &head_bytes(m));
+        check_sets(p, sets)
     } else {
         Pen::Stop(Fault::Range, 0)
     }
@@ -150,14 +123,11 @@ fn fill_sets(sets: CompatibleSets, store: &[u8], out: &mut [u8], n: usize) -> us
 
 // All but the trailing run.
 fn fill_fields(m: MpegH3dAudio, store: &[u8], out: &mut [u8]) -> usize
-    requires { ⌜ Ready (acts m [] (now store)) 0 (now out) ⌝ }
-    ensures { λ r. ⌜ Filled (acts m [] (now (store .entry))) 0 (now (out .entry)) r (now (out .exit)) ⌝ }
+    requires { ⌜ Ready (baseActs m (now store)) 0 (now out) ⌝ }
+    ensures { λ r. ⌜ Filled (baseActs m (now (store .entry))) 0 (now (out .entry)) r (now (out .exit)) ⌝ }
 {
-    let sets = m.compatible_sets;
-    let n1 = pen::put(out, 0, wide(m.profile_level_indication));
-    let n2 = pen::put(out, n1, flags_byte(m));
-    let n3 = pen::put(out, n2, layout_byte(m));
-    fill_sets(sets, store, out, n3)
+    let n = fill_all(out, 0, true, &head_bytes(m));
+    fill_sets(m.compatible_sets, store, out, n)
 }
 
 pub fn fill(m: MpegH3dAudio, store: &[u8], out: &mut [u8]) -> usize

@@ -3,15 +3,18 @@ ghost use mathlib.Core.Path.{_≡_};
 ghost use mathlib.Core.List.{[]};
 ghost use Rattle.wire.specs.Prog.{span};
 ghost use Rattle.base.specs.Rows.{topColumns, topRow};
-ghost use Rattle.base.specs.Write.{kind};
+ghost use Rattle.base.specs.Kind.{kind};
 ghost use Rattle.mpegh_c.specs.Code.{answerCode};
 ghost use Rattle.mpegh_c.specs.Host.{unread, HostReads, HostMeasures, HostTallies, HostWrites};
 use super::codes;
 use base::Measured;
 use base::Reading;
+use base::parsing::head_end;
 use base::rows::CompatibleSets;
 use base::rows::MpegH3dAudio;
 use base::rows::TOP_COLUMNS;
+use frame::Refusal;
+use wire::reads::Ends;
 use wire::rows::Payload;
 use wire::rows::put_row;
 
@@ -20,6 +23,11 @@ use wire::rows::put_row;
 pub extern "C" fn mpegh_base_read(body: &[u8], top: &mut [u16]) -> u64
     ensures { λ r. ⌜ HostReads kind topColumns topRow (now (body .entry)) (now (top .entry)) [] r (now (top .exit)) [] ⌝ }
 {
+    // A body that ends before its sets is refused whatever is lent, and so before anything else.
+    let a = head_end(body);
+    let Ends::At(_) = a else {
+        return codes::refusal_code(Refusal::Short(a.short()));
+    };
     if top.len() < TOP_COLUMNS {
         return unread(body);
     }

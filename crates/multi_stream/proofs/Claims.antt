@@ -1,28 +1,35 @@
 -- What is claimed of the multi-stream body: every claim of every kind (frame, specs/Claims), and the few that matter most spelled out for its record and table 8.
 use Prim.Native.Nat.{ℕ, _+_, _/_, _≤_, _<_}
 use mathlib.Core.Path.{_≡_, refl, sym, ap, subst, _∙_}
-use mathlib.Core.List.{List, [], _∷_, _++_, map, flatten}
-use mathlib.Core.Bool.{false}
+use mathlib.Core.List.{List, [], _∷_, _++_, flatten}
+use mathlib.Core.Bool.{Bool, true, false}
 use mathlib.Core.Logic.{_↔_}
-use mathlib.Core.Option.{Option, none, some}
 use native.Mathlib.Omega.{arith}
 use lib.ListN.{length, getD, drop}
-use lib.Dec.{lit<}
-use lib.Count.{ones, onesIn}
-use Rattle.wire.specs.Lists.{Every, all-nil, all-cons, each, Byte}
-use Rattle.wire.specs.Prog.{run, u8, many, _>>=_}
+use lib.Dec.{eqb, lit<}
+use lib.Count.{ones}
+use borrow.Author.Tests.{eqb-true, eqb-false}
+use Rattle.wire.specs.Lists.{Every, all-nil, all-cons, each, sum, Byte}
+use Rattle.wire.specs.Bits.{part, split, total}
+use Rattle.wire.specs.Prog.{Prog, done, run, u8, many, _>>=_}
 use Rattle.wire.specs.declared.rows.Payload.{Payload}
-use Rattle.wire.proofs.Takes.{run-takes}
+use Rattle.wire.specs.Layout.{at, row, flat, reads, put, puts, shown, cells, tally, has}
+use Rattle.wire.proofs.Fields.{part-below}
+use Rattle.wire.proofs.Takes.{Takes, run-takes, takes-split, takes-ret, map-takes, many-takes, listed-every}
+use Rattle.wire.proofs.Rowed.{Wide, found, flat-grows}
 use Rattle.frame.specs.declared.Tallied.{Tallied}
 use Rattle.frame.specs.declared.Written.{Written}
 use Rattle.frame.specs.Kind.{Lent}
 use Rattle.frame.specs.Numbers.{accepted, refuses, refusal, tallied, written}
-use Rattle.frame.specs.Entry.{no-room, leaves, onto, into, Sizes, Need, needs, lacking, room, first, others, filled, judging, sizes, placing, reading, measuring, tallying, gives, trail, writing, Reads, Measures, Tallies, Writes}
+use Rattle.frame.specs.Entry.{leaves, onto, into, Sizes, Need, needs, lacking, room, first, others, filled, judging, sizes, placing, reading, measuring, tallying, gives, trail, writing, Reads, Measures, Tallies, Writes}
+use Rattle.frame.specs.Body.{layouts, parse, placed, tables, zeros, heeds, heededRows}
 use Rattle.frame.specs.Claims.{Lowest, this, later, rows-agree, none-read, Claims}
 use Rattle.frame.proofs.Numbers.{refusal-once, tallied-once, written-once}
 use Rattle.frame.proofs.Judged.{not-refused, was, ran-well, measured as was-measured}
 use Rattle.frame.proofs.Lawful.{Samples}
+use Rattle.frame.proofs.Tables.{same-rows}
 use Rattle.frame.proofs.Proofs as P
+use Rattle.stream_groups.specs.Layout.{group}
 use Rattle.multi_stream.specs.declared.rows.MultiStreamMain.{MultiStreamMain}
 use Rattle.multi_stream.specs.declared.rows.MpegH3dAudioMultiStream.{MpegH3dAudioMultiStream}
 use Rattle.multi_stream.specs.declared.Sizes as Multi
@@ -30,17 +37,19 @@ use Rattle.multi_stream.specs.declared.Reading.{Reading}
 use Rattle.multi_stream.specs.declared.Reading.the-variants as R
 use Rattle.multi_stream.specs.declared.Measured.{Measured}
 use Rattle.multi_stream.specs.declared.Measured.the-variants as M
-use Rattle.multi_stream.specs.Rows.{groupColumns, row, Main, counted, groupsOf, tables}
-use Rattle.multi_stream.specs.Read.{auxiliary, group, main, parse}
-use Rattle.multi_stream.proofs.Bodies.{twoGroups, twoRows, noGroups}
-use Rattle.multi_stream.specs.Tally.{mainTally}
-use Rattle.multi_stream.specs.Write.{groupAt, value, heeded, kind}
+use Rattle.multi_stream.specs.Layout.{head}
+use Rattle.multi_stream.specs.Rows.{MultiStream}
+use Rattle.multi_stream.specs.Read.{Main}
+use Rattle.multi_stream.specs.Read as Rust
+use Rattle.multi_stream.specs.Kind.{pieces, kind}
 use Rattle.multi_stream.specs.Contract.{needed, sized, read, measured}
-use Rattle.multi_stream.proofs.Row.{Once}
-use Rattle.multi_stream.proofs.Laws.{Grouped, taken, rows-in, lawful}
+use Rattle.multi_stream.proofs.Bodies.{twoGroups, twoRows, noGroups}
+use Rattle.multi_stream.proofs.Lawful.{lawful}
+use Rattle.multi_stream.proofs.Mirrored.{group-so}
+use Rattle.multi_stream.proofs.Parsed.{groups, mainPart, main-there, main-aside, body-run}
 
 samples : Samples kind
-unfolding reading into judging placing run measuring onto sizes tallying kind parse main group auxiliary many u8 _>>=_ tables mainTally ones onesIn needs lacking room first others filled flatten
+unfolding reading into judging placing run measuring onto sizes tallying kind parse reads put puts split total _>>=_ many head group tables zeros tally shown sum needs lacking room first others filled flatten each cells ones placed layouts
 samples = record {
   lent = (9 ∷ 9 ∷ 9 ∷ 9 ∷ 9 ∷ 9 ∷ 9 ∷ 9 ∷ 9 ∷ 9 ∷ 9 ∷ []) ∷ [];
   one = 0x81 ∷ 0x80 ∷ 0x82 ∷ 0x07 ∷ 0x08 ∷ 0x85 ∷ [];
@@ -81,7 +90,7 @@ same-bytes body groups groups′ out m b e l = claims .round .writes-what-is-rea
 -- two bodies that agree in the Rust's structs and in the trailing bytes are one body
 pub one-body : (body body′ : List ℕ) (lent lent′ after after′ : Lent) (m m′ : MpegH3dAudioMultiStream) → Every Byte body → Every Byte body′
     → reading kind body lent ≡ leaves (accepted m) after → reading kind body′ lent′ ≡ leaves (accepted m′) after′
-    → value m after body ≡ value m′ after′ body′ → trail kind m body ≡ trail kind m′ body′ → body ≡ body′
+    → kind .value m after body ≡ kind .value m′ after′ body′ → trail kind m body ≡ trail kind m′ body′ → body ≡ body′
 unfolding kind
 one-body body body′ lent lent′ after after′ m m′ b b′ e e′ v t = claims .round .apart body body′ lent lent′ m m′ after after′ b b′ e e′ (λ i. record { value = v i; trailing = t i })
 
@@ -90,53 +99,80 @@ nothing : {ns : List Need} {lent : Lent} {t r : ℕ} → Lowest ns lent t r → 
 nothing (this h) e = let z : _≡_ {A = ℕ} 0 1 = cc e in omega arith
 nothing (later h d) e = let z : _≡_ {A = ℕ} 0 1 = cc e in omega arith
 
-low : (n : ℕ) (groups : List ℕ) {t r : ℕ} → Lowest (needed n) (groups ∷ []) t r → (t ≡ 8) × (r ≡ n) × (length groups / groupColumns < n)
+low : (n : ℕ) (groups : List ℕ) {t r : ℕ} → Lowest (needed n) (groups ∷ []) t r → (t ≡ 8) × (r ≡ n) × (length groups / 5 < n)
 unfolding room first
 low n groups (this h) = (refl, refl, h)
 low n groups (later h d) = absurd (nothing d refl)
 
 sized-so : (body : List ℕ) (z : Sizes) → measuring kind body ≡ accepted z → (n : ℕ) × (z ≡ sized n (z .before))
 unfolding sizes kind tables needs
-sized-so body z e = let (s, j, q) = was-measured kind body z e in (length (map row (groupsOf (s .tree .main))), sym (subst (λ (z : Sizes). sized (length (map row (groupsOf (s .tree .main)))) (z .before) ≡ z) q refl))
+sized-so body z e = let (s, j, q) = was-measured kind body z e in (length (s .tree .1 .0), sym (subst (λ (z : Sizes). sized (length (s .tree .1 .0)) (z .before) ≡ z) q refl))
 
 pub lacks-room : (body groups : List ℕ) (t r : ℕ)
-    → (reading kind body (groups ∷ []) ≡ leaves (refuses 3 (t ∷ r ∷ [])) (groups ∷ [])) ↔ ((t ≡ 8) × (k : ℕ) × (measuring kind body ≡ accepted (sized r k)) × (length groups / groupColumns < r))
+    → (reading kind body (groups ∷ []) ≡ leaves (refuses 3 (t ∷ r ∷ [])) (groups ∷ [])) ↔ ((t ≡ 8) × (k : ℕ) × (measuring kind body ≡ accepted (sized r k)) × (length groups / 5 < r))
 unfolding room first
 lacks-room body groups t r = (forth, back)
   where
-    forth : reading kind body (groups ∷ []) ≡ leaves (refuses 3 (t ∷ r ∷ [])) (groups ∷ []) → (t ≡ 8) × (k : ℕ) × (measuring kind body ≡ accepted (sized r k)) × (length groups / groupColumns < r)
+    forth : reading kind body (groups ∷ []) ≡ leaves (refuses 3 (t ∷ r ∷ [])) (groups ∷ []) → (t ≡ 8) × (k : ℕ) × (measuring kind body ≡ accepted (sized r k)) × (length groups / 5 < r)
     forth h =
         let (z, e, l) = claims .more-room .no-room body (groups ∷ []) t r .0 h in
         let (n, q) = sized-so body z e in
         let (a, b, c) = low n groups (subst (λ (z : Sizes). Lowest (z .tables) (groups ∷ []) t r) q l) in
-        (a, z .before, e ∙ ap accepted (q ∙ ap (λ (n : ℕ). sized n (z .before)) (sym b)), subst (λ (n : ℕ). length groups / groupColumns < n) (sym b) c)
+        (a, z .before, e ∙ ap accepted (q ∙ ap (λ (n : ℕ). sized n (z .before)) (sym b)), subst (λ (n : ℕ). length groups / 5 < n) (sym b) c)
 
-    back : (t ≡ 8) × (k : ℕ) × (measuring kind body ≡ accepted (sized r k)) × (length groups / groupColumns < r) → reading kind body (groups ∷ []) ≡ leaves (refuses 3 (t ∷ r ∷ [])) (groups ∷ [])
+    back : (t ≡ 8) × (k : ℕ) × (measuring kind body ≡ accepted (sized r k)) × (length groups / 5 < r) → reading kind body (groups ∷ []) ≡ leaves (refuses 3 (t ∷ r ∷ [])) (groups ∷ [])
     back (a, k, e, c) = claims .more-room .no-room body (groups ∷ []) t r .1 (sized r k, e, subst (λ (t : ℕ). Lowest (needed r) (groups ∷ []) t r) (sym a) (this c))
 
--- of a table that was read: its rows are the groups, each either in the main stream or with a location
-read-part : (groups : List ℕ) (o : Option Main) {bs : List ℕ} → Grouped o bs → Every Once (each (groupAt (flatten (map row (groupsOf o)) ++ drop (length (flatten (map row (groupsOf o)))) groups)) 0 (counted o .part .groups))
-unfolding each
-read-part groups none g = all-nil
-read-part groups (some m) g = rw (rows-in (m .groups) _) (g .once)
+-- of a table that was read: its rows are the groups, each either in the main stream or with a location, and not both
+abbrev pub Once : List ℕ → Type 0
+Once r = getD r 1 0 + getD r 2 0 ≡ 1
 
-pub read-table : (body groups groups′ : List ℕ) (m : MpegH3dAudioMultiStream) → reading kind body (groups ∷ []) ≡ leaves (accepted m) (groups′ ∷ []) → Every Once (each (groupAt groups′) 0 (m .main .part .groups))
-unfolding kind filled tables first others
+group-once : (at : ℕ) (r bs : List ℕ) → Takes (flat 5 group) at r bs → Once r
+unfolding Rust.group Rust.auxiliary
+group-once at r bs d =
+    let u = takes-split {B = List ℕ} u8 _ (subst (λ (p : Prog (List ℕ)). Takes p at r bs) group-so d) in
+    let v = part 0 1 (u .value) in
+    let (a, e, z) = map-takes {B = List ℕ} (Rust.auxiliary (eqb v 1)) (λ a. part 1 7 (u .value) ∷ v ∷ a) (u .second) in
+    subst Once e (go v (part-below 0 1 (u .value)) (eqb v 1) refl z)
+  where
+    go : (v : ℕ) → v < 2 → (b : Bool) → eqb v 1 ≡ b → {at : ℕ} {a bs : List ℕ} → Takes (Rust.auxiliary b) at a bs → v + getD a 0 0 ≡ 1
+    go v h true q z = omega (arith, eqb-true v 1 q, ap (λ (l : List ℕ). getD l 0 0) (takes-ret z .0))
+    go v h false q z = let w = eqb-false v 1 q in let (x, e, _) = map-takes {B = List ℕ} u8 (λ x. 1 ∷ part 7 1 x ∷ part 0 7 x ∷ []) z in omega (arith, h, w, ap (λ (l : List ℕ). getD l 0 0) e)
+
+record Counted (t : MultiStream) : Type 0 where
+  count : getD (t .0) 5 0 ≡ length (t .1 .0)
+  wide : Every (Wide 5) (t .1 .0)
+  once : Every Once (t .1 .0)
+
+counted : (body : List ℕ) {t : MultiStream} {k : ℕ} → run (kind .program) body 0 ≡ done t k → Counted t
+counted body {t} e = let r = body-run body e in subst Counted (sym (r .is)) (go (eqb (part 7 1 (getD body 0 0)) 1) (r .part-of) (r .reads))
+  where
+    go : (b : Bool) (m : Main) {k : ℕ} → run (mainPart b) body 1 ≡ done m k → Counted (Rust.streamOf (getD body 0 0) m)
+    go false m d = subst (λ (m : Main). Counted (Rust.streamOf (getD body 0 0) m)) (sym (main-aside body 1 d)) (record { count = refl; wide = all-nil; once = all-nil })
+    go true m d =
+        let w = main-there body 1 d in
+        let l = many-takes (flat 5 group) (length (w .rows)) (run-takes (groups (length (w .rows))) body 3 (w .reads) (omega (arith, w .inside))) in
+        subst (λ (m : Main). Counted (Rust.streamOf (getD body 0 0) m)) (sym (w .is)) (record { count = sym (w .count); wide = listed-every (flat 5 group) (Wide 5) (flat-grows 5 group) l; once = listed-every (flat 5 group) Once group-once l })
+
+pub read-table : (body groups groups′ : List ℕ) (m : MpegH3dAudioMultiStream) → reading kind body (groups ∷ []) ≡ leaves (accepted m) (groups′ ∷ []) → Every Once (each (λ i. row 5 (at 5 groups′ i)) 0 (m .main .part .groups))
+unfolding kind filled tables first others placed each
 read-table body groups groups′ m e =
     let w = was kind body (groups ∷ []) m (groups′ ∷ []) e in
     let t = w .sound .tree in
-    let d = run-takes parse body 0 (ran-well kind body (w .sound) (w .judges) .reads) (omega arith) in
-    let r = read-part groups (t .main) (taken t _ d) in
-    let a = ap (λ (l : Lent). first l) (w .after-is) in
-    let n = ap (λ (m : MpegH3dAudioMultiStream). m .main .part .groups) (w .top-is) in
-    subst (λ (n : ℕ). Every Once (each (groupAt groups′) 0 n)) n (subst (λ (x : List ℕ). Every Once (each (groupAt x) 0 (counted (t .main) .part .groups))) a r)
+    let c = counted body (ran-well kind body (w .sound) (w .judges) .reads) in
+    let l = t .1 .0 in
+    let behind = drop (length (flatten l)) groups in
+    let r : Every Once (each (λ i. row 5 (at 5 (flatten l ++ behind) i)) 0 (length l)) = subst (Every Once) (sym (found 5 l (c .wide) behind)) (c .once) in
+    let a : flatten l ++ behind ≡ groups′ = ap (λ (l : Lent). first l) (w .after-is) in
+    let n : length l ≡ m .main .part .groups = sym (c .count) ∙ ap (λ (m : MpegH3dAudioMultiStream). m .main .part .groups) (w .top-is) in
+    subst (λ (n : ℕ). Every Once (each (λ i. row 5 (at 5 groups′ i)) 0 n)) n (subst (λ (x : List ℕ). Every Once (each (λ i. row 5 (at 5 x i)) 0 (length l))) a r)
 
 -- the columns of a main part that is absent are not read
 abbrev without : ℕ → MultiStreamMain → Payload → MpegH3dAudioMultiStream
 without id p r = record { «this_stream_id» = id; main = record { present = false; part = p }; trailing = r }
 
 pub absent-part : (id : ℕ) (p p′ : MultiStreamMain) (r : Payload) (groups store out : List ℕ) → writing kind (without id p r) (groups ∷ []) store out ≡ writing kind (without id p′ r) (groups ∷ []) store out
-unfolding kind heeded
+unfolding kind heeds heededRows layouts cells shown head flatten has each
 absent-part id p p′ r groups store out = claims .writing .unread (without id p r) (without id p′ r) (groups ∷ []) (groups ∷ []) store out refl (rows-agree refl (λ i. refl) none-read)
 
 -- ---- the promises fix the answers themselves
@@ -147,13 +183,8 @@ read-once (R.Done m) (R.Refused x) e = not-refused e
 read-once (R.Refused x) (R.Done m) e = not-refused (sym e)
 read-once (R.Refused x) (R.Refused x′) e = let z : refusal x ≡ refusal x′ = cc e in ap R.Refused (refusal-once x x′ z)
 
--- the rows that the first table needs
-abbrev rowsFirst : List Need → ℕ
-rowsFirst [] = 0
-rowsFirst (n ∷ ns) = n .rows
-
 same-sizes : (s s′ : Multi.Sizes) → sized (s .groups) (s .k) ≡ sized (s′ .groups) (s′ .k) → s ≡ s′
-same-sizes s s′ e = λ i. record { groups = ap (λ (z : Sizes). rowsFirst (z .tables)) e i; k = ap (λ (z : Sizes). z .before) e i }
+same-sizes s s′ e = λ i. record { groups = same-rows e 0 i; k = ap (λ (z : Sizes). z .before) e i }
 
 measured-once : (r r′ : Measured) → measured r ≡ measured r′ → r ≡ r′
 measured-once (M.Done s) (M.Done s′) e = ap M.Done (same-sizes s s′ (cc e))

@@ -1,8 +1,7 @@
+pub mod Lawful
+pub mod Mirrored
 pub mod Bodies
-pub mod Parsed
-pub mod Format
-pub mod Sighted
-pub mod Stored
-pub mod Row
-pub mod Laws
 pub mod Claims
+pub mod Parsed
+pub mod Sighted
+pub mod Writes

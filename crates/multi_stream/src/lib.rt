@@ -5,21 +5,20 @@ mod writing;
 
 ghost use mathlib.Core.Path.{_≡_};
 ghost use mathlib.Core.List.{[], _∷_};
-ghost use Prim.Native.Nat.{_<_};
 ghost use Rattle.frame.specs.Numbers.{tallied, written};
 ghost use Rattle.frame.specs.Entry.{Reads, Measures, Tallies, Writes};
-ghost use Rattle.multi_stream.specs.Tally.{mainTally};
-ghost use Rattle.multi_stream.specs.Write.{kind};
-ghost use Rattle.multi_stream.specs.Contract.{read, measured};
+ghost use Rattle.multi_stream.specs.Kind.{kind};
+ghost use Rattle.multi_stream.specs.Contract.{read, measured, zerosOf};
 use frame::Refusal;
+use frame::Room;
 use frame::Tallied;
 use frame::Written;
+use frame::and_table;
 use rows::GROUP_COLUMNS;
-use rows::MainStream;
 use rows::MpegH3dAudioMultiStream;
-use wire::bits;
+use wire::bits::idle_bits;
+use wire::bits::wide;
 use wire::reads::Sum;
-use wire::rows::has_rows;
 
 // What reading answers: the top record, its trailing run included.
 pub enum Reading {
@@ -63,39 +62,36 @@ pub fn read(body: &[u8], groups: &mut [u16]) -> Reading
     match m {
         Measured::Refused(r) => Reading::Refused(r),
         Measured::Done(s) => {
-            let rows = s.groups as usize;
-            if has_rows(groups, GROUP_COLUMNS, rows) {
-                parsing::fill(body, s, groups);
-                Reading::Done(parsing::record_at(body, s))
-            } else {
-                Reading::Refused(Refusal::NoRoom(8, rows))
+            let r = and_table(Room::Enough, 8, GROUP_COLUMNS, s.groups as usize, groups);
+            match r {
+                Room::Lacks(table, rows) => Reading::Refused(Refusal::NoRoom(table, rows)),
+                Room::Enough => {
+                    parsing::fill(body, s, groups);
+                    Reading::Done(parsing::record_at(body, s))
+                }
             }
         }
     }
 }
 
-// The reserved bits at 0, or 2, or 1.
+// The reserved bits at 0, or 2, or 1: all of them stand in the record.
 pub fn tally(body: &[u8]) -> Tallied
     ensures { λ r. ⌜ Tallies kind (now (body .entry)) (tallied r) ⌝ }
 {
     let m = measure(body);
     match m {
-        Measured::Done(s) => {
-            let t = parsing::record_at(body, s);
-            Tallied::Done(zero_bits(t.main))
-        }
+        Measured::Done(s) => Tallied::Done(zero_bits(parsing::record_at(body, s))),
         Measured::Refused(r) => Tallied::Refused(r),
     }
 }
 
-// The reserved bits at 0 of a main part whose fields fit; none where there is no main part.
-fn zero_bits(main: MainStream) -> usize
-    requires { ⌜ (main .part .«reserved_aux» < 2) × (main .part .«reserved_groups» < 2) ⌝ }
-    ensures { λ r. ⌜ r ≡ mainTally main ⌝ }
+fn zero_bits(m: MpegH3dAudioMultiStream) -> usize
+    ensures { λ r. ⌜ r ≡ zerosOf m ⌝ }
 {
+    let main = m.main;
     if main.present {
-        let aux = bits::zero_bits(bits::wide(main.part.reserved_aux), 1);
-        let groups = bits::zero_bits(bits::wide(main.part.reserved_groups), 1);
+        let aux = idle_bits(wide(main.part.reserved_aux), 1);
+        let groups = idle_bits(wide(main.part.reserved_groups), 1);
         (aux + groups) as usize
     } else {
         0

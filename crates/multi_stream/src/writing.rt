@@ -2,128 +2,50 @@
 ghost use mathlib.Core.Path.{_≡_};
 ghost use mathlib.Core.Bool.{true};
 ghost use mathlib.Core.List.{[], _∷_};
-ghost use Prim.Native.Nat.{_+_, _*_, _<_, _≤_, _^_};
-ghost use lib.ListN.{length};
-ghost use Rattle.wire.specs.Bits.{fit, Packed};
-ghost use Rattle.wire.specs.Act.{rows};
-ghost use Rattle.wire.specs.Pen.{reach, Checked, Quick, Ready, Filled};
+ghost use Prim.Native.Nat.{_<_};
+ghost use Rattle.wire.specs.Pen.{reach, Checked, Ready, Filled};
+ghost use Rattle.wire.specs.Spell.{Spelt};
 ghost use Rattle.wire.specs.declared.pen.Pen.the-variants.{At};
 ghost use Rattle.frame.specs.Entry.{whole};
-ghost use Rattle.multi_stream.specs.Rows.{groupColumns, groupOf};
-ghost use Rattle.multi_stream.specs.Write.{flags, locationFlag, placedOnce, auxiliaryActs, groupActs, rowActs, inside, streamByte, auxByte, groupsByte, mainActs, acts, kind};
-use super::rows::Auxiliary;
+ghost use Rattle.multi_stream.specs.Kind.{kind};
+ghost use Rattle.multi_stream.specs.Write.{headFields, mainFields, within, mainActs, multiStreamActs};
 use super::rows::GROUP_COLUMNS;
 use super::rows::MainStream;
 use super::rows::MpegH3dAudioMultiStream;
-use super::rows::MultiStreamGroup;
 use super::rows::MultiStreamMain;
-use wire::bits::fits2;
+use stream_groups::writing::check_groups;
+use stream_groups::writing::fill_groups;
 use wire::bits::flag;
-use wire::bits::is_flag;
-use wire::bits::pack2;
-use wire::bits::pair;
 use wire::bits::wide;
 use wire::pen;
 use wire::pen::Fault;
 use wire::pen::Pen;
 use wire::rows::has_rows;
 use wire::rows::in_store;
+use wire::spell::check_all;
+use wire::spell::fill_all;
+use wire::spell::two;
 
-// ---- a row of table 8, checked
+// ---- the bytes of the top record
 
-// Its flags: isInTS counts only where the location is there.
-fn flags_hold(g: MultiStreamGroup) -> bool
-    ensures { λ r. ⌜ r ≡ flags g ⌝ }
+fn head_bytes(m: MpegH3dAudioMultiStream) -> [u32; 1]
+    ensures { λ r. ⌜ Spelt (headFields m) r ⌝ }
 {
-    let a = g.auxiliary;
-    is_flag(g.is_in_main_stream) & (is_flag(a.present) & location_flag_holds(a))
+    [two(flag(m.main.present), 1, wide(m.this_stream_id), 7)]
 }
 
-fn location_flag_holds(a: Auxiliary) -> bool
-    ensures { λ r. ⌜ r ≡ locationFlag a ⌝ }
+fn main_bytes(m: MultiStreamMain) -> [u32; 2]
+    ensures { λ r. ⌜ Spelt (mainFields m) r ⌝ }
 {
-    if a.present == 1 {
-        is_flag(a.location.is_in_ts)
-    } else {
-        true
-    }
+    [
+        two(wide(m.reserved_aux), 1, wide(m.num_auxiliary_streams), 7),
+        two(wide(m.reserved_groups), 1, m.groups, 7),
+    ]
 }
-
-// Whether the location is there exactly outside the main stream.
-fn placed_once(g: MultiStreamGroup) -> bool
-    ensures { λ r. ⌜ r ≡ placedOnce g ⌝ }
-{
-    g.is_in_main_stream != g.auxiliary.present
-}
-
-fn check_auxiliary(p: Pen, a: Auxiliary) -> Pen
-    requires { ⌜ reach p < 2 ^ 32 ⌝ }
-    ensures { λ r. ⌜ Checked (auxiliaryActs a) 1 p r ⌝ }
-{
-    if a.present == 1 {
-        let l = a.location;
-        pen::byte(p, fits2(l.is_in_ts, 1, l.auxiliary_stream_id, 7))
-    } else {
-        p
-    }
-}
-
-// Flags, then the auxiliary mismatch, then the fields.
-fn check_group(n: usize, g: MultiStreamGroup) -> Pen
-    requires { ⌜ n < 2 ^ 31 ⌝ }
-    ensures { λ r. ⌜ Checked (groupActs g) 2 (At n) r ⌝ }
-{
-    let p1 = pen::demand(Pen::At(n), Fault::Field, flags_hold(g));
-    let p2 = pen::demand(p1, Fault::Auxiliary, placed_once(g));
-    let p3 = pen::byte(p2, fits2(g.group_id.0, 7, g.is_in_main_stream, 1));
-    check_auxiliary(p3, g.auxiliary)
-}
-
-// The bytes of the row at the column `b`, or 0 if it has a fault: in almost every row nothing is wrong, and this is seen at once.
-fn plain_bytes(groups: &[u16], b: usize) -> usize
-    requires { ⌜ b + groupColumns ≤ length (now groups) ⌝ }
-    ensures { λ r. ⌜ Quick (groupActs (groupOf (now (groups .entry)) b)) 2 r ⌝ }
-{
-    if 128 <= groups[b] {
-        return 0;
-    }
-    // isInMainStream and the location's flag: in the main stream and none, or the other way round
-    let flags = pair(groups[b + 1], groups[b + 2]);
-    if flags == 1 {
-        return 1;
-    }
-    if flags == 65536 {
-        if fits2(groups[b + 3], 1, groups[b + 4], 7) {
-            return 2;
-        }
-    }
-    0
-}
-
-// The rows of table 8 from the first; a row with a fault ends it, and is looked at again to name the fault.
-fn check_groups(n: usize, groups: &[u16], count: usize) -> Pen
-    requires { ⌜ (count * groupColumns ≤ length (now groups)) × (count < 2 ^ 16) × (n < 2 ^ 16) ⌝ }
-    ensures { λ r. ⌜ Checked (rows (rowActs (now (groups .entry))) 0 count) (2 * count) (At n) r ⌝ }
-{
-    let mut at = n;
-    let mut i: usize = 0;
-    while i < count {
-        let b = i * GROUP_COLUMNS;
-        let bytes = plain_bytes(groups, b);
-        if bytes == 0 {
-            return check_group(at, MultiStreamGroup::of_columns(groups, b));
-        }
-        at += bytes;
-        i += 1;
-    }
-    Pen::At(at)
-}
-
-// ---- the body, checked
 
 // Whether the groups, if there is a main part, stand in the table.
-fn groups_inside(main: MainStream, groups: &[u16]) -> bool
-    ensures { λ r. ⌜ r ≡ inside main (now (groups .entry)) ⌝ }
+fn groups_within(main: MainStream, groups: &[u16]) -> bool
+    ensures { λ r. ⌜ r ≡ within main (now (groups .entry)) ⌝ }
 {
     if main.present {
         let count = main.part.groups;
@@ -133,33 +55,34 @@ fn groups_inside(main: MainStream, groups: &[u16]) -> bool
     }
 }
 
+// ---- the check pass
+
 // The main part, if there is one.
 fn check_main(p: Pen, main: MainStream, groups: &[u16]) -> Pen
-    requires { ⌜ (inside main (now groups) ≡ true) × (reach p < 2) ⌝ }
+    requires { ⌜ (within main (now groups) ≡ true) × (reach p < 2) ⌝ }
     ensures { λ r. ⌜ Checked (mainActs main (now (groups .entry))) 131074 p r ⌝ }
 {
     if main.present {
         let m = main.part;
-        let count = m.groups;
-        let p1 = pen::byte(p, aux_fits(m));
-        let p2 = pen::byte(p1, groups_fit(m));
-        let Pen::At(n) = p2 else {
-            return p2;
+        let p1 = check_all(p, true, &main_bytes(m));
+        let Pen::At(n) = p1 else {
+            return p1;
         };
+        let count = m.groups;
         check_groups(n, groups, count as usize)
     } else {
         p
     }
 }
 
-// All but the trailing run.
-fn check_fields(m: MpegH3dAudioMultiStream, groups: &[u16], store: &[u8]) -> Pen
-    ensures { λ r. ⌜ Checked (acts m (now (groups .entry) ∷ []) (now (store .entry))) 131075 (At 0) r ⌝ }
+// All but the trailing run; the range of the groups first, at its start.
+fn check_fields(m: MpegH3dAudioMultiStream, groups: &[u16]) -> Pen
+    ensures { λ r. ⌜ Checked (multiStreamActs m (now (groups .entry))) 131075 (At 0) r ⌝ }
 {
     let main = m.main;
-    if groups_inside(main, groups) {
-        let p1 = pen::byte(Pen::At(0), stream_fits(m));
-        check_main(p1, main, groups)
+    if groups_within(main, groups) {
+        let p = check_all(Pen::At(0), true, &head_bytes(m));
+        check_main(p, main, groups)
     } else {
         Pen::Stop(Fault::Range, 0)
     }
@@ -172,7 +95,7 @@ pub fn check(m: MpegH3dAudioMultiStream, groups: &[u16], store: &[u8]) -> Pen
     let trailing = m.trailing;
     if in_store(trailing, store) {
         let count = trailing.length;
-        pen::run(check_fields(m, groups, store), count as usize)
+        pen::run(check_fields(m, groups), count as usize)
     } else {
         Pen::Stop(Fault::Range, 0)
     }
@@ -180,64 +103,28 @@ pub fn check(m: MpegH3dAudioMultiStream, groups: &[u16], store: &[u8]) -> Pen
 
 // ---- the fill pass
 
-fn fill_auxiliary(a: Auxiliary, out: &mut [u8], n: usize) -> usize
-    requires { ⌜ Ready (auxiliaryActs a) n (now out) ⌝ }
-    ensures { λ r. ⌜ Filled (auxiliaryActs a) n (now (out .entry)) r (now (out .exit)) ⌝ }
-{
-    if a.present == 1 {
-        let l = a.location;
-        pen::put(out, n, pack2(l.is_in_ts, 1, l.auxiliary_stream_id, 7))
-    } else {
-        n
-    }
-}
-
-fn fill_group(g: MultiStreamGroup, out: &mut [u8], n: usize) -> usize
-    requires { ⌜ Ready (groupActs g) n (now out) ⌝ }
-    ensures { λ r. ⌜ Filled (groupActs g) n (now (out .entry)) r (now (out .exit)) ⌝ }
-{
-    let n1 = pen::put(out, n, pack2(g.group_id.0, 7, g.is_in_main_stream, 1));
-    fill_auxiliary(g.auxiliary, out, n1)
-}
-
-// The rows of table 8, from the first.
-fn fill_groups(groups: &[u16], count: usize, out: &mut [u8], n: usize) -> usize
-    requires { ⌜ (count * groupColumns ≤ length (now groups)) × (count < 2 ^ 16) × Ready (rows (rowActs (now groups)) 0 count) n (now out) ⌝ }
-    ensures { λ r. ⌜ Filled (rows (rowActs (now (groups .entry))) 0 count) n (now (out .entry)) r (now (out .exit)) ⌝ }
-{
-    let mut at = n;
-    let mut i: usize = 0;
-    while i < count {
-        let g = MultiStreamGroup::of_columns(groups, i * GROUP_COLUMNS);
-        at = fill_group(g, out, at);
-        i += 1;
-    }
-    at
-}
-
 // The main part, if there is one.
 fn fill_main(main: MainStream, groups: &[u16], out: &mut [u8], n: usize) -> usize
-    requires { ⌜ (inside main (now groups) ≡ true) × Ready (mainActs main (now groups)) n (now out) ⌝ }
+    requires { ⌜ (within main (now groups) ≡ true) × Ready (mainActs main (now groups)) n (now out) ⌝ }
     ensures { λ r. ⌜ Filled (mainActs main (now (groups .entry))) n (now (out .entry)) r (now (out .exit)) ⌝ }
 {
     if main.present {
         let m = main.part;
+        let n1 = fill_all(out, n, true, &main_bytes(m));
         let count = m.groups;
-        let n1 = pen::put(out, n, aux_byte(m));
-        let n2 = pen::put(out, n1, groups_byte(m));
-        fill_groups(groups, count as usize, out, n2)
+        fill_groups(groups, count as usize, out, n1)
     } else {
         n
     }
 }
 
 // All but the trailing run.
-fn fill_fields(m: MpegH3dAudioMultiStream, groups: &[u16], store: &[u8], out: &mut [u8]) -> usize
-    requires { ⌜ Ready (acts m (now groups ∷ []) (now store)) 0 (now out) ⌝ }
-    ensures { λ r. ⌜ Filled (acts m (now (groups .entry) ∷ []) (now (store .entry))) 0 (now (out .entry)) r (now (out .exit)) ⌝ }
+fn fill_fields(m: MpegH3dAudioMultiStream, groups: &[u16], out: &mut [u8]) -> usize
+    requires { ⌜ Ready (multiStreamActs m (now groups)) 0 (now out) ⌝ }
+    ensures { λ r. ⌜ Filled (multiStreamActs m (now (groups .entry))) 0 (now (out .entry)) r (now (out .exit)) ⌝ }
 {
-    let n1 = pen::put(out, 0, stream_byte(m));
-    fill_main(m.main, groups, out, n1)
+    let n = fill_all(out, 0, true, &head_bytes(m));
+    fill_main(m.main, groups, out, n)
 }
 
 pub fn fill(m: MpegH3dAudioMultiStream, groups: &[u16], store: &[u8], out: &mut [u8]) -> usize
@@ -246,47 +133,6 @@ pub fn fill(m: MpegH3dAudioMultiStream, groups: &[u16], store: &[u8], out: &mut 
 {
     let from = m.trailing.offset;
     let count = m.trailing.length;
-    let n = fill_fields(m, groups, store, out);
+    let n = fill_fields(m, groups, out);
     pen::copy(out, n, store, from as usize, count as usize)
-}
-
-// ---- the three bytes of fields before the groups
-
-fn stream_fits(m: MpegH3dAudioMultiStream) -> bool
-    ensures { λ r. ⌜ r ≡ fit (streamByte m) ⌝ }
-{
-    fits2(flag(m.main.present), 1, wide(m.this_stream_id), 7)
-}
-
-fn stream_byte(m: MpegH3dAudioMultiStream) -> u16
-    requires { ⌜ fit (streamByte m) ≡ true ⌝ }
-    ensures { λ r. ⌜ Packed (streamByte m) r ⌝ }
-{
-    pack2(flag(m.main.present), 1, wide(m.this_stream_id), 7)
-}
-
-fn aux_fits(m: MultiStreamMain) -> bool
-    ensures { λ r. ⌜ r ≡ fit (auxByte m) ⌝ }
-{
-    fits2(wide(m.reserved_aux), 1, wide(m.num_auxiliary_streams), 7)
-}
-
-fn aux_byte(m: MultiStreamMain) -> u16
-    requires { ⌜ fit (auxByte m) ≡ true ⌝ }
-    ensures { λ r. ⌜ Packed (auxByte m) r ⌝ }
-{
-    pack2(wide(m.reserved_aux), 1, wide(m.num_auxiliary_streams), 7)
-}
-
-fn groups_fit(m: MultiStreamMain) -> bool
-    ensures { λ r. ⌜ r ≡ fit (groupsByte m) ⌝ }
-{
-    fits2(wide(m.reserved_groups), 1, m.groups, 7)
-}
-
-fn groups_byte(m: MultiStreamMain) -> u16
-    requires { ⌜ fit (groupsByte m) ≡ true ⌝ }
-    ensures { λ r. ⌜ Packed (groupsByte m) r ⌝ }
-{
-    pack2(wide(m.reserved_groups), 1, m.groups, 7)
 }

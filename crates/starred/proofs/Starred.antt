@@ -9,19 +9,17 @@ use Rattle.wire.specs.Lists.{each, sum, firsts}
 use Rattle.wire.specs.Prog.{run, u8, bytes, pass, many, _>>=_}
 use Rattle.frame.specs.Entry.{onto, into, needs, first, others, room, lacking, filled, judging, placing, reading, tallying}
 use Rattle.frame.specs.Body as Body
-use Rattle.base.specs.Read as BaseRead
-use Rattle.base.specs.Tally as BaseTally
-use Rattle.base.specs.Write as Base
+use Rattle.base.specs.Layout as BaseLayout
+use Rattle.base.specs.Kind as Base
 use Rattle.scene_kind.specs.Layout as SceneLayout
 use Rattle.scene_kind.specs.Kind as Scene
 use Rattle.labels.specs.Read as LabelsRead
 use Rattle.text_label.specs.Rows as TextLabelRows
 use Rattle.text_label.specs.Read as TextLabelRead
 use Rattle.text_label.specs.Write as TextLabel
-use Rattle.multi_stream.specs.Rows as MultiStreamRows
-use Rattle.multi_stream.specs.Read as MultiStreamRead
-use Rattle.multi_stream.specs.Tally as MultiStreamTally
-use Rattle.multi_stream.specs.Write as MultiStream
+use Rattle.stream_groups.specs.Layout as StreamGroups
+use Rattle.multi_stream.specs.Layout as MultiStreamLayout
+use Rattle.multi_stream.specs.Kind as MultiStream
 use Rattle.pairs.specs.Layout as Pairs
 use Rattle.scopes.specs.Layout as Scopes
 use Rattle.downmixes.specs.Layout as Downmixes
@@ -30,7 +28,7 @@ use Rattle.drc_kind.specs.Kind as Drc
 use Rattle.starred.specs.Starred.{Holds, starred as stars, Starred}
 
 pub starred : Starred
-unfolding reading tallying onto into judging placing run u8 bytes pass many _>>=_ needs first others room lacking filled flatten flatMap sum firsts ones onesIn Base.kind BaseRead.parse BaseRead.fields BaseRead.sets BaseTally.tally each split total put puts reads shown cells tally SceneLayout.groups SceneLayout.switchGroups SceneLayout.presets Body.layouts Body.parse Body.placed Body.tables Body.zeros Scene.kind TextLabel.kind TextLabelRows.tables TextLabelRows.languageAs TextLabelRead.parse TextLabelRead.language LabelsRead.labels LabelsRead.entry MultiStream.kind MultiStreamRows.tables MultiStreamRead.parse MultiStreamRead.main MultiStreamRead.group MultiStreamRead.auxiliary MultiStreamTally.mainTally has Scopes.scope Pairs.pair Downmixes.downmix DrcLayout.head Drc.kind
+unfolding reading tallying onto into judging placing run u8 bytes pass many _>>=_ needs first others room lacking filled flatten flatMap sum firsts ones onesIn Base.kind BaseLayout.head each split total put puts reads shown cells tally SceneLayout.groups SceneLayout.switchGroups SceneLayout.presets Body.layouts Body.carried Body.parse Body.placed Body.tables Body.zeros Scene.kind TextLabel.kind TextLabelRows.tables TextLabelRows.languageAs TextLabelRead.parse TextLabelRead.language LabelsRead.labels LabelsRead.entry MultiStream.kind MultiStreamLayout.head StreamGroups.group has Scopes.scope Pairs.pair Downmixes.downmix DrcLayout.head Drc.kind
 starred = record {
   all = every-each Holds stars (
     record { reads = refl; tallies = refl },

@@ -9,7 +9,7 @@ use Rattle.frame.specs.Kind.{Kind, Lent}
 use Rattle.frame.specs.Entry.{leaves, reading, tallying}
 use Rattle.base.specs.declared.rows.MpegH3dAudio.{MpegH3dAudio}
 use Rattle.base.proofs.Bodies.{noSets, noneListed}
-use Rattle.base.specs.Write as Base
+use Rattle.base.specs.Kind as Base
 use Rattle.scene_kind.specs.declared.rows.MpegH3dAudioScene.{MpegH3dAudioScene}
 use Rattle.scene.proofs.Bodies.{noSections, noGroups, oneMember, oneSwitchGroup, member5}
 use Rattle.scene_kind.specs.Kind as Scene
@@ -18,7 +18,7 @@ use Rattle.text_label.proofs.Bodies.{onePreset, english, preset2}
 use Rattle.text_label.specs.Write as TextLabel
 use Rattle.multi_stream.specs.declared.rows.MpegH3dAudioMultiStream.{MpegH3dAudioMultiStream}
 use Rattle.multi_stream.proofs.Bodies.{twoGroups, twoRows}
-use Rattle.multi_stream.specs.Write as MultiStream
+use Rattle.multi_stream.specs.Kind as MultiStream
 use Rattle.drc_kind.specs.declared.rows.MpegH3dAudioDrcLoudness.{MpegH3dAudioDrcLoudness}
 use Rattle.drc_kind.proofs.Bodies.{oneInstruction, plainScope, oneEntry, groupScope, infoAbsent}
 use Rattle.drc_kind.specs.Kind as DrcLoudness

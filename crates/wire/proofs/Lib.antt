@@ -21,6 +21,7 @@ pub mod Fronts
 pub mod Straight
 pub mod Spelling
 pub mod Plain
+pub mod Parts
 pub mod Adding
 pub mod Heeds
 pub mod Families

@@ -2,8 +2,9 @@
 use mathlib.Core.Path.{refl}
 use mathlib.Core.List.{[]}
 use Rattle.frame.specs.Entry.{lacking, filled}
+use Rattle.frame.specs.Body.{tables}
 use Rattle.frame.proofs.Entries.{reads-unmeasured, reads-filled}
-use Rattle.base.specs.Write.{kind}
+use Rattle.base.specs.Kind.{kind}
 use borrow.Author.Needs.{needs}
 use Rattle.base.proofs.read.Statement.{statement}
 use Rattle.base.proofs.read.Tie as tie
@@ -22,7 +23,7 @@ enum-known-m-2 : tie.Need-enum-known-m-2
 enum-known-m-2 c = search needs
 
 returns : tie.Need-returns
-unfolding kind lacking filled
+unfolding kind tables lacking filled
 returns c =
     reads-filled kind _ (rw (c .before .before .m .given .1) at (c .before .before .before .before .measure .ensures)) [] [] refl (record { fills = λ s j. refl }) (c .record-at .ensures)
 

@@ -1,6 +1,6 @@
 -- `base::write` meets its contract: what is answered after the check pass, and the fill pass.
 use Rattle.frame.proofs.Entries.{writes-refused, fillable, writes-done}
-use Rattle.base.specs.Write.{kind}
+use Rattle.base.specs.Kind.{kind}
 use borrow.Author.Needs.{needs}
 use Rattle.base.proofs.write.Statement.{statement}
 use Rattle.base.proofs.write.Tie as tie

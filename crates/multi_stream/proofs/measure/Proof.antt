@@ -5,8 +5,8 @@ use lib.ListN.{length}
 use Rattle.wire.specs.Reads.{sumOut}
 use Rattle.wire.proofs.Loops.{sum-small}
 use Rattle.frame.proofs.Entries.{measures-long, measures-by, measures-cut}
-use Rattle.multi_stream.specs.Rows.{MultiStream, groupsOf}
-use Rattle.multi_stream.specs.Write.{kind}
+use Rattle.multi_stream.specs.Rows.{MultiStream}
+use Rattle.multi_stream.specs.Kind.{kind}
 use Rattle.multi_stream.specs.Contract.{sized}
 use Rattle.multi_stream.proofs.Sighted.{sizes-are}
 use borrow.Author.Needs.{needs}
@@ -31,14 +31,12 @@ enum-known-r-2 : tie.Need-enum-known-r-2
 enum-known-r-2 c = search needs
 
 returns-2 : tie.Need-returns-2
-unfolding kind
 returns-2 c =
-    measures-by kind (λ (t : MultiStream). length (groupsOf (t .main))) _ (c .before .before .before .before .if1 .left) sized sizes-are (sym (ap sumOut (c .before .r .given .1)) ∙ c .before .before .before .rows .ensures .is)
+    measures-by kind (λ (t : MultiStream). length (t .1 .0)) _ (c .before .before .before .before .if1 .left) sized sizes-are (sym (ap sumOut (c .before .r .given .1)) ∙ c .before .before .before .rows .ensures .is)
 
 returns-3 : tie.Need-returns-3
-unfolding kind
 returns-3 c =
-    measures-cut kind (λ (t : MultiStream). length (groupsOf (t .main))) _ (c .before .before .before .before .if1 .left) (sym (ap sumOut (c .before .r2 .given .1)) ∙ c .before .before .before .rows .ensures .is)
+    measures-cut kind (λ (t : MultiStream). length (t .1 .0)) _ (c .before .before .before .before .if1 .left) (sym (ap sumOut (c .before .r2 .given .1)) ∙ c .before .before .before .rows .ensures .is)
 
 pub measure-spec : {M : Type 1} → statement M
 measure-spec =

@@ -1,9 +1,8 @@
 -- `multi_stream::read` meets its contract: the measure, the room, the filled table and the record.
-use mathlib.Core.Path.{sym, _∙_}
-use borrow.Author.Tests.{leb-true}
-use Rattle.frame.proofs.Entries.{reads-unmeasured, reads-lacking, reads-filled}
-use Rattle.multi_stream.specs.Write.{kind}
-use Rattle.multi_stream.proofs.Sighted.{has-room, lacks-room}
+use Rattle.frame.proofs.Entries.{reads-unmeasured, reads-filled}
+use Rattle.frame.proofs.Tables.{reads-lowest}
+use Rattle.multi_stream.specs.Kind.{kind}
+use Rattle.multi_stream.proofs.Sighted.{room-so, has-room}
 use borrow.Author.Needs.{needs}
 use Rattle.multi_stream.proofs.read.Statement.{statement}
 use Rattle.multi_stream.proofs.read.Tie as tie
@@ -17,19 +16,25 @@ enum-known-m c = search needs
 enum-known-m-2 : tie.Need-enum-known-m-2
 enum-known-m-2 c = search needs
 
-cast-rows : tie.Need-cast-rows
-cast-rows c = search needs
+cast-and-table : tie.Need-cast-and-table
+cast-and-table c = search needs
 
-has-rows-requires : tie.Need-has-rows-requires
-has-rows-requires c κs = search needs
+and-table-requires : tie.Need-and-table-requires
+and-table-requires c κs = search needs
+
+enum-known-r : tie.Need-enum-known-r
+enum-known-r c = search needs
+
+enum-told : tie.Need-enum-told
+enum-told c = search needs
 
 fill-requires : tie.Need-fill-requires
 fill-requires c κs =
-    (rw (c .before .before .before .before .before .before .m2 .given .1) at (c .before .before .before .before .before .before .before .before .measure .ensures), leb-true _ _ (sym (c .before .before .has-rows .ensures) ∙ c .before .if1 .taken))
+    (rw (c .before .before .before .before .before .before .before .m2 .given .1) at (c .before .before .before .before .before .before .before .before .before .measure .ensures), has-room _ _ (c .before .before .before .and-table .ensures) (c .before .enum-told .given .1) .1)
 
 record-at-requires : tie.Need-record-at-requires
 record-at-requires c κs =
-    rw (c .before .before .before .before .before .before .before .before .before .m2 .given .1) at (c .before .before .before .before .before .before .before .before .before .before .before .measure .ensures)
+    rw (c .before .before .before .before .before .before .before .before .before .before .m2 .given .1) at (c .before .before .before .before .before .before .before .before .before .before .before .before .measure .ensures)
 
 returns : tie.Need-returns
 returns c =
@@ -40,14 +45,14 @@ same-length c = search needs
 
 returns-2 : tie.Need-returns-2
 returns-2 c =
-    reads-filled kind _ (rw (c .before .before .before .before .before .before .before .before .before .before .m2 .given .1) at (c .before .before .before .before .before .before .before .before .before .before .before .before .measure .ensures)) _ _ (has-room _ _ (sym (c .before .before .before .before .before .before .has-rows .ensures) ∙ c .before .before .before .before .before .if1 .taken)) (c .before .before .before .fill .ensures) (c .record-at .ensures)
+    reads-lowest kind _ (rw (c .before .before .before .before .before .before .before .m2 .given .1) at (c .before .before .before .before .before .before .before .before .before .measure .ensures)) _ (room-so _ _ (c .before .before .before .and-table .ensures)) (c .before .r .given .1)
 
 same-length-2 : tie.Need-same-length-2
 same-length-2 c = search needs
 
 returns-3 : tie.Need-returns-3
 returns-3 c =
-    reads-lacking kind _ (rw (c .before .before .before .before .before .m2 .given .1) at (c .before .before .before .before .before .before .before .measure .ensures)) _ _ (lacks-room _ _ (sym (c .before .has-rows .ensures) ∙ c .if1 .left))
+    reads-filled kind _ (rw (c .before .before .before .before .before .before .before .before .before .before .before .m2 .given .1) at (c .before .before .before .before .before .before .before .before .before .before .before .before .before .measure .ensures)) _ _ (has-room _ _ (c .before .before .before .before .before .before .before .and-table .ensures) (c .before .before .before .before .before .enum-told .given .1) .0) (c .before .before .before .fill .ensures) (c .record-at .ensures)
 
 pub read-spec : {M : Type 1} → statement M
 read-spec =
@@ -56,8 +61,10 @@ read-spec =
     measure-requires
     enum-known-m
     enum-known-m-2
-    cast-rows
-    has-rows-requires
+    cast-and-table
+    and-table-requires
+    enum-known-r
+    enum-told
     fill-requires
     record-at-requires
     returns

@@ -1,9 +1,8 @@
--- `multi_stream::tally` meets its contract: the reserved bits of a record that was taken fit, so their bits are counted.
-use mathlib.Core.Path.{refl}
-use Rattle.frame.proofs.Entries.{tallies-unmeasured, tallies-topped}
-use Rattle.multi_stream.specs.Write.{kind}
-use Rattle.multi_stream.specs.Tally.{mainTally}
-use Rattle.multi_stream.proofs.Sighted.{reserved-small}
+-- `multi_stream::tally` meets its contract: the reserved bits at 0 of the record.
+use Rattle.frame.proofs.Entries.{tallies-topped, tallies-unmeasured}
+use Rattle.multi_stream.specs.Kind.{kind}
+use Rattle.multi_stream.specs.Contract.{zerosOf}
+use Rattle.multi_stream.proofs.Sighted.{zeros-are}
 use borrow.Author.Needs.{needs}
 use Rattle.multi_stream.proofs.tally.Statement.{statement}
 use Rattle.multi_stream.proofs.tally.Tie as tie
@@ -19,16 +18,14 @@ record-at-requires c κs =
     rw (c .before .m .given .1) at (c .before .before .before .measure .ensures)
 
 zero-bits-requires : tie.Need-zero-bits-requires
-zero-bits-requires c κs =
-    reserved-small _ (rw (c .before .before .m .given .1) at (c .before .before .before .before .measure .ensures)) (c .record-at .ensures)
+zero-bits-requires c κs = search needs
 
 enum-known-m-2 : tie.Need-enum-known-m-2
 enum-known-m-2 c = search needs
 
 returns : tie.Need-returns
-unfolding kind
 returns c =
-    rw (c .zero-bits .ensures) (tallies-topped kind _ (rw (c .before .before .before .m .given .1) at (c .before .before .before .before .before .measure .ensures)) (λ m. mainTally (m .main)) (λ t p. refl) (c .before .record-at .ensures))
+    rw (c .zero-bits .ensures) (tallies-topped kind _ (rw (c .before .before .before .m .given .1) at (c .before .before .before .before .before .measure .ensures)) zerosOf zeros-are (c .before .record-at .ensures))
 
 returns-2 : tie.Need-returns-2
 returns-2 c =

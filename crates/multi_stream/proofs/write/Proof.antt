@@ -1,6 +1,6 @@
 -- `multi_stream::write` meets its contract: what is answered after the check pass, and the fill pass.
 use Rattle.frame.proofs.Entries.{writes-refused, fillable, writes-done}
-use Rattle.multi_stream.specs.Write.{kind}
+use Rattle.multi_stream.specs.Kind.{kind}
 use borrow.Author.Needs.{needs}
 use Rattle.multi_stream.proofs.write.Statement.{statement}
 use Rattle.multi_stream.proofs.write.Tie as tie

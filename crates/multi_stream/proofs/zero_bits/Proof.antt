@@ -1,5 +1,4 @@
 -- `multi_stream::zero_bits` meets its contract.
-use Rattle.multi_stream.specs.Tally.{mainTally}
 use native.Mathlib.Omega.{arith}
 use borrow.Author.Needs.{needs}
 use Rattle.multi_stream.proofs.zero_bits.Statement.{statement}
@@ -8,14 +7,14 @@ use Rattle.multi_stream.proofs.zero_bits.Tie as tie
 wide-requires : tie.Need-wide-requires
 wide-requires c κs = search needs
 
-zero-bits-requires : tie.Need-zero-bits-requires
-zero-bits-requires c κs = search needs
+idle-bits-requires : tie.Need-idle-bits-requires
+idle-bits-requires c κs = search needs
 
 wide-requires-2 : tie.Need-wide-requires-2
 wide-requires-2 c κs = search needs
 
-zero-bits-requires-2 : tie.Need-zero-bits-requires-2
-zero-bits-requires-2 c κs = search needs
+idle-bits-requires-2 : tie.Need-idle-bits-requires-2
+idle-bits-requires-2 c κs = search needs
 
 add-result : tie.Need-add-result
 add-result c = search needs
@@ -24,12 +23,10 @@ cast-result : tie.Need-cast-result
 cast-result c = search needs
 
 returns : tie.Need-returns
-unfolding mainTally
 returns c =
-    rw (c .before .before .before .before .if1 .taken, c .before .before .zero-bits .ensures, c .zero-bits2 .ensures, c .before .before .before .wide .ensures, c .before .wide2 .ensures) (omega arith)
+    rw (c .before .before .before .before .if1 .taken, c .before .before .idle-bits .ensures, c .idle-bits2 .ensures, c .before .before .before .wide .ensures, c .before .wide2 .ensures) (omega arith)
 
 returns-2 : tie.Need-returns-2
-unfolding mainTally
 returns-2 c =
     rw (c .if1 .left)
 
@@ -38,9 +35,9 @@ zero-bits-spec =
     tie.close
     (tie.spec
     wide-requires
-    zero-bits-requires
+    idle-bits-requires
     wide-requires-2
-    zero-bits-requires-2
+    idle-bits-requires-2
     add-result
     cast-result
     returns

@@ -2,8 +2,7 @@
 use mathlib.Core.Path.{refl}
 use native.Mathlib.Omega.{arith}
 use Rattle.frame.proofs.Entries.{within-measured}
-use Rattle.base.specs.Read.{fields}
-use Rattle.base.specs.Write.{kind}
+use Rattle.base.specs.Kind.{kind}
 use Rattle.base.proofs.Parsed.{sets-sound, tops-are}
 use borrow.Author.Needs.{needs}
 use Rattle.base.proofs.parsing.record_at.Statement.{statement}
@@ -60,9 +59,12 @@ trailing-run-requires c κs =
     let w = within-measured kind _ (c .before .before .before .before .before .before .before .before .before .before .before .before .pre) in (w .before, w .all)
 
 returns : tie.Need-returns
-unfolding fields
 returns c =
-    tops-are _ (c .before .before .before .before .before .before .before .before .before .before .before .before .before .pre) _ (rw (c .before .before .before .before .before .part2 .ensures, c .before .before .before .before .before .before .before .before .before .before .wide .ensures) at (c .before .before .before .before .sets-at .ensures)) (c .trailing-run .ensures) (rw (c .before .before .before .before .before .before .part .ensures, c .before .before .before .part3 .ensures, c .before .before .part4 .ensures, c .before .part5 .ensures, c .before .before .before .before .before .before .before .before .before .before .wide .ensures, c .before .before .before .before .before .before .before .before .wide2 .ensures) refl)
+    let d = c .before .before .before .before .before in
+    let b1 = d .before .before .before .before .before .wide .ensures in
+    let b2 = d .before .before .before .wide2 .ensures in
+    tops-are _ (d .before .before .before .before .before .before .before .before .pre) _ (omega (arith, d .before .before .shared-slice-known4 .given 0)) (rw (d .part2 .ensures, b1) at (c .before .before .before .before .sets-at .ensures)) (c .trailing-run .ensures)
+    (rw (d .before .part .ensures, c .before .before .before .part3 .ensures, c .before .before .part4 .ensures, c .before .part5 .ensures, b1, b2) refl)
 
 pub record-at-spec : {M : Type 1} → statement M
 record-at-spec =

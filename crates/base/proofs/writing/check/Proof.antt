@@ -4,7 +4,8 @@ use native.Mathlib.Omega.{arith}
 use borrow.Author.Tests.{leb-true}
 use Rattle.wire.proofs.Passes.{then, more, passed, refused, run-looked}
 use Rattle.frame.specs.Entry.{whole}
-use Rattle.base.specs.Write.{kind}
+use Rattle.base.specs.Kind.{kind}
+use Rattle.base.proofs.Mirrored.{written-as}
 use borrow.Author.Needs.{needs}
 use Rattle.base.proofs.writing.check.Statement.{statement}
 use Rattle.base.proofs.writing.check.Tie as tie
@@ -25,7 +26,7 @@ returns : tie.Need-returns
 unfolding whole kind
 returns c =
     let e = sym (c .before .before .before .in-store .ensures) ∙ c .before .before .if1 .taken in
-    rw e (passed _ 0 (more 131074 (then (c .before .check-fields .ensures) (run-looked _ _ _ (leb-true _ _ e) (c .run .ensures))) (omega arith)))
+    rw e (passed _ 0 (more 131074 (then (written-as (c .before .before .before .before .before .before .args .m) _ _ (c .before .check-fields .ensures)) (run-looked _ _ _ (leb-true _ _ e) (c .run .ensures))) (omega arith)))
 
 returns-2 : tie.Need-returns-2
 unfolding whole kind

@@ -5,7 +5,8 @@ use borrow.Author.Tests.{leb-true}
 use Rattle.wire.specs.Act.{copy}
 use Rattle.wire.proofs.Passes.{Filling, fill-start, fill-demand, fill-row, fill-turn, fill-last, demanded, run-room}
 use Rattle.frame.specs.Entry.{whole, trail}
-use Rattle.base.specs.Write.{acts, kind}
+use Rattle.base.specs.Kind.{kind}
+use Rattle.base.proofs.Mirrored.{ready-as, filled-as}
 use borrow.Author.Needs.{needs}
 use Rattle.base.proofs.writing.fill.Statement.{statement}
 use Rattle.base.proofs.writing.fill.Tie as tie
@@ -15,12 +16,14 @@ start-1 c = c .before .before .before .before .before .before
 
 fields : (c : tie.After-slice-known2) → Filling (whole kind (start-1 c .args .m) [] (start-1 c .args .store .now)) (copy (trail kind (start-1 c .args .m) (start-1 c .args .store .now)) ∷ []) 0 (start-1 c .args .out .now)
     (c .before .before .fill-fields .result) (c .before .before .fill-fields .last .1 .1 .0)
-unfolding whole kind
-fields c = fill-turn (fill-demand (fill-start (start-1 c .pre))) refl (c .before .before .fill-fields .kept .1 .1 .0) (c .before .before .fill-fields .ensures)
+unfolding whole
+fields c = fill-turn (fill-demand (fill-start (start-1 c .pre))) refl (c .before .before .fill-fields .kept .1 .1 .0) (filled-as (start-1 c .args .m) (start-1 c .args .store .now) [] (c .before .before .fill-fields .ensures))
 
 fill-fields-requires : tie.Need-fill-fields-requires
-unfolding whole kind
-fill-fields-requires c κs = fill-row (acts (c .before .before .before .args .m) [] (c .before .before .before .args .store .now)) _ (fill-demand (fill-start (c .before .before .before .pre))) refl
+unfolding whole
+fill-fields-requires c κs =
+    let z = c .before .before .before in
+    ready-as (z .args .m) (z .args .store .now) [] (fill-row (kind .acts (z .args .m) [] (z .args .store .now)) _ (fill-demand (fill-start (z .pre))) refl)
 
 cast-copy : tie.Need-cast-copy
 cast-copy c = search needs

@@ -1,6 +1,6 @@
 -- `bench::line::base_line` meets its contract: what was measured and tallied.
 use mathlib.Core.Path.{sym, ap, _∙_}
-use Rattle.base.specs.Write.{kind}
+use Rattle.base.specs.Kind.{kind}
 use Rattle.base.specs.Contract.{measured}
 use Rattle.bench.proofs.Decided.{too-long, judged}
 use borrow.Author.Needs.{needs}

@@ -1,6 +1,6 @@
 -- `bench::line::multi_stream_line` meets its contract: what was measured and tallied.
 use mathlib.Core.Path.{sym, ap, _∙_}
-use Rattle.multi_stream.specs.Write.{kind}
+use Rattle.multi_stream.specs.Kind.{kind}
 use Rattle.multi_stream.specs.Contract.{measured}
 use Rattle.bench.proofs.Decided.{too-long, judged}
 use borrow.Author.Needs.{needs}

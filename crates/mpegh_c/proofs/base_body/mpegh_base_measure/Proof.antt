@@ -1,7 +1,7 @@
 -- `mpegh_c::base_body::mpegh_base_measure` meets its contract.
 use mathlib.Core.Path.{refl}
 use native.Mathlib.Omega.{arith}
-use Rattle.base.specs.Write.{kind}
+use Rattle.base.specs.Kind.{kind}
 use Rattle.mpegh_c.proofs.Hosted.{measures-refused, measures-sized}
 use borrow.Author.Needs.{needs}
 use Rattle.mpegh_c.proofs.base_body.mpegh_base_measure.Statement.{statement}

@@ -1,5 +1,5 @@
 -- `mpegh_c::base_body::mpegh_base_tally` meets its contract.
-use Rattle.base.specs.Write.{kind}
+use Rattle.base.specs.Kind.{kind}
 use Rattle.mpegh_c.proofs.Hosted.{tallies}
 use borrow.Author.Needs.{needs}
 use Rattle.mpegh_c.proofs.base_body.mpegh_base_tally.Statement.{statement}

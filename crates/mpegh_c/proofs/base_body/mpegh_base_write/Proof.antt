@@ -1,5 +1,5 @@
 -- `mpegh_c::base_body::mpegh_base_write` meets its contract.
-use Rattle.base.specs.Write.{kind}
+use Rattle.base.specs.Kind.{kind}
 use Rattle.mpegh_c.proofs.Hosted.{writes}
 use borrow.Author.Needs.{needs}
 use Rattle.mpegh_c.proofs.base_body.mpegh_base_write.Statement.{statement}

@@ -1,5 +1,5 @@
 -- `mpegh_c::base_body::unread` meets its contract.
-use Rattle.base.specs.Write.{kind}
+use Rattle.base.specs.Kind.{kind}
 use Rattle.mpegh_c.proofs.Hosted.{unread-so}
 use borrow.Author.Needs.{needs}
 use Rattle.mpegh_c.proofs.base_body.unread.Statement.{statement}

@@ -1,7 +1,7 @@
 -- `mpegh_c::multi_stream_body::mpegh_multi_stream_read` meets its contract.
 use mathlib.Core.Path.{refl}
 use Rattle.multi_stream.specs.Rows.{topRow}
-use Rattle.multi_stream.specs.Write.{kind}
+use Rattle.multi_stream.specs.Kind.{kind}
 use Rattle.mpegh_c.proofs.Hosted.{reads-unroomed, reads-refused, reads-done}
 use borrow.Author.Needs.{needs}
 use Rattle.mpegh_c.proofs.multi_stream_body.mpegh_multi_stream_read.Statement.{statement}

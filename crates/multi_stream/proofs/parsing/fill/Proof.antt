@@ -10,8 +10,7 @@ cast-fill-groups c = search needs
 
 fill-groups-requires : tie.Need-fill-groups-requires
 fill-groups-requires c κs =
-    let f = fillable _ (c .before .before .before .before .pre .0) (c .before .if1 .taken) in
-    (f .inside, f .sound, omega (arith, c .before .before .before .before .pre .1))
+    let f = fillable _ (c .before .before .before .before .pre .0) (c .before .if1 .taken) in (f .inside, f .sound, omega (arith, c .before .before .before .before .pre .1))
 
 same-length : tie.Need-same-length
 same-length c = search needs

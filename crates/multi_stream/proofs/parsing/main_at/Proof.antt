@@ -1,20 +1,22 @@
 -- `multi_stream::parsing::main_at` meets its contract: the two bytes are there.
+use mathlib.Core.Path.{_≡_, sym, ap, _∙_}
 use native.Mathlib.Omega.{arith}
-use Rattle.multi_stream.proofs.Parsed.{two-there, main-placed, aside-placed}
+use Rattle.multi_stream.specs.declared.rows.MainStream.{MainStream}
+use Rattle.multi_stream.proofs.Parsed.{both-there, main-placed, aside-placed}
 use borrow.Author.Needs.{needs}
 use Rattle.multi_stream.proofs.parsing.main_at.Statement.{statement}
 use Rattle.multi_stream.proofs.parsing.main_at.Tie as tie
 
 shared-slice-read-wide : tie.Need-shared-slice-read-wide
 shared-slice-read-wide c =
-    let h = two-there _ (rw (c .before .if1 .taken) at (c .before .before .before .pre)) in omega (arith, h)
+    let h = both-there _ (rw (c .before .if1 .taken) at (c .before .before .before .pre)) in omega (arith, h)
 
 wide-requires : tie.Need-wide-requires
 wide-requires c κs = search needs
 
 shared-slice-read-wide-2 : tie.Need-shared-slice-read-wide-2
 shared-slice-read-wide-2 c =
-    let h = two-there _ (rw (c .before .before .before .if1 .taken) at (c .before .before .before .before .before .pre)) in omega (arith, h)
+    let h = both-there _ (rw (c .before .before .before .if1 .taken) at (c .before .before .before .before .before .pre)) in omega (arith, h)
 
 wide-requires-2 : tie.Need-wide-requires-2
 wide-requires-2 c κs = search needs
@@ -48,11 +50,11 @@ absent-requires c κs = search needs
 
 returns : tie.Need-returns
 returns c =
-    rw (c .before .before .before .before .before .before .before .before .before .if1 .taken, c .of .ensures, c .before .before .before .before .part .ensures, c .before .before .before .part2 .ensures, c .before .before .part3 .ensures, c .before .part4 .ensures) (main-placed _ (rw (c .before .before .before .before .before .before .before .before .before .if1 .taken) at (c .before .before .before .before .before .before .before .before .before .before .before .pre)) (c .before .before .before .before .before .before .before .wide .ensures) (c .before .before .before .before .before .wide2 .ensures))
+    let t = c .before .before .before .before .before .before .before .before .before .if1 .taken in let o = c .of .ensures in (ap (λ (m : MainStream). m .present) o ∙ sym t, rw (t, o, c .before .before .before .before .part .ensures, c .before .before .before .part2 .ensures, c .before .before .part3 .ensures, c .before .part4 .ensures) (main-placed _ (rw t at (c .before .before .before .before .before .before .before .before .before .before .before .pre)) (c .before .before .before .before .before .before .before .wide .ensures) (c .before .before .before .before .before .wide2 .ensures)))
 
 returns-2 : tie.Need-returns-2
 returns-2 c =
-    rw (c .before .if1 .left, c .absent .ensures) (aside-placed _)
+    let t = c .before .if1 .left in let o = c .absent .ensures in (ap (λ (m : MainStream). m .present) o ∙ sym t, rw (t, o) (aside-placed _))
 
 pub main-at-spec : {M : Type 1} → statement M
 main-at-spec =

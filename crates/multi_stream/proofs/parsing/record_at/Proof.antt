@@ -1,6 +1,6 @@
 -- `multi_stream::parsing::record_at` meets its contract: the fields of the first byte, the main part and the trailing run.
 use Rattle.frame.proofs.Entries.{within-measured}
-use Rattle.multi_stream.specs.Write.{kind}
+use Rattle.multi_stream.specs.Kind.{kind}
 use Rattle.multi_stream.proofs.Sighted.{main-sound, tops-are}
 use borrow.Author.Needs.{needs}
 use Rattle.multi_stream.proofs.parsing.record_at.Statement.{statement}
@@ -32,7 +32,7 @@ trailing-run-requires c κs =
 
 returns : tie.Need-returns
 returns c =
-    tops-are _ (c .before .before .before .before .before .before .before .pre) (rw (c .before .before .before .part .ensures, c .before .before .before .before .wide .ensures)) _ (rw (c .before .before .part2 .ensures, c .before .before .before .before .wide .ensures) at (c .before .main-at .ensures)) (c .trailing-run .ensures)
+    tops-are _ (c .before .before .before .before .before .before .before .pre) (rw (c .before .before .before .part .ensures, c .before .before .before .before .wide .ensures)) (rw (c .before .before .part2 .ensures, c .before .before .before .before .wide .ensures) at (c .before .main-at .ensures .0)) _ (rw (c .before .before .part2 .ensures, c .before .before .before .before .wide .ensures) at (c .before .main-at .ensures .1)) (c .trailing-run .ensures)
 
 pub record-at-spec : {M : Type 1} → statement M
 record-at-spec =

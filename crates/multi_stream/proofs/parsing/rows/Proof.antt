@@ -1,12 +1,8 @@
 -- `multi_stream::parsing::rows` meets its contract: the first byte, and the main part that it steers.
 use mathlib.Core.Path.{ap}
-use native.Mathlib.Omega.{arith}
-use Rattle.wire.specs.Prog.{u8}
 use Rattle.wire.specs.Reads.{byteOut}
-use Rattle.wire.proofs.Walk.{begun, onward, cut-off}
 use Rattle.wire.proofs.Loops.{summed-short}
-use Rattle.multi_stream.specs.Read.{parse}
-use Rattle.multi_stream.proofs.Parsed.{afterStream, body-summed}
+use Rattle.multi_stream.proofs.Parsed.{first-there, first-cut, body-summed}
 use borrow.Author.Needs.{needs}
 use Rattle.multi_stream.proofs.parsing.rows.Statement.{statement}
 use Rattle.multi_stream.proofs.parsing.rows.Tie as tie
@@ -24,22 +20,19 @@ short-requires : tie.Need-short-requires
 short-requires c κs = search needs
 
 returns : tie.Need-returns
-unfolding parse
 returns c =
-    summed-short (cut-off u8 afterStream (begun parse _ 0 (omega arith)) (c .before .before .before .byte-at .ensures .is) (ap byteOut (c .before .enum-told .given .1)) (c .short .ensures))
+    summed-short (first-cut _ (c .before .before .before .byte-at .ensures .is) (ap byteOut (c .before .enum-told .given .1)) (c .short .ensures))
 
 part-requires : tie.Need-part-requires
 part-requires c κs = search needs
 
 main-rows-requires : tie.Need-main-rows-requires
-unfolding parse
 main-rows-requires c κs =
-    onward u8 afterStream (begun parse _ 0 (omega arith)) (c .before .before .before .before .byte-at .ensures .is) (ap byteOut (c .before .before .a .given .1)) .inside
+    first-there _ (c .before .before .before .before .byte-at .ensures .is) (ap byteOut (c .before .before .a .given .1)) .inside
 
 returns-2 : tie.Need-returns-2
-unfolding parse
 returns-2 c =
-    body-summed (c .before .before .before .a .given .0 .0) (onward u8 afterStream (begun parse _ 0 (omega arith)) (c .before .before .before .before .before .byte-at .ensures .is) (ap byteOut (c .before .before .before .a .given .1))) (rw (c .before .part .ensures) at (c .main-rows .ensures))
+    body-summed (c .before .before .before .a .given .0 .0) (first-there _ (c .before .before .before .before .before .byte-at .ensures .is) (ap byteOut (c .before .before .before .a .given .1))) (rw (c .before .part .ensures) at (c .main-rows .ensures))
 
 pub rows-spec : {M : Type 1} → statement M
 rows-spec =

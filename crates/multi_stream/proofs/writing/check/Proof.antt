@@ -4,7 +4,8 @@ use native.Mathlib.Omega.{arith}
 use borrow.Author.Tests.{leb-true}
 use Rattle.wire.proofs.Passes.{then, more, passed, refused, run-looked}
 use Rattle.frame.specs.Entry.{whole}
-use Rattle.multi_stream.specs.Write.{kind}
+use Rattle.multi_stream.specs.Kind.{kind}
+use Rattle.multi_stream.proofs.Mirrored.{written-as}
 use borrow.Author.Needs.{needs}
 use Rattle.multi_stream.proofs.writing.check.Statement.{statement}
 use Rattle.multi_stream.proofs.writing.check.Tie as tie
@@ -24,8 +25,7 @@ run-requires c κs = search needs
 returns : tie.Need-returns
 unfolding whole kind
 returns c =
-    let e = sym (c .before .before .before .in-store .ensures) ∙ c .before .before .if1 .taken in
-    rw e (passed _ 0 (more 196610 (then (c .before .check-fields .ensures) (run-looked _ _ _ (leb-true _ _ e) (c .run .ensures))) (omega arith)))
+    let e = sym (c .before .before .before .in-store .ensures) ∙ c .before .before .if1 .taken in rw e (passed _ 0 (more 196610 (then (written-as _ _ _ (c .before .check-fields .ensures)) (run-looked _ _ _ (leb-true _ _ e) (c .run .ensures))) (omega arith)))
 
 returns-2 : tie.Need-returns-2
 unfolding whole kind

@@ -1,41 +1,56 @@
--- `multi_stream::writing::fill_fields` meets its contract: the first byte, and what is left to store after it.
-use mathlib.Core.List.{[], _∷_}
-use Rattle.wire.proofs.Passes.{Filling, unskip, demanded, byte-ready, fill-start, fill-demand, fill-byte, fill-last}
-use Rattle.frame.specs.Entry.{first}
-use Rattle.multi_stream.specs.Write.{mainActs, acts}
+-- `multi_stream::writing::fill_fields` meets its contract: the byte of the record, and the main part.
+use mathlib.Core.List.{List, map, _++_}
+use mathlib.Core.Bool.{true}
+use Rattle.wire.specs.Act.{Act, byte, when}
+use Rattle.wire.proofs.Passes.{Filling, fill-start, fill-demand, fill-last, demanded}
+use Rattle.wire.proofs.Plain.{ready-part, fill-part}
+use Rattle.multi_stream.specs.Write.{headFields, mainActs, multiStreamActs}
 use borrow.Author.Needs.{needs}
 use Rattle.multi_stream.proofs.writing.fill_fields.Statement.{statement}
 use Rattle.multi_stream.proofs.writing.fill_fields.Tie as tie
 
-abbrev start-1 : tie.After-slice-known2 → tie.Start
-start-1 c = c .before .before .before .before .before .before .before .before
+abbrev all : tie.Start → List Act
+all c = multiStreamActs (c .args .m) (c .args .groups .now)
 
-after-1 : (c : tie.After-slice-known2) → Filling (acts (start-1 c .args .m) (start-1 c .args .groups .now ∷ []) (start-1 c .args .store .now)) (mainActs (start-1 c .args .m .main) (start-1 c .args .groups .now)) 0 (start-1 c .args .out .now) (c .before .before .put .result) (c .before .before .put .last .0)
-unfolding acts first
-after-1 c = fill-byte (fill-demand (fill-start (start-1 c .pre))) (c .before .before .before .stream-byte .ensures .is) (c .before .before .put .ensures)
+abbrev in-main : tie.Start → List Act
+in-main c = mainActs (c .args .m .main) (c .args .groups .now)
 
-stream-byte-requires : tie.Need-stream-byte-requires
-unfolding acts first
-stream-byte-requires c κs =
-    byte-ready (unskip (c .before .before .before .before .pre)) .0
+begin : (c : tie.Start) → Filling (all c) (when true (map byte (headFields (c .args .m))) ++ in-main c) 0 (c .args .out .now) 0 (c .args .out .now)
+unfolding multiStreamActs
+begin c = fill-demand (fill-demand (fill-demand (fill-start (c .pre))))
 
-put-requires : tie.Need-put-requires
-unfolding acts first
-put-requires c κs =
-    (c .stream-byte .ensures .small, byte-ready (unskip (c .before .before .before .before .before .pre)) .1)
+abbrev start : tie.After-fill-all → tie.Start
+start c = c .before .before .before .before .before .before
+
+behind : (c : tie.After-fill-all) → Filling (all (start c)) (in-main (start c)) 0 (start c .args .out .now) (c .fill-all .result) (c .fill-all .last .0)
+behind c = fill-part _ (c .before .before .head-bytes .ensures) (begin (start c)) (c .fill-all .ensures)
+
+head-bytes-requires : tie.Need-head-bytes-requires
+head-bytes-requires c κs = search needs
+
+slice-aggregate-fill-all : tie.Need-slice-aggregate-fill-all
+slice-aggregate-fill-all c = search needs
+
+fill-all-requires : tie.Need-fill-all-requires
+fill-all-requires c κs = ready-part _ (c .before .head-bytes .ensures) (begin (c .before .before .before .before .before))
 
 fill-main-requires : tie.Need-fill-main-requires
-unfolding acts first
-fill-main-requires c κs =
-    (demanded (start-1 (c .before) .pre), after-1 (c .before) .ready)
+unfolding multiStreamActs
+fill-main-requires c κs = let d = c .before .before .before in (demanded (start d .pre), behind d .ready)
 
 same-length : tie.Need-same-length
 same-length c = search needs
 
 returns : tie.Need-returns
-returns c =
-    fill-last (after-1 (c .before .before .before .before)) (c .before .before .fill-main .ensures)
+returns c = fill-last (behind (c .before .before .before .before .before .before)) (c .before .before .fill-main .ensures)
 
 pub fill-fields-spec : {M : Type 1} → statement M
 fill-fields-spec =
-    tie.close (tie.spec stream-byte-requires put-requires fill-main-requires same-length returns)
+    tie.close
+    (tie.spec
+    head-bytes-requires
+    slice-aggregate-fill-all
+    fill-all-requires
+    fill-main-requires
+    same-length
+    returns)

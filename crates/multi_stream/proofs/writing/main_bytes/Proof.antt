@@ -1,0 +1,29 @@
+-- `multi_stream::writing::main_bytes` meets its contract.
+use Rattle.wire.specs.Spell.{none, more}
+use borrow.Author.Needs.{needs}
+use Rattle.multi_stream.proofs.writing.main_bytes.Statement.{statement}
+use Rattle.multi_stream.proofs.writing.main_bytes.Tie as tie
+
+wide-requires : tie.Need-wide-requires
+wide-requires c κs = search needs
+
+wide-requires-2 : tie.Need-wide-requires-2
+wide-requires-2 c κs = search needs
+
+two-requires : tie.Need-two-requires
+two-requires c κs = search needs
+
+wide-requires-3 : tie.Need-wide-requires-3
+wide-requires-3 c κs = search needs
+
+two-requires-2 : tie.Need-two-requires-2
+two-requires-2 c κs = search needs
+
+returns : tie.Need-returns
+returns c =
+    more (rw (c .before .before .before .before .wide .ensures, c .before .before .before .wide2 .ensures) at (c .before .before .two .ensures)) (more (rw (c .before .wide3 .ensures) at (c .two2 .ensures)) none)
+
+pub main-bytes-spec : {M : Type 1} → statement M
+main-bytes-spec =
+    tie.close
+    (tie.spec wide-requires wide-requires-2 two-requires wide-requires-3 two-requires-2 returns)
