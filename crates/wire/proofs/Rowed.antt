@@ -13,7 +13,7 @@ use Rattle.wire.specs.Lists.{Every, all-nil, all-cons, each, sum, firsts
 use Rattle.wire.specs.Prog.{Prog, ret, many, _>>=_}
 use Rattle.wire.specs.Act.{Act, pick, rows}
 use Rattle.wire.specs.Pen.{clean, bytes}
-use Rattle.wire.specs.Layout.{Layout, end, line, word, choose, follows, judged, Columns, of, at, row, set, reads, writes, shown, cells, matches, matched, every, flagged, counted, has, mix, columns, blank, flat, flatActs, flatMeans, Broken, layouts, broken, brokenActs, brokenMeans, brokenRow, Family, parents, kids, familyActsOf, familyMeansOf, familyActs, familyMeans}
+use Rattle.wire.specs.Layout.{Layout, end, line, word, choose, follows, judged, Columns, of, at, row, set, reads, writes, shown, cells, matches, matched, every, flagged, counted, has, mix, columns, blank, flat, flatActs, flatMeans, Broken, layouts, broken, brokenActs, brokenMeans, brokenRow, Family, parents, kids, familyActsOf, familyMeansOf}
 use Rattle.wire.proofs.Lists.{every-and, every-as, every-map, every-flat, every-firsts}
 use Rattle.wire.proofs.Acts.{and-both, both-and, clean-append, clean-both, bytes-append}
 use Rattle.wire.proofs.Takes.{Takes, takes-split, map-takes, seen, Listed, no-more, one-more, many-takes, listed-every, listed-bound}
@@ -557,9 +557,3 @@ module _ (nest : Nest) where
 
     pub parents-found : each (λ i. row (b .width) (at (b .width) table i)) 0 (length xs) ≡ parents b xs
     parents-found = subst (λ (m : ℕ). each (λ i. row (b .width) (at (b .width) table i)) 0 m ≡ parents b xs) (parents-long xs) (found (b .width) (parents b xs) (parents-wide xs) behind)
-
-    pub families-again : Every (Good families) xs → each (familyMeans b n l table (lower xs (at (b .width) table) parents-found beneath)) 0 (length xs) ≡ xs
-    families-again = families-mean xs (at (b .width) table) parents-found beneath
-
-    pub families-ready : Every (Good families) xs → clean (rows (familyActs b n l table (lower xs (at (b .width) table) parents-found beneath)) 0 (length xs)) ≡ true
-    families-ready = families-sound xs (at (b .width) table) parents-found beneath

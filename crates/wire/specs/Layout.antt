@@ -296,9 +296,6 @@ familyMeansOf b n kid u g = brokenMeans b (λ j. flatMeans n kid (at n u j)) g
 abbrev pub familyActs : Broken → ℕ → Layout → List ℕ → List ℕ → ℕ → List Act
 familyActs b n kid t u i = familyActsOf b n kid u (at (b .width) t i)
 
-abbrev pub familyMeans : Broken → ℕ → Layout → List ℕ → List ℕ → ℕ → Family
-familyMeans b n kid t u i = familyMeansOf b n kid u (at (b .width) t i)
-
 -- ---- rows that end with a payload: a length byte and so many bytes of any content, whose offset and length are columns
 
 pub record Bearing : Type 0 where
