@@ -15,15 +15,13 @@ use Rattle.wire.specs.Act.{pick}
 use Rattle.wire.specs.Layout.{put, puts, reads, shown, cells, tally, has}
 use Rattle.wire.specs.declared.rows.Payload.{Payload}
 use Rattle.wire.proofs.Fields.{part-below}
-use Rattle.frame.specs.declared.Tallied.{Tallied}
-use Rattle.frame.specs.declared.Written.{Written}
-use Rattle.frame.specs.Numbers.{accepted, refuses, refusal, tallied, written}
-use Rattle.frame.specs.Entry.{leaves, onto, into, Sound, Sizes, needs, lacking, filled, judging, sizes, placing, reading, measuring, tallying, gives, trail, writing, Reads, Measures, Tallies, Writes}
+use Rattle.frame.specs.Numbers.{accepted, refuses}
+use Rattle.frame.specs.Entry.{leaves, onto, into, Sound, Sizes, needs, lacking, filled, judging, sizes, placing, reading, measuring, tallying, gives, trail, writing}
 use Rattle.frame.specs.Body as B
 use Rattle.frame.specs.Body.{layouts, carried, parse, placed, given, tables, zeros, heeds, heededRows}
-use Rattle.frame.specs.Claims.{none-read, Claims}
-use Rattle.frame.proofs.Numbers.{refusal-once, tallied-once, written-once}
-use Rattle.frame.proofs.Judged.{not-refused, was, ran-well}
+use Rattle.frame.specs.Claims.{none-read, Claims, Fixed}
+use Rattle.frame.proofs.Numbers.{refused-back, answer-by, fixes}
+use Rattle.frame.proofs.Judged.{was, ran-well}
 use Rattle.frame.proofs.Lawful.{Samples}
 use Rattle.frame.proofs.Proofs as P
 use Rattle.base.specs.declared.rows.MpegH3dAudio.{MpegH3dAudio}
@@ -136,31 +134,17 @@ flag body m e =
 
 -- ---- the promises fix the answers themselves
 
-read-once : (r r′ : Reading) → read r ≡ read r′ → r ≡ r′
-read-once (R.Done m) (R.Done m′) e = let z : m ≡ m′ = cc e in ap R.Done z
-read-once (R.Done m) (R.Refused x) e = not-refused e
-read-once (R.Refused x) (R.Done m) e = not-refused (sym e)
-read-once (R.Refused x) (R.Refused x′) e = let z : refusal x ≡ refusal x′ = cc e in ap R.Refused (refusal-once x x′ z)
+read-back : (r : Reading) → answer-by R.Done R.Refused (read r) ≡ r
+read-back (R.Done m) = refl
+read-back (R.Refused x) = ap R.Refused (refused-back x)
 
-same-k : (s s′ : Base.Sizes) → Path Sizes (record { tables = []; before = s .k }) (record { tables = []; before = s′ .k }) → s ≡ s′
-same-k s s′ e = λ i. record { k = ap (λ (z : Sizes). z .before) e i }
+measure-of : Sizes → Measured
+measure-of z = M.Done (record { k = z .before })
 
-measured-once : (r r′ : Measured) → measured r ≡ measured r′ → r ≡ r′
-measured-once (M.Done s) (M.Done s′) e = ap M.Done (same-k s s′ (cc e))
-measured-once (M.Done s) (M.Refused x) e = not-refused e
-measured-once (M.Refused x) (M.Done s) e = not-refused (sym e)
-measured-once (M.Refused x) (M.Refused x′) e = let z : refusal x ≡ refusal x′ = cc e in ap M.Refused (refusal-once x x′ z)
+measured-back : (r : Measured) → answer-by measure-of M.Refused (measured r) ≡ r
+unfolding measure-of
+measured-back (M.Done s) = refl
+measured-back (M.Refused x) = ap M.Refused (refused-back x)
 
-pub record Fixed : Type 0 where
-  pub reading : (body : List ℕ) (r r′ : Reading) → Reads kind body [] (read r) [] → Reads kind body [] (read r′) [] → r ≡ r′
-  pub measuring : (body : List ℕ) (r r′ : Measured) → Measures kind body (measured r) → Measures kind body (measured r′) → r ≡ r′
-  pub tallying : (body : List ℕ) (r r′ : Tallied) → Tallies kind body (tallied r) → Tallies kind body (tallied r′) → r ≡ r′
-  pub writing : (m : MpegH3dAudio) (store out after after′ : List ℕ) (r r′ : Written) → Writes kind m [] store out (written r) after → Writes kind m [] store out (written r′) after′ → (r ≡ r′) × (after ≡ after′)
-
-pub fixed : Fixed
-fixed = record {
-  reading = λ body r r′ v w. read-once r r′ (claims .determined .read-once body [] _ _ [] [] v w .0);
-  measuring = λ body r r′ v w. measured-once r r′ (claims .determined .measured-once body _ _ v w);
-  tallying = λ body r r′ v w. tallied-once r r′ (claims .determined .tallied-once body _ _ v w);
-  writing = λ m store out after after′ r r′ v w. let e = claims .determined .written-once m [] store out _ _ after after′ v w in (written-once r r′ (e .0), e .1);
-}
+pub fixed : Fixed kind read measured
+fixed = fixes claims read R.Done R.Refused read-back measured measure-of M.Refused measured-back

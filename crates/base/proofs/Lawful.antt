@@ -3,7 +3,6 @@ use Prim.Native.Nat.{ℕ}
 use mathlib.Core.List.{List, [], _∷_, flatten}
 use mathlib.Core.Bool.{Bool, true, false}
 use mathlib.Core.Path.{_≡_, refl}
-use native.Mathlib.Omega.{arith}
 use Rattle.wire.specs.Lists.{all-nil, all-cons, each}
 use Rattle.wire.specs.Bits.{bit, isFlag, total}
 use Rattle.wire.specs.declared.rows.Payload.{Payload}
@@ -15,7 +14,7 @@ use Rattle.frame.specs.Body.{layouts, heeds, heedsOf}
 use Rattle.frame.proofs.Lawful.{Lawful}
 use Rattle.frame.proofs.Pieces.{form}
 use Rattle.frame.proofs.Body as B
-use Rattle.frame.proofs.Body.{places, places-test, Lawful-body, bit-back}
+use Rattle.frame.proofs.Body.{places, places-test, tests, Lawful-body, bit-back}
 use Rattle.base.specs.declared.rows.MpegH3dAudio.{MpegH3dAudio}
 use Rattle.base.specs.Layout.{head}
 use Rattle.base.specs.Rows.{fields, baseOf, bounds}
@@ -43,15 +42,10 @@ kept m = go (m .«interactivity_enabled») (m .«compatible_sets» .present)
     go false false = refl
 
 body-lawful : Lawful-body body
-unfolding form form-proper form-all form-in-bytes proper all has distinct free eights total flatten below bytewide in-bytes head places places-test bounds each
+unfolding tests form form-proper form-all form-in-bytes proper all has distinct free eights total flatten below bytewide in-bytes head places places-test bounds each
 body-lawful = record {
   rows = tt;
-  proper = refl;
-  below = refl;
-  in-bytes = refl;
-  apart = refl;
-  absent-out = λ j h. refl;
-  absent-small = λ j. omega arith;
+  passes = refl;
   again = again;
   kept = kept;
   run-of = λ c r. refl;

@@ -1,7 +1,6 @@
 -- The base body (kind 1) from its syntax table: the top record, and the compatible sets behind it.
 use Prim.Native.Nat.{ℕ}
-use mathlib.Core.List.{List}
-use Rattle.wire.specs.Layout.{blank}
+use mathlib.Core.List.{List, []}
 use Rattle.wire.specs.declared.rows.Payload.{Payload}
 use Rattle.frame.specs.Kind.{Kind}
 use Rattle.frame.specs.Body as B
@@ -14,7 +13,7 @@ abbrev pub pieces : Pieces (Carried Payload) (Carried (List ℕ))
 pieces = carrying head 2 3 4
 
 abbrev pub body : Body (Carried Payload) (Carried (List ℕ)) MpegH3dAudio
-body = record { columns = 8; pieces = pieces; absent = blank; fields = fields; made = baseOf; trailing = λ m. m .trailing; retrail = retrail; bounds = bounds }
+body = record { columns = 8; pieces = pieces; absent = []; fields = fields; made = baseOf; trailing = λ m. m .trailing; retrail = retrail; bounds = bounds }
 
 unfoldable pub kind : Kind Tree MpegH3dAudio Value
 kind = B.kind body

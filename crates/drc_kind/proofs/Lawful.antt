@@ -19,7 +19,7 @@ use Rattle.frame.proofs.Lawful.{Lawful}
 use Rattle.frame.proofs.RowTypes.{flat-lawful, family-lawful, bearer-lawful}
 use Rattle.frame.proofs.Pieces.{Lawful-pieces, form}
 use Rattle.frame.proofs.Body as B
-use Rattle.frame.proofs.Body.{places, places-test, Lawful-body, bit-back}
+use Rattle.frame.proofs.Body.{places, places-test, tests, Lawful-body, bit-back}
 use Rattle.pairs.specs.Layout.{pair}
 use Rattle.scopes.specs.Layout.{scope}
 use Rattle.scopes.specs.Rows.{scoped}
@@ -100,15 +100,10 @@ kept m = go (m .info .present)
     go false = refl
 
 pub body-lawful : Lawful-body body
-unfolding form form-proper form-all form-in-bytes proper all has distinct free eights total sure flatten below bytewide in-bytes head places places-test bounds each
+unfolding tests form form-proper form-all form-in-bytes proper all has distinct free eights total sure flatten below bytewide in-bytes head places places-test bounds each
 body-lawful = record {
   rows = rows-lawful;
-  proper = refl;
-  below = refl;
-  in-bytes = refl;
-  apart = refl;
-  absent-out = λ j h. refl;
-  absent-small = λ j. omega arith;
+  passes = refl;
   again = again;
   kept = kept;
   run-of = λ c r. refl;

@@ -1,7 +1,7 @@
 -- The DRC and loudness body (kind 5) from its syntax tables: the top record, all of it before the first list, and the three lists.
 use Prim.Native.Nat.{ℕ}
-use mathlib.Core.List.{List}
-use Rattle.wire.specs.Layout.{end, blank, Borne}
+use mathlib.Core.List.{List, []}
+use Rattle.wire.specs.Layout.{end, Borne}
 use Rattle.frame.specs.Kind.{Kind}
 use Rattle.frame.specs.Body as B
 use Rattle.frame.specs.Body.{flatRows, familyRows, bearerRows, Pieces, last, list, _▸_, Body}
@@ -22,7 +22,7 @@ pieces =
     ▸ last end
 
 abbrev pub body : Body (Lists Borne) (Lists (List ℕ × List ℕ)) MpegH3dAudioDrcLoudness
-body = record { columns = 8; pieces = pieces; absent = blank; fields = fields; made = drcOf; trailing = λ m. m .trailing; retrail = retrail; bounds = bounds }
+body = record { columns = 8; pieces = pieces; absent = []; fields = fields; made = drcOf; trailing = λ m. m .trailing; retrail = retrail; bounds = bounds }
 
 unfoldable pub kind : Kind Tree MpegH3dAudioDrcLoudness Value
 kind = B.kind body

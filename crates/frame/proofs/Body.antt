@@ -5,7 +5,7 @@ use mathlib.Core.Bool.{Bool, true, false, not, _&&_, _||_}
 use mathlib.Core.Option.{Option, none, some}
 use mathlib.Core.Path.{_≡_, refl, sym, ap, subst, _∙_}
 use native.Mathlib.Omega.{arith}
-use lib.ListN.{length, length-append, getD}
+use lib.ListN.{length, length-append, List·getD-eq-default}
 use lib.Seq.{slice}
 use lib.Dec.{eqb, leb, ltb}
 use borrow.Author.Tests.{not-true, eqb-true, eq-eqb, leb-true, ltb-true}
@@ -16,20 +16,19 @@ use Rattle.wire.specs.Act.{Act, demand, byte, copy, pick, rows}
 use Rattle.wire.specs.declared.pen.Fault.the-variants as F
 use Rattle.wire.specs.declared.rows.Payload.{Payload}
 use Rattle.wire.specs.Pen.{clean, bytes}
-use Rattle.wire.specs.Layout.{Cell, Columns, of, row, set, writes, cells, matched, every, flagged, counted, columns, has, mix, kept, blank, demands}
+use Rattle.wire.specs.Layout.{Cell, Columns, of, row, set, cells, matched, every, flagged, counted, columns, has, mix, kept, blank, demands}
 use Rattle.wire.proofs.Lists.{every-right}
 use Rattle.wire.proofs.Acts.{and-both, both-and, clean-append, clean-both}
 use Rattle.wire.proofs.Takes.{Takes, map-takes}
 use Rattle.wire.proofs.Codec.{Codec, Spells}
 use Rattle.wire.proofs.Cells.{On, sound, clash, mix-in, mix-all, every-same, both-sound, sound-both}
-use Rattle.wire.proofs.Forms.{Form, form-read, form-go, form-goes, form-means, form-acts, Form-fits, form-shown, form-matches, form-all, form-proper, form-in-bytes, form-shown-in, below, row-of, rows-of, Row-fits, means-as, means-same, alike, row-spells, row-ready, row-bytes, woven, Holes, Faultless}
+use Rattle.wire.proofs.Forms.{Form, form-read, form-goes, form-means, form-shown, form-all, form-proper, form-in-bytes, form-shown-in, below, row-of, rows-of, Row-fits, means-as, means-same, alike, row-spells, row-ready, row-bytes, woven, Holes, Faultless}
 use Rattle.wire.proofs.Rowed.{row-on, on-all, after-demands}
-use Rattle.wire.proofs.Heeds.{kept-on}
 use Rattle.frame.specs.Kind.{Lent, Rows, Held}
 use Rattle.frame.specs.Claims.{Agree}
 use Rattle.frame.specs.Entry.{needs, total, first, filled}
-use Rattle.frame.specs.Body.{Pieces, last, carrying, list, layouts, parse, offsetOf, lengthOf, given, placed, payloads, tables, heededRows, beyond, run, inside, pieced, means, heeds, Body, counts, actsOf, valueOf, heedsOf, kind}
-use Rattle.frame.proofs.Lawful.{Taken, Lawful}
+use Rattle.frame.specs.Body.{Pieces, last, carrying, list, layouts, offsetOf, lengthOf, given, placed, payloads, tables, heededRows, beyond, run, inside, pieced, means, heeds, Body, counts, actsOf, valueOf, heedsOf, kind}
+use Rattle.frame.proofs.Lawful.{Lawful}
 use Rattle.frame.proofs.RowTypes.{Took}
 use Rattle.frame.proofs.Pieces.{Lawful-pieces, form, cells-of, matched-of, parse-goes, spans-so, breaks, pieced-so, holes-so, same-tables, all-there, took, Stood, Was, means-so, inside-so, ready-so, columns-so}
 
@@ -168,16 +167,39 @@ same-places (list l k r p) w m g h lent store q =
 
 -- ---- what has to be proved of a body
 
+-- tests that compute: of the layouts, of the place of a payload, and of the columns that reading starts from
+unfoldable pub tests : {T M Top : Type 0} (b : Body T M Top) → Lawful-pieces (b .pieces) → Bool
+tests b w = let x = form (b .pieces) w in form-proper [] x && (below (b .columns) (form-all x) && (form-in-bytes x && (places-test (b .pieces) (b .columns) (form-all x) && (leb (length (b .absent)) (b .columns) && below 256 (b .absent)))))
+
+pub record Passed {T M Top : Type 0} (b : Body T M Top) (w : Lawful-pieces (b .pieces)) : Type 0 where
+  pub proper : form-proper [] (form (b .pieces) w) ≡ true
+  pub below : below (b .columns) (form-all (form (b .pieces) w)) ≡ true
+  pub in-bytes : form-in-bytes (form (b .pieces) w) ≡ true
+  pub apart : places-test (b .pieces) (b .columns) (form-all (form (b .pieces) w)) ≡ true
+  pub absent-out : (j : ℕ) → b .columns ≤ j → of (b .absent) j ≡ 0
+  pub absent-small : (j : ℕ) → of (b .absent) j < 256
+
+-- columns that are given one by one, below 256
+of-small : (l : List ℕ) → below 256 l ≡ true → (j : ℕ) → of l j < 256
+unfolding below
+of-small [] e j = omega arith
+of-small (v ∷ l) e zero = ltb-true v 256 (and-both (ltb v 256) _ e .0)
+of-small (v ∷ l) e (suc j) = of-small l (and-both (ltb v 256) _ e .1) j
+
+pub passed : {T M Top : Type 0} (b : Body T M Top) (w : Lawful-pieces (b .pieces)) → tests b w ≡ true → Passed b w
+unfolding tests
+passed b w e =
+    let x = form (b .pieces) w in
+    let (proper, e₀) = and-both (form-proper [] x) _ e in
+    let (low, e₁) = and-both (below (b .columns) (form-all x)) _ e₀ in
+    let (in-bytes, e₂) = and-both (form-in-bytes x) _ e₁ in
+    let (apart, e₃) = and-both (places-test (b .pieces) (b .columns) (form-all x)) _ e₂ in
+    let (few, small) = and-both (leb (length (b .absent)) (b .columns)) _ e₃ in
+    record { proper = proper; below = low; in-bytes = in-bytes; apart = apart; absent-out = λ j h. List·getD-eq-default (b .absent) 0 (omega (arith, leb-true (length (b .absent)) (b .columns) few)); absent-small = of-small (b .absent) small }
+
 pub record Lawful-body {T M Top : Type 0} (b : Body T M Top) : Type 1 where
   pub rows : Lawful-pieces (b .pieces)
-  -- tests that compute
-  pub proper : form-proper [] (form (b .pieces) rows) ≡ true
-  pub below : below (b .columns) (form-all (form (b .pieces) rows)) ≡ true
-  pub in-bytes : form-in-bytes (form (b .pieces) rows) ≡ true
-  pub apart : places-test (b .pieces) (b .columns) (form-all (form (b .pieces) rows)) ≡ true
-  -- the columns that reading starts from
-  pub absent-out : (j : ℕ) → b .columns ≤ j → b .absent j ≡ 0
-  pub absent-small : (j : ℕ) → b .absent j < 256
+  pub passes : tests b rows ≡ true
   -- the declared record is its columns, if its flags are flags; its trailing run; and what its types can hold
   pub again : (g : Columns) (r : Payload) → every flagged g (cells (layouts (b .pieces)) g) ≡ true → b .fields (b .made (row (b .columns) g) r) ≡ row (b .columns) g
   pub kept : (m : Top) → b .fields (b .made (heedsOf b (of (b .fields m))) (b .trailing m)) ≡ heedsOf b (of (b .fields m))
@@ -192,19 +214,25 @@ module _ {T M Top : Type 0} (b : Body T M Top) (w : Lawful-body b) where
   abbrev x : Form T M
   x = form p (w .rows)
 
+  abbrev start : Columns
+  start = of (b .absent)
+
+  pub passing : Passed b (w .rows)
+  passing = passed b (w .rows) (w .passes)
+
   unfoldable pub format : Codec (List ℕ × T) (List ℕ × M)
-  format = rows-of (b .columns) x (b .absent) (w .proper) (w .below) (w .absent-out)
+  format = rows-of (b .columns) x start (passing .proper) (passing .below) (passing .absent-out)
 
   pub reads-so : format .read ≡ kind b .program
   unfolding format rows-of
-  reads-so = form-goes x (b .absent) (λ v. ret (row (b .columns) (v .0), v .1)) ∙ parse-goes p (w .rows) (b .absent) (λ g y. ret (row (b .columns) g, y))
+  reads-so = form-goes x start (λ v. ret (row (b .columns) (v .0), v .1)) ∙ parse-goes p (w .rows) start (λ g y. ret (row (b .columns) g, y))
 
   pub spans-are : (t : List ℕ × T) → format .spans t ≡ payloads p (t .1)
   unfolding format rows-of
   spans-are t = spans-so p (w .rows) (of (t .0)) (t .1)
 
-  counts-are : (g : Columns) → counts b g ≡ means-as (b .columns) x (b .absent) (w .proper) (w .below) (w .absent-out) g
-  counts-are g = ap (λ (cs : List Cell). mix (columns cs) g (b .absent)) (cells-of p (w .rows) g)
+  counts-are : (g : Columns) → counts b g ≡ means-as (b .columns) x start (passing .proper) (passing .below) (passing .absent-out) g
+  counts-are g = ap (λ (cs : List Cell). mix (columns cs) g start) (cells-of p (w .rows) g)
 
   -- ---- actions without a fault are those of the meaning
 
@@ -220,7 +248,7 @@ module _ {T M Top : Type 0} (b : Body T M Top) (w : Lawful-body b) where
       let fit-so : every sound g (form-shown x g) ≡ true = subst (λ (cs : List Cell). every sound g cs ≡ true) (cells-of p (w .rows) g) (both-sound (cells (layouts p) g) g d f) in
       let h = subst (λ (m : Columns). Holes x m q (means p g (counts b g) lent store)) (counts-are g) (holes-so p (w .rows) g m lent store i e₃) in
       let o = pieced-so p (w .rows) g m lent store in
-      let s = row-spells (b .columns) x (b .absent) (w .proper) (w .below) (w .absent-out) g q (means p g m lent store) (fit-so, ap clean (sym (matched-of p (w .rows) g)) ∙ a) (ap clean (sym o) ∙ e₃) h in
+      let s = row-spells (b .columns) x start (passing .proper) (passing .below) (passing .absent-out) g q (means p g m lent store) (fit-so, ap clean (sym (matched-of p (w .rows) g)) ∙ a) (ap clean (sym o) ∙ e₃) h in
       let z = after-demands (layouts p) g (pieced p g m lent store) ∙ ap bytes o in
       subst (λ (h : Columns). Spells format (actsOf b g lent store) (row (b .columns) h, means p g m lent store)) (sym (counts-are g)) (record { fits = s .fits; sound = s .sound; same = z ∙ s .same })
 
@@ -236,19 +264,19 @@ module _ {T M Top : Type 0} (b : Body T M Top) (w : Lawful-body b) where
     abbrev g : Columns
     g = of (row (b .columns) full)
 
-    fits : Row-fits (b .columns) x (b .absent) (w .proper) (w .below) (w .absent-out) (t .0, form-means x s h (t .1))
+    fits : Row-fits (b .columns) x start (passing .proper) (passing .below) (passing .absent-out) (t .0, form-means x s h (t .1))
     unfolding format rows-of
     fits = f
 
     full-on : On (form-all x) h full
-    full-on j q = sym (placed-on p (b .columns) (form-all x) (w .apart) (t .1) h j q)
+    full-on j q = sym (placed-on p (b .columns) (form-all x) (passing .apart) (t .1) h j q)
 
     g-on : On (form-all x) h g
-    g-on j q = full-on j q ∙ sym (row-on (b .columns) (form-all x) (w .below) (row (b .columns) full) full refl j q)
+    g-on j q = full-on j q ∙ sym (row-on (b .columns) (form-all x) (passing .below) (row (b .columns) full) full refl j q)
 
     faultless : (k : Columns) → On (form-all x) h k → Faultless x k
     unfolding format rows-of
-    faultless k o = row-ready (b .columns) x (b .absent) (w .proper) (w .below) (w .absent-out) (t .0, form-means x s h (t .1)) f e k (on-all x h k o)
+    faultless k o = row-ready (b .columns) x start (passing .proper) (passing .below) (passing .absent-out) (t .0, form-means x s h (t .1)) f e k (on-all x h k o)
 
     -- flags and counts have no fault
     sound-at : (k : Columns) → On (form-all x) h k → (every flagged k (cells (layouts p) k) ≡ true) × (every counted k (cells (layouts p) k) ≡ true)
@@ -259,11 +287,11 @@ module _ {T M Top : Type 0} (b : Body T M Top) (w : Lawful-body b) where
 
     counts-were : counts b g ≡ h
     unfolding Row-fits
-    counts-were = counts-are g ∙ sym (means-same (b .columns) x (b .absent) (w .proper) (w .below) (w .absent-out) h g (on-all x h g g-on)) ∙ mix-all (columns (form-shown x h)) (fits .1)
+    counts-were = counts-are g ∙ sym (means-same (b .columns) x start (passing .proper) (passing .below) (passing .absent-out) h g (on-all x h g g-on)) ∙ mix-all (columns (form-shown x h)) (fits .1)
 
     was : Was p (w .rows) s g h (t .1)
     unfolding Row-fits format rows-of
-    was = record { stood = placed-stands p (b .columns) (form-all x) (w .apart) (t .1) h; fits = f .2; sound = e; within = i }
+    was = record { stood = placed-stands p (b .columns) (form-all x) (passing .apart) (t .1) h; fits = f .2; sound = e; within = i }
 
     pub laid : (lent : Lent) → valueOf b g (filled (tables p (t .1)) lent) s ≡ format .means s t
     unfolding Row-fits format rows-of
@@ -288,7 +316,7 @@ module _ {T M Top : Type 0} (b : Body T M Top) (w : Lawful-body b) where
     pub bounds-hold : length s < 65536 → (k n : ℕ) → k < 65536 → n < 65536 → Every Held (b .bounds (b .made (row (b .columns) full) (span k n)))
     unfolding format rows-of
     bounds-hold n =
-        let c = row-bytes (b .columns) x (b .absent) (w .proper) (w .below) (w .absent-out) (w .in-bytes) (w .absent-small) (t .0, form-means x s h (t .1)) f e in
+        let c = row-bytes (b .columns) x start (passing .proper) (passing .below) (passing .absent-out) (passing .in-bytes) (passing .absent-small) (t .0, form-means x s h (t .1)) f e in
         w .held full (placed-small p (t .1) h s i n (λ j. let y = c j in omega arith)) (λ j q. let y = c j in let z = placed-off p (t .1) h j q in omega (arith, y, z))
 
   -- ---- what writing reads decides the actions
@@ -302,8 +330,8 @@ module _ {T M Top : Type 0} (b : Body T M Top) (w : Lawful-body b) where
       go : (y : Bool) → has j (form-all x) ≡ y → g j ≡ of (heedsOf b g) j
       go false z = clash q (form-shown-in x g j z)
       go true z =
-          let a = row-on (b .columns) (form-all x) (w .below) (heedsOf b g) (heeds p g (counts b g) k) refl j z in
-          let c = heeds-on p (b .columns) (form-all x) (w .apart) (counts b g) g k j z in
+          let a = row-on (b .columns) (form-all x) (passing .below) (heedsOf b g) (heeds p g (counts b g) k) refl j z in
+          let c = heeds-on p (b .columns) (form-all x) (passing .apart) (counts b g) g k j z in
           sym (a ∙ c ∙ mix-in (columns (cells (layouts p) g)) g blank j (ap (λ (cs : List Cell). has j (columns cs)) (cells-of p (w .rows) g) ∙ q))
 
   acts-kept : (g : Columns) (lent : Lent) (store : List ℕ) → actsOf b g lent store ≡ actsOf b (of (heedsOf b g)) lent store
@@ -311,9 +339,9 @@ module _ {T M Top : Type 0} (b : Body T M Top) (w : Lawful-body b) where
       let m = counts b g in
       let h = of (heedsOf b g) in
       let o = kept-so g in
-      let s = alike (b .columns) x (b .absent) (w .proper) (w .below) (w .absent-out) g h o in
-      let same : m ≡ counts b h = counts-are g ∙ means-same (b .columns) x (b .absent) (w .proper) (w .below) (w .absent-out) g h o ∙ sym (counts-are h) in
-      let y = same-places p (w .rows) m g h lent store (heeds-place p (b .columns) (form-all x) (w .apart) m g (kept (layouts p) g blank)) in
+      let s = alike (b .columns) x start (passing .proper) (passing .below) (passing .absent-out) g h o in
+      let same : m ≡ counts b h = counts-are g ∙ means-same (b .columns) x start (passing .proper) (passing .below) (passing .absent-out) g h o ∙ sym (counts-are h) in
+      let y = same-places p (w .rows) m g h lent store (heeds-place p (b .columns) (form-all x) (passing .apart) m g (kept (layouts p) g blank)) in
       let test : (q : Cell → ℕ → Bool) → every q g (cells (layouts p) g) ≡ every q h (cells (layouts p) h) = λ q. ap (every q g) (cells-of p (w .rows) g) ∙ every-same q (form-shown x g) o ∙ ap (every q h) (s .cells ∙ sym (cells-of p (w .rows) h)) in
       let a = y .inside ∙ ap (λ (m : Columns). inside p h m lent store) same in
       let c = matched-of p (w .rows) g ∙ s .matched ∙ sym (matched-of p (w .rows) h) in
@@ -338,8 +366,8 @@ module _ {T M Top : Type 0} (b : Body T M Top) (w : Lawful-body b) where
   unfolding format rows-of
   took-of t bs d =
       let d′ = subst (λ (q : Prog (List ℕ × T)). Takes q 0 t bs) (sym reads-so) d in
-      let (z, e, y) = map-takes {B = List ℕ × T} (form-read x (b .absent)) (λ v. (row (b .columns) (v .0), v .1)) d′ in
-      subst (λ (t : List ℕ × T). Took (tables p (t .1)) bs) e (took p (w .rows) (b .absent) 0 z bs y)
+      let (z, e, y) = map-takes {B = List ℕ × T} (form-read x start) (λ v. (row (b .columns) (v .0), v .1)) d′ in
+      subst (λ (t : List ℕ × T). Took (tables p (t .1)) bs) e (took p (w .rows) start 0 z bs y)
 
   pub lawful : Lawful (kind b)
   lawful = record {
@@ -366,10 +394,3 @@ pub bit-back : (v : ℕ) → isFlag v ≡ true → bit (eqb v 1) ≡ v
 bit-back zero e = refl
 bit-back (suc zero) e = refl
 bit-back (suc (suc v)) e = let h : suc (suc v) ≤ 1 = leb-true _ _ e in absurd (omega arith)
-
--- columns that are given one by one, below 256
-pub of-small : (l : List ℕ) → below 256 l ≡ true → (j : ℕ) → of l j < 256
-unfolding below
-of-small [] e j = omega arith
-of-small (v ∷ l) e zero = ltb-true v 256 (and-both (ltb v 256) _ e .0)
-of-small (v ∷ l) e (suc j) = of-small l (and-both (ltb v 256) _ e .1) j

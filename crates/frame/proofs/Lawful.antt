@@ -1,5 +1,5 @@
 -- What has to be proved of a kind, so that all of Claims holds of it (Proofs): it is a lawful format, and its record, tables and actions are those of the format.
-use Prim.Native.Nat.{ℕ, _+_, _*_, _≤_, _<_}
+use Prim.Native.Nat.{ℕ, _*_, _≤_, _<_}
 use mathlib.Core.List.{List, _∷_, _++_}
 use mathlib.Core.Bool.{true}
 use mathlib.Core.Option.{none}

@@ -11,7 +11,7 @@ use lib.Dec.{eqb, leb}
 use borrow.Author.Tests.{leb-true, le-leb}
 use Rattle.wire.specs.Lists.{Every, all-nil, all-cons, each, Column}
 use Rattle.wire.specs.Bits.{field}
-use Rattle.wire.specs.Prog.{Prog, ret, u8, pass, many, Within, _>>=_}
+use Rattle.wire.specs.Prog.{Prog, u8, pass, many, Within, _>>=_}
 use Rattle.wire.specs.Act.{Act, byte, copy, pick, rows}
 use Rattle.wire.specs.declared.rows.Payload.{Payload}
 use Rattle.wire.specs.Pen.{clean, bytes}
@@ -20,7 +20,7 @@ use Rattle.wire.proofs.Lists.{every-left, every-right, every-both, map-every}
 use Rattle.wire.proofs.Acts.{and-both, both-and, clean-both}
 use Rattle.wire.proofs.Passes.{slice-long}
 use Rattle.wire.proofs.Takes.{Takes, takes-split, map-takes, Listed, many-takes}
-use Rattle.wire.proofs.Codec.{Codec, Spells, seen-as, sized, sized-read, sized-acts, sized-fits, opt, opt-read, opt-means, opt-acts, Opt-fits, opt-spans, spells-rows, Counted}
+use Rattle.wire.proofs.Codec.{Spells, seen-as, sized, sized-read, sized-acts, sized-fits, opt, opt-read, opt-means, opt-acts, Opt-fits, opt-spans, spells-rows, Counted}
 use Rattle.wire.proofs.Codec as C
 use Rattle.wire.proofs.Forms as W
 use Rattle.wire.proofs.Forms.{Form, hole, form-read, form-go, form-means, form-acts, Form-fits, form-shown, form-matches, form-spans, Breaks, woven, Holes, Cleans}

@@ -1,17 +1,17 @@
 -- What has to be proved of a row type, so that a kind with lists of such rows is lawful (Bodies); and that the three row types of Body have it: plain rows, rows with rows of another table, and rows that end with a payload.
-use Prim.Native.Nat.{ℕ, _+_, _*_, _/_, _≤_, _<_}
+use Prim.Native.Nat.{ℕ, _+_, _/_, _≤_, _<_}
 use mathlib.Core.List.{List, [], _∷_, _++_, map, map-id, flatten, flatMap}
 use mathlib.Core.Bool.{true}
 use mathlib.Core.Path.{_≡_, refl, sym, ap, subst, _∙_}
 use native.Mathlib.Omega.{arith}
 use lib.ListN.{length, drop, length-map}
-use Rattle.wire.specs.Lists.{Every, all-nil, all-cons, each, sum, firsts, Column}
+use Rattle.wire.specs.Lists.{Every, all-nil, all-cons, each, firsts, Column}
 use Rattle.wire.specs.Prog.{Within}
 use Rattle.wire.specs.Act.{Act, rows}
 use Rattle.wire.specs.Pen.{clean}
-use Rattle.wire.specs.Layout.{Layout, Columns, of, at, row, flat, flatActs, flatMeans, Broken, broken, brokenRow, brokenActs, Family, parents, kids, familyActsOf, familyMeansOf, Bearing, Borne, bearing, bearingActs, bearingMeans, borneRow}
+use Rattle.wire.specs.Layout.{Layout, Columns, of, at, row, flat, flatActs, Broken, broken, brokenRow, brokenActs, Family, parents, Bearing, Borne, bearing, borneRow}
 use Rattle.wire.proofs.Lists.{every-as, every-flat, every-and, every-map, every-firsts}
-use Rattle.wire.proofs.Takes.{Takes, Listed, listed-every, listed-bound}
+use Rattle.wire.proofs.Takes.{Listed, listed-every, listed-bound}
 use Rattle.wire.proofs.Nest.{flat-length, sum-suc}
 use Rattle.wire.proofs.Codec.{Codec, Spells, seen-as}
 use Rattle.wire.proofs.Cells.{On}

@@ -196,12 +196,12 @@ heeds (last l) g m f = f
 heeds (carrying l j o n) g m f = set o (pick (eqb (m j) 1) (g o) 0) (set n (pick (eqb (m j) 1) (g n) 0) f)
 heeds (list l k r p) g m f = heeds p g m f
 
--- ---- the kind: the columns of its record, its pieces, the columns that reading starts from, and the record that the code declares
+-- ---- the kind: the columns of its record, its pieces, the columns that reading starts from (what is not listed is 0), and the record that the code declares
 
 pub record Body (T M Top : Type 0) : Type 1 where
   pub columns : ℕ
   pub pieces : Pieces T M
-  pub absent : Columns
+  pub absent : List ℕ
   pub fields : Top → List ℕ
   pub made : List ℕ → Payload → Top
   pub trailing : Top → Payload
@@ -211,7 +211,7 @@ pub record Body (T M Top : Type 0) : Type 1 where
 module _ {T M Top : Type 0} (b : Body T M Top) where
   -- the columns that mean something: those of the parts that are there
   abbrev pub counts : Columns → Columns
-  counts g = kept (layouts (b .pieces)) g (b .absent)
+  counts g = kept (layouts (b .pieces)) g (of (b .absent))
 
   abbrev pub actsOf : Columns → Lent → List ℕ → List Act
   actsOf g lent store = demand F.Range (inside (b .pieces) g (counts g) lent store) ∷ demands (layouts (b .pieces)) g ++ pieced (b .pieces) g (counts g) lent store
@@ -224,7 +224,7 @@ module _ {T M Top : Type 0} (b : Body T M Top) where
 
   abbrev pub kind : Kind (List ℕ × T) Top (List ℕ × M)
   kind = record {
-    program = parse (b .pieces) (b .absent) (λ g x. ret (row (b .columns) g, x));
+    program = parse (b .pieces) (of (b .absent)) (λ g x. ret (row (b .columns) g, x));
     top = λ t run. b .made (row (b .columns) (placed (b .pieces) (t .1) (of (t .0)))) run;
     trailing = b .trailing;
     retrail = b .retrail;

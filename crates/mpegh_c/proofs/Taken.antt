@@ -9,7 +9,7 @@ use lib.ListN.{length}
 use borrow.Author.Tests.{le-leb, lt-leb}
 use Rattle.frame.specs.Numbers.{Answer, accepted, refused, number}
 use Rattle.frame.specs.Kind.{Kind, Lent}
-use Rattle.frame.specs.Entry.{Sizes, no-room, leaves, put, reading, measuring, tallying, writing}
+use Rattle.frame.specs.Entry.{Sizes, no-room, leaves, reading, measuring, tallying, writing}
 use Rattle.frame.proofs.More.{answered}
 use Rattle.mpegh_c.specs.Code.{code, tableCode, valuesCode, answerCode}
 use Rattle.mpegh_c.specs.Host.{Hosted, hosted, topped, rowsOf, sized, hostReading, hostMeasuring, HostReads, HostMeasures, HostTallies, HostWrites}

@@ -17,17 +17,15 @@ use Rattle.wire.specs.Layout.{at, row, flat, reads, put, puts, shown, cells, ta
 use Rattle.wire.proofs.Fields.{part-below}
 use Rattle.wire.proofs.Takes.{Takes, run-takes, takes-split, takes-ret, map-takes, many-takes, listed-every}
 use Rattle.wire.proofs.Rowed.{Wide, found, flat-grows}
-use Rattle.frame.specs.declared.Tallied.{Tallied}
-use Rattle.frame.specs.declared.Written.{Written}
 use Rattle.frame.specs.Kind.{Lent}
-use Rattle.frame.specs.Numbers.{accepted, refuses, refusal, tallied, written}
-use Rattle.frame.specs.Entry.{leaves, onto, into, Sizes, Need, needs, lacking, room, first, others, filled, judging, sizes, placing, reading, measuring, tallying, gives, trail, writing, Reads, Measures, Tallies, Writes}
+use Rattle.frame.specs.Numbers.{accepted, refuses}
+use Rattle.frame.specs.Entry.{leaves, onto, into, Sizes, Need, needs, lacking, room, first, others, filled, judging, sizes, placing, reading, measuring, tallying, gives, trail, writing}
 use Rattle.frame.specs.Body.{layouts, parse, placed, tables, zeros, heeds, heededRows}
-use Rattle.frame.specs.Claims.{Lowest, this, later, rows-agree, none-read, Claims}
-use Rattle.frame.proofs.Numbers.{refusal-once, tallied-once, written-once}
-use Rattle.frame.proofs.Judged.{not-refused, was, ran-well, measured as was-measured}
+use Rattle.frame.specs.Claims.{Lowest, this, later, rows-agree, none-read, Claims, Fixed}
+use Rattle.frame.proofs.Numbers.{refused-back, answer-by, fixes}
+use Rattle.frame.proofs.Judged.{was, ran-well, measured as was-measured}
 use Rattle.frame.proofs.Lawful.{Samples}
-use Rattle.frame.proofs.Tables.{same-rows}
+use Rattle.frame.proofs.Tables.{rowsAt}
 use Rattle.frame.proofs.Proofs as P
 use Rattle.stream_groups.specs.Layout.{group}
 use Rattle.multi_stream.specs.declared.rows.MultiStreamMain.{MultiStreamMain}
@@ -41,7 +39,7 @@ use Rattle.multi_stream.specs.Layout.{head}
 use Rattle.multi_stream.specs.Rows.{MultiStream}
 use Rattle.multi_stream.specs.Read.{Main}
 use Rattle.multi_stream.specs.Read as Rust
-use Rattle.multi_stream.specs.Kind.{pieces, kind}
+use Rattle.multi_stream.specs.Kind.{kind}
 use Rattle.multi_stream.specs.Contract.{needed, sized, read, measured}
 use Rattle.multi_stream.proofs.Bodies.{twoGroups, twoRows, noGroups}
 use Rattle.multi_stream.proofs.Lawful.{lawful}
@@ -177,33 +175,17 @@ absent-part id p p′ r groups store out = claims .writing .unread (without id p
 
 -- ---- the promises fix the answers themselves
 
-read-once : (r r′ : Reading) → read r ≡ read r′ → r ≡ r′
-read-once (R.Done m) (R.Done m′) e = let z : m ≡ m′ = cc e in ap R.Done z
-read-once (R.Done m) (R.Refused x) e = not-refused e
-read-once (R.Refused x) (R.Done m) e = not-refused (sym e)
-read-once (R.Refused x) (R.Refused x′) e = let z : refusal x ≡ refusal x′ = cc e in ap R.Refused (refusal-once x x′ z)
+read-back : (r : Reading) → answer-by R.Done R.Refused (read r) ≡ r
+read-back (R.Done m) = refl
+read-back (R.Refused x) = ap R.Refused (refused-back x)
 
-same-sizes : (s s′ : Multi.Sizes) → sized (s .groups) (s .k) ≡ sized (s′ .groups) (s′ .k) → s ≡ s′
-same-sizes s s′ e = λ i. record { groups = same-rows e 0 i; k = ap (λ (z : Sizes). z .before) e i }
+measure-of : Sizes → Measured
+measure-of z = M.Done (record { groups = rowsAt 0 (z .tables); k = z .before })
 
-measured-once : (r r′ : Measured) → measured r ≡ measured r′ → r ≡ r′
-measured-once (M.Done s) (M.Done s′) e = ap M.Done (same-sizes s s′ (cc e))
-measured-once (M.Done s) (M.Refused x) e = not-refused e
-measured-once (M.Refused x) (M.Done s) e = not-refused (sym e)
-measured-once (M.Refused x) (M.Refused x′) e = let z : refusal x ≡ refusal x′ = cc e in ap M.Refused (refusal-once x x′ z)
+measured-back : (r : Measured) → answer-by measure-of M.Refused (measured r) ≡ r
+unfolding measure-of
+measured-back (M.Done s) = refl
+measured-back (M.Refused x) = ap M.Refused (refused-back x)
 
-pub record Fixed : Type 0 where
-  pub reading : (body groups after after′ : List ℕ) (r r′ : Reading) → Reads kind body (groups ∷ []) (read r) (after ∷ []) → Reads kind body (groups ∷ []) (read r′) (after′ ∷ []) → (r ≡ r′) × (after ≡ after′)
-  pub measuring : (body : List ℕ) (r r′ : Measured) → Measures kind body (measured r) → Measures kind body (measured r′) → r ≡ r′
-  pub tallying : (body : List ℕ) (r r′ : Tallied) → Tallies kind body (tallied r) → Tallies kind body (tallied r′) → r ≡ r′
-  pub writing : (m : MpegH3dAudioMultiStream) (groups store out after after′ : List ℕ) (r r′ : Written) → Writes kind m (groups ∷ []) store out (written r) after → Writes kind m (groups ∷ []) store out (written r′) after′
-      → (r ≡ r′) × (after ≡ after′)
-
-pub fixed : Fixed
-unfolding first
-fixed = record {
-  reading = λ body groups after after′ r r′ v w. let e = claims .determined .read-once body (groups ∷ []) _ _ (after ∷ []) (after′ ∷ []) v w in (read-once r r′ (e .0), ap (λ (l : Lent). first l) (e .1));
-  measuring = λ body r r′ v w. measured-once r r′ (claims .determined .measured-once body _ _ v w);
-  tallying = λ body r r′ v w. tallied-once r r′ (claims .determined .tallied-once body _ _ v w);
-  writing = λ m groups store out after after′ r r′ v w. let e = claims .determined .written-once m (groups ∷ []) store out _ _ after after′ v w in (written-once r r′ (e .0), e .1);
-}
+pub fixed : Fixed kind read measured
+fixed = fixes claims read R.Done R.Refused read-back measured measure-of M.Refused measured-back

@@ -3,7 +3,6 @@ use Prim.Native.Nat.{ℕ}
 use mathlib.Core.List.{List, [], _∷_, flatten}
 use mathlib.Core.Bool.{Bool, true, false}
 use mathlib.Core.Path.{_≡_, refl}
-use native.Mathlib.Omega.{arith}
 use Rattle.wire.specs.Lists.{all-nil, all-cons, each}
 use Rattle.wire.specs.Bits.{bit, isFlag, total}
 use Rattle.wire.specs.declared.rows.Payload.{Payload}
@@ -17,7 +16,7 @@ use Rattle.frame.proofs.Lawful.{Lawful}
 use Rattle.frame.proofs.RowTypes.{flat-lawful}
 use Rattle.frame.proofs.Pieces.{Lawful-pieces, form}
 use Rattle.frame.proofs.Body as B
-use Rattle.frame.proofs.Body.{places, places-test, Lawful-body, bit-back}
+use Rattle.frame.proofs.Body.{places, places-test, tests, Lawful-body, bit-back}
 use Rattle.stream_groups.specs.Layout.{group}
 use Rattle.stream_groups.proofs.Writes.{group-passes}
 use Rattle.multi_stream.specs.declared.rows.MpegH3dAudioMultiStream.{MpegH3dAudioMultiStream}
@@ -49,15 +48,10 @@ kept m = go (m .main .present)
     go false = refl
 
 pub body-lawful : Lawful-body body
-unfolding form form-proper form-all form-in-bytes proper all has distinct free eights total sure flatten below bytewide in-bytes head places places-test bounds each
+unfolding tests form form-proper form-all form-in-bytes proper all has distinct free eights total sure flatten below bytewide in-bytes head places places-test bounds each
 body-lawful = record {
   rows = rows-lawful;
-  proper = refl;
-  below = refl;
-  in-bytes = refl;
-  apart = refl;
-  absent-out = λ j h. refl;
-  absent-small = λ j. omega arith;
+  passes = refl;
   again = again;
   kept = kept;
   run-of = λ c r. refl;

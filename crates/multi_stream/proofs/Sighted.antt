@@ -10,7 +10,7 @@ use lib.Dec.{eqb}
 use lib.Seq.{sets}
 use Rattle.wire.specs.Lists.{Every, all-nil, all-cons, each, sum}
 use Rattle.wire.specs.Bits.{part, zeros}
-use Rattle.wire.specs.Prog.{Out, done, run}
+use Rattle.wire.specs.Prog.{done, run}
 use Rattle.wire.specs.Reads.{mapOut, isDone, rowsOf}
 use Rattle.wire.specs.Act.{pick}
 use Rattle.wire.specs.declared.rows.Payload.{Payload}
@@ -32,7 +32,6 @@ use Rattle.frame.proofs.MoreRoom.{none-fit, fit-head}
 use Rattle.frame.proofs.Entries.{firstRows, Known, known, tops-known, fills-known}
 use Rattle.stream_groups.specs.Layout.{group}
 use Rattle.multi_stream.specs.declared.rows.MainStream.{MainStream}
-use Rattle.multi_stream.specs.declared.rows.MpegH3dAudioMultiStream.{MpegH3dAudioMultiStream}
 use Rattle.multi_stream.specs.Layout.{head}
 use Rattle.multi_stream.specs.Rows.{mainColumns, MultiStream}
 use Rattle.multi_stream.specs.Read.{Main}

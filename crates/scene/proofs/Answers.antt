@@ -17,9 +17,9 @@ use Rattle.frame.specs.declared.Room.{Room}
 use Rattle.frame.specs.declared.Room.the-variants as M
 use Rattle.frame.specs.Kind.{Lent}
 use Rattle.frame.specs.Body as B
-use Rattle.frame.specs.Numbers.{accepted, refused, refusal}
+use Rattle.frame.specs.Numbers.{accepted}
 use Rattle.frame.specs.Entry as E
-use Rattle.frame.specs.Entry.{lacking, onto, sizes, Reads, Measures, Tallies}
+use Rattle.frame.specs.Entry.{lacking, onto, sizes, Measures, Tallies}
 use Rattle.frame.specs.Sight.{andTables}
 use Rattle.frame.proofs.Entries.{judges, tallies}
 use Rattle.frame.proofs.Tables.{enough, reads-lowest}

@@ -5,7 +5,7 @@ use mathlib.Core.List.{List}
 use mathlib.Core.Option.{none}
 use lib.ListN.{length, getD}
 use Rattle.wire.specs.Bits.{part}
-use Rattle.wire.specs.Prog.{done, many}
+use Rattle.wire.specs.Prog.{done}
 use Rattle.wire.specs.Layout.{flat}
 use Rattle.wire.proofs.Walk.{ends}
 use Rattle.wire.proofs.Loops.{many-long}

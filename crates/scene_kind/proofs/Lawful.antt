@@ -4,7 +4,6 @@ use mathlib.Core.List.{List, [], _∷_, flatten}
 use mathlib.Core.Bool.{Bool, true, false}
 use mathlib.Core.Path.{_≡_, refl}
 use native.Mathlib.Omega.{arith}
-use lib.ListN.{List·getD-eq-default}
 use Rattle.wire.specs.Lists.{all-nil, all-cons, each}
 use Rattle.wire.specs.Bits.{bit, isFlag, total}
 use Rattle.wire.specs.declared.rows.Payload.{Payload}
@@ -18,7 +17,7 @@ use Rattle.frame.proofs.Lawful.{Lawful}
 use Rattle.frame.proofs.RowTypes.{flat-lawful, family-lawful}
 use Rattle.frame.proofs.Pieces.{Lawful-pieces, form}
 use Rattle.frame.proofs.Body as B
-use Rattle.frame.proofs.Body.{places, places-test, Lawful-body, bit-back, of-small}
+use Rattle.frame.proofs.Body.{places, places-test, tests, Lawful-body, bit-back}
 use Rattle.scene_groups.specs.Layout.{group}
 use Rattle.pairs.specs.Layout.{pair}
 use Rattle.switch_groups.specs.Layout.{member, switchGroup}
@@ -91,15 +90,10 @@ kept m = go (m .groups .present) (m .«switch_groups» .present) (m .presets .pr
     go false false false = refl
 
 pub body-lawful : Lawful-body body
-unfolding form form-proper form-all form-in-bytes proper all has distinct free eights total sure flatten below bytewide in-bytes T.groups T.switchGroups T.presets places places-test bounds each
+unfolding tests form form-proper form-all form-in-bytes proper all has distinct free eights total sure flatten below bytewide in-bytes T.groups T.switchGroups T.presets places places-test bounds each
 body-lawful = record {
   rows = rows-lawful;
-  proper = refl;
-  below = refl;
-  in-bytes = refl;
-  apart = refl;
-  absent-out = λ j h. List·getD-eq-default (0 ∷ 0 ∷ 0 ∷ 0 ∷ 7 ∷ 0 ∷ 0 ∷ 7 ∷ 0 ∷ 0 ∷ 1 ∷ []) 0 h;
-  absent-small = of-small (0 ∷ 0 ∷ 0 ∷ 0 ∷ 7 ∷ 0 ∷ 0 ∷ 7 ∷ 0 ∷ 0 ∷ 1 ∷ []) refl;
+  passes = refl;
   again = again;
   kept = kept;
   run-of = λ c r. refl;

@@ -9,7 +9,7 @@ use Rattle.wire.specs.Lists.{each}
 use Rattle.wire.specs.Bits.{part, total, split}
 use Rattle.wire.specs.Prog.{Prog, ret, look, u8, bytes, many, _>>=_}
 use Rattle.wire.specs.Act.{pick}
-use Rattle.wire.specs.Layout.{end, one, optional, num, reserved, flag, Columns, blank, put, puts, reads, row, flat, broken, Family}
+use Rattle.wire.specs.Layout.{end, one, optional, num, reserved, flag, Columns, of, blank, put, puts, reads, row, flat, broken, Family}
 use Rattle.wire.proofs.Runs.{bind-assoc}
 use Rattle.frame.specs.Body.{parse}
 use Rattle.scene_groups.specs.Layout as G
@@ -205,12 +205,12 @@ module _ (G : Prog (List ℕ)) (S P : Prog Family) where
       section (f 5) 3 5 7 S >>= λ s. section (f 8) 3 5 7 P >>= λ p.
       ret (sceneIs (f 0 ∷ f 1 ∷ f 2 ∷ g .count ∷ s .reserved ∷ f 5 ∷ s .count ∷ p .reserved ∷ f 8 ∷ p .count ∷ g .reserved ∷ []) (g .rows) (s .rows) (p .rows))
 
-  groups-so : reads T.groups T.absent >>= to-groups ≡ sceneOver G S P
+  groups-so : reads T.groups (of T.absent) >>= to-groups ≡ sceneOver G S P
   unfolding T.groups reads puts put split total section sceneOver u8 many _>>=_
   groups-so = λ i. look 1 (λ a. look 1 (λ b. go a b (eqb (part 7 1 (getD a 0 0)) 1) i))
     where
       headed : List ℕ → List ℕ → Columns
-      headed a b = puts ((num 8 1 ∷ []) ∷ []) b (puts ((flag 2 ∷ flag 5 ∷ flag 8 ∷ reserved 5 0 ∷ []) ∷ []) a T.absent)
+      headed a b = puts ((num 8 1 ∷ []) ∷ []) b (puts ((flag 2 ∷ flag 5 ∷ flag 8 ∷ reserved 5 0 ∷ []) ∷ []) a (of T.absent))
 
       sec : List ℕ → List (List ℕ) → Section (List ℕ)
       sec c l = record { reserved = part 7 1 (getD c 0 0); count = part 0 7 (getD c 0 0); rows = l }

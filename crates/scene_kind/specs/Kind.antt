@@ -1,7 +1,5 @@
 -- The scene body (kind 2) from its syntax tables: the top record in three pieces, each with the list of its section behind it.
-use Prim.Native.Nat.{ℕ}
-use mathlib.Core.List.{List}
-use Rattle.wire.specs.Layout.{end, Family}
+use Rattle.wire.specs.Layout.{end}
 use Rattle.frame.specs.Kind.{Kind}
 use Rattle.frame.specs.Body as B
 use Rattle.frame.specs.Body.{flatRows, familyRows, plainly, Pieces, last, list, _▸_, Body}

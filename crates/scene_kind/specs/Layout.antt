@@ -1,6 +1,7 @@
 -- The top record of the scene body as a syntax table (H.222.0 Table 2-123): its bytes stand before the groups, the switch groups and the presets.
+use Prim.Native.Nat.{ℕ}
 use mathlib.Core.List.{List, [], _∷_}
-use Rattle.wire.specs.Layout.{Layout, end, one, optional, _▹_, num, reserved, flag, Columns, of}
+use Rattle.wire.specs.Layout.{Layout, end, one, optional, _▹_, num, reserved, flag}
 
 -- each section has a byte for its count, if it is there; the count is 0 where it is not
 unfoldable pub groups : Layout
@@ -20,5 +21,5 @@ abbrev pub layouts : List Layout
 layouts = groups ∷ switchGroups ∷ presets ∷ end ∷ []
 
 -- the reserved bits of an absent section read as 1, 7, 7; column 10 is that of the groups
-abbrev pub absent : Columns
-absent = of (0 ∷ 0 ∷ 0 ∷ 0 ∷ 7 ∷ 0 ∷ 0 ∷ 7 ∷ 0 ∷ 0 ∷ 1 ∷ [])
+abbrev pub absent : List ℕ
+absent = 0 ∷ 0 ∷ 0 ∷ 0 ∷ 7 ∷ 0 ∷ 0 ∷ 7 ∷ 0 ∷ 0 ∷ 1 ∷ []

@@ -11,15 +11,14 @@ use lib.Count.{ones, onesIn}
 use Rattle.wire.specs.Lists.{Every, each, sum, firsts, Byte}
 use Rattle.wire.proofs.Lists.{every-each}
 use Rattle.wire.specs.Prog.{run, u8, bytes, pass, many, _>>=_}
-use Rattle.frame.specs.declared.Tallied.{Tallied}
-use Rattle.frame.specs.declared.Written.{Written}
 use Rattle.frame.specs.Kind.{Lent}
-use Rattle.frame.specs.Numbers.{accepted, refuses, refusal, tallied, written}
-use Rattle.frame.specs.Entry.{no-room, leaves, onto, into, Sizes, Need, needs, lacking, room, first, others, filled, judging, sizes, placing, reading, measuring, tallying, gives, trail, writing, Reads, Measures, Tallies, Writes}
-use Rattle.frame.specs.Claims.{Lowest, this, later, Claims}
-use Rattle.frame.proofs.Numbers.{refusal-once, tallied-once, written-once}
-use Rattle.frame.proofs.Judged.{not-refused, was, measured as was-measured}
+use Rattle.frame.specs.Numbers.{accepted, refuses}
+use Rattle.frame.specs.Entry.{no-room, leaves, onto, into, Sizes, Need, needs, lacking, room, first, others, filled, judging, sizes, placing, reading, measuring, tallying, gives, trail, writing}
+use Rattle.frame.specs.Claims.{Lowest, this, later, Claims, Fixed}
+use Rattle.frame.proofs.Numbers.{refused-back, answer-by, fixes}
+use Rattle.frame.proofs.Judged.{was, measured as was-measured}
 use Rattle.frame.proofs.Lawful.{Samples}
+use Rattle.frame.proofs.Tables.{rowsAt}
 use Rattle.frame.proofs.Proofs as P
 use Rattle.labels.specs.declared.rows.TextLabelEntry.{TextLabelEntry}
 use Rattle.text_label.specs.declared.rows.TextLabelLanguage.{TextLabelLanguage}
@@ -172,45 +171,17 @@ read-tables body languages entries languages′ entries′ m e =
 
 -- ---- the promises fix the answers themselves
 
-read-once : (r r′ : Reading) → read r ≡ read r′ → r ≡ r′
-read-once (R.Done m) (R.Done m′) e = let z : m ≡ m′ = cc e in ap R.Done z
-read-once (R.Done m) (R.Refused x) e = not-refused e
-read-once (R.Refused x) (R.Done m) e = not-refused (sym e)
-read-once (R.Refused x) (R.Refused x′) e = let z : refusal x ≡ refusal x′ = cc e in ap R.Refused (refusal-once x x′ z)
+read-back : (r : Reading) → answer-by R.Done R.Refused (read r) ≡ r
+read-back (R.Done m) = refl
+read-back (R.Refused x) = ap R.Refused (refused-back x)
 
--- the rows that the tables need, the first and the second
-abbrev rowsFirst : List Need → ℕ
-rowsFirst [] = 0
-rowsFirst (n ∷ ns) = n .rows
+measure-of : Sizes → Measured
+measure-of z = M.Done (record { languages = rowsAt 0 (z .tables); entries = rowsAt 1 (z .tables); k = z .before })
 
-abbrev rowsSecond : List Need → ℕ
-rowsSecond [] = 0
-rowsSecond (n ∷ ns) = rowsFirst ns
+measured-back : (r : Measured) → answer-by measure-of M.Refused (measured r) ≡ r
+unfolding measure-of
+measured-back (M.Done s) = refl
+measured-back (M.Refused x) = ap M.Refused (refused-back x)
 
-same-sizes : (s s′ : Label.Sizes) → sized (s .languages) (s .entries) (s .k) ≡ sized (s′ .languages) (s′ .entries) (s′ .k) → s ≡ s′
-same-sizes s s′ e = λ i. record { languages = ap (λ (z : Sizes). rowsFirst (z .tables)) e i; entries = ap (λ (z : Sizes). rowsSecond (z .tables)) e i; k = ap (λ (z : Sizes). z .before) e i }
-
-measured-once : (r r′ : Measured) → measured r ≡ measured r′ → r ≡ r′
-measured-once (M.Done s) (M.Done s′) e = ap M.Done (same-sizes s s′ (cc e))
-measured-once (M.Done s) (M.Refused x) e = not-refused e
-measured-once (M.Refused x) (M.Done s) e = not-refused (sym e)
-measured-once (M.Refused x) (M.Refused x′) e = let z : refusal x ≡ refusal x′ = cc e in ap M.Refused (refusal-once x x′ z)
-
-pub record Fixed : Type 0 where
-  pub reading : (body languages entries languages′ entries′ languages″ entries″ : List ℕ) (r r′ : Reading)
-      → Reads kind body (languages ∷ entries ∷ []) (read r) (languages′ ∷ entries′ ∷ []) → Reads kind body (languages ∷ entries ∷ []) (read r′) (languages″ ∷ entries″ ∷ []) → (r ≡ r′) × (languages′ ≡ languages″) × (entries′ ≡ entries″)
-  pub measuring : (body : List ℕ) (r r′ : Measured) → Measures kind body (measured r) → Measures kind body (measured r′) → r ≡ r′
-  pub tallying : (body : List ℕ) (r r′ : Tallied) → Tallies kind body (tallied r) → Tallies kind body (tallied r′) → r ≡ r′
-  pub writing : (m : MpegH3dAudioTextLabel) (languages entries store out after after′ : List ℕ) (r r′ : Written)
-      → Writes kind m (languages ∷ entries ∷ []) store out (written r) after → Writes kind m (languages ∷ entries ∷ []) store out (written r′) after′ → (r ≡ r′) × (after ≡ after′)
-
-pub fixed : Fixed
-unfolding first others
-fixed = record {
-  reading = λ body languages entries languages′ entries′ languages″ entries″ r r′ v w.
-      let e = claims .determined .read-once body (languages ∷ entries ∷ []) _ _ (languages′ ∷ entries′ ∷ []) (languages″ ∷ entries″ ∷ []) v w in
-      (read-once r r′ (e .0), ap (λ (l : Lent). first l) (e .1), ap (λ (l : Lent). first (others l)) (e .1));
-  measuring = λ body r r′ v w. measured-once r r′ (claims .determined .measured-once body _ _ v w);
-  tallying = λ body r r′ v w. tallied-once r r′ (claims .determined .tallied-once body _ _ v w);
-  writing = λ m languages entries store out after after′ r r′ v w. let e = claims .determined .written-once m (languages ∷ entries ∷ []) store out _ _ after after′ v w in (written-once r r′ (e .0), e .1);
-}
+pub fixed : Fixed kind read measured
+fixed = fixes claims read R.Done R.Refused read-back measured measure-of M.Refused measured-back

@@ -1,5 +1,5 @@
 -- `multi_stream::parsing::main_at` meets its contract: the two bytes are there.
-use mathlib.Core.Path.{_≡_, sym, ap, _∙_}
+use mathlib.Core.Path.{sym, ap, _∙_}
 use native.Mathlib.Omega.{arith}
 use Rattle.multi_stream.specs.declared.rows.MainStream.{MainStream}
 use Rattle.multi_stream.proofs.Parsed.{both-there, main-placed, aside-placed}
