@@ -1,6 +1,6 @@
 -- The layout reads and writes the body as the Rust's own functions do, line by line.
 use Prim.Native.Nat.{ℕ, zero, suc, _-_, _<_}
-use mathlib.Core.Path.{_≡_, refl, sym, ap, subst, _∙_}
+use mathlib.Core.Path.{_≡_, refl, ap, _∙_}
 use mathlib.Core.List.{List, flatten}
 use mathlib.Core.Bool.{Bool, true, false, not}
 use native.Mathlib.Omega.{arith}
@@ -9,9 +9,6 @@ use lib.Dec.{eqb}
 use Rattle.wire.specs.Lists.{each}
 use Rattle.wire.specs.Bits.{part, total, split}
 use Rattle.wire.specs.Prog.{ret, look, u8, _>>=_}
-use Rattle.wire.specs.Act.{Act}
-use Rattle.wire.specs.Pen.{Checked, Ready, Filled}
-use Rattle.wire.specs.declared.pen.Pen.{Pen}
 use Rattle.wire.specs.Layout.{put, puts, reads, cells, matches, matched, shown, writes, every, has}
 use Rattle.wire.proofs.Fields.{part-below}
 use Rattle.frame.specs.Kind.{Lent}
@@ -63,15 +60,3 @@ written-so m store lent = go (m .«interactivity_enabled») (m .«compatible_set
     go true false = refl
     go false true = refl
     go false false = refl
-
--- ---- the actions of the kind in both passes
-
-module _ (m : MpegH3dAudio) (store : List ℕ) (lent : Lent) where
-  pub written-as : {k : ℕ} {p r : Pen} → Checked (baseActs m store) k p r → Checked (kind .acts m lent store) k p r
-  written-as {k} {p} {r} w = subst (λ (q : List Act). Checked q k p r) (sym (written-so m store lent)) w
-
-  pub ready-as : {n : ℕ} {l : List ℕ} → Ready (kind .acts m lent store) n l → Ready (baseActs m store) n l
-  ready-as {n} {l} w = subst (λ (q : List Act). Ready q n l) (written-so m store lent) w
-
-  pub filled-as : {n r : ℕ} {l o : List ℕ} → Filled (baseActs m store) n l r o → Filled (kind .acts m lent store) n l r o
-  filled-as {n} {r} {l} {o} w = subst (λ (q : List Act). Filled q n l r o) (sym (written-so m store lent)) w

@@ -145,15 +145,3 @@ module _ (i : Info) (lent : Lent) (store : List ℕ) {n : ℕ} {l : List ℕ} wh
   pub info-empty : i .present ≡ false → Filled (infoActs i lent store) n l n l
   unfolding infoActs
   info-empty t = rw t (fill-none n l)
-
--- ---- the actions of the kind, checked and filled as those of the lists
-
-module _ (m : MpegH3dAudioDrcLoudness) (lent : Lent) (store : List ℕ) where
-  pub written-as : {k : ℕ} {p r : Pen} → Checked (drcActs m lent store) k p r → Checked (kind .acts m lent store) k p r
-  written-as {k} {p} {r} w = subst (λ (q : List Act). Checked q k p r) (sym (drc-acts m lent store)) w
-
-  pub ready-as : {n : ℕ} {l : List ℕ} → Ready (kind .acts m lent store) n l → Ready (drcActs m lent store) n l
-  ready-as {n} {l} w = subst (λ (q : List Act). Ready q n l) (drc-acts m lent store) w
-
-  pub filled-as : {n r : ℕ} {l o : List ℕ} → Filled (drcActs m lent store) n l r o → Filled (kind .acts m lent store) n l r o
-  filled-as {n} {r} {l} {o} w = subst (λ (q : List Act). Filled q n l r o) (sym (drc-acts m lent store)) w

@@ -1,6 +1,6 @@
 -- The layouts read what the Rust's `MpegH3dAudioMultiStream::parse` reads, line by line, and write what its `write` does.
 use Prim.Native.Nat.{ℕ, zero, suc, _<_}
-use mathlib.Core.Path.{_≡_, refl, sym, subst, _∙_}
+use mathlib.Core.Path.{_≡_, refl, sym, _∙_}
 use mathlib.Core.List.{List, [], _∷_, _++_, append-nil, map, flatten}
 use mathlib.Core.Bool.{Bool, true, false, _&&_}
 use native.Mathlib.Omega.{arith}
@@ -11,8 +11,6 @@ use Rattle.wire.specs.Bits.{part, total, split}
 use Rattle.wire.specs.Prog.{Prog, ret, look, u8, many, _>>=_}
 use Rattle.wire.specs.Act.{Act, demand, byte, pick, rows}
 use Rattle.wire.specs.declared.pen.Fault.the-variants as F
-use Rattle.wire.specs.Pen.{Checked, Ready, Filled}
-use Rattle.wire.specs.declared.pen.Pen.{Pen}
 use Rattle.wire.specs.Layout.{Columns, end, one, num, reserved, flag, blank, set, put, puts, reads, row, flat, cells, matches, matched, shown, writes, every, has}
 use Rattle.wire.proofs.Runs.{bind-assoc}
 use Rattle.wire.proofs.Fields.{part-below}
@@ -92,17 +90,7 @@ written-so m lent store = go m (m .main .present)
     go : (m : MpegH3dAudioMultiStream) (a : Bool) → kind .acts (with m a) lent store ≡ multiStreamActs (with m a) (first lent)
     go m a = case m a ∙ λ i. ends (with m a) (λ t. and-true t i) (λ q. append-nil q i)
 
--- the same promised of the actions of the kind; t is table 8
-module _ (m : MpegH3dAudioMultiStream) (t store : List ℕ) where
-  acts-are : kind .acts m (t ∷ []) store ≡ multiStreamActs m t
-  unfolding first
-  acts-are = written-so m (t ∷ []) store
-
-  pub written-as : {k : ℕ} {p r : Pen} → Checked (multiStreamActs m t) k p r → Checked (kind .acts m (t ∷ []) store) k p r
-  written-as {k} {p} {r} w = subst (λ (q : List Act). Checked q k p r) (sym acts-are) w
-
-  pub ready-as : {n : ℕ} {l : List ℕ} → Ready (kind .acts m (t ∷ []) store) n l → Ready (multiStreamActs m t) n l
-  ready-as {n} {l} w = subst (λ (q : List Act). Ready q n l) acts-are w
-
-  pub filled-as : {n r : ℕ} {l o : List ℕ} → Filled (multiStreamActs m t) n l r o → Filled (kind .acts m (t ∷ []) store) n l r o
-  filled-as {n} {r} {l} {o} w = subst (λ (q : List Act). Filled q n l r o) (sym acts-are) w
+-- t is table 8
+pub acts-are : (m : MpegH3dAudioMultiStream) (t store : List ℕ) → kind .acts m (t ∷ []) store ≡ multiStreamActs m t
+unfolding first
+acts-are m t store = written-so m (t ∷ []) store

@@ -131,14 +131,3 @@ module _ (s : Section) (fs : List Field) (row : ℕ → List Act) {n : ℕ} {l :
   pub section-empty : s .present ≡ false → Filled (sectionActs s fs row) n l n l
   unfolding sectionActs
   section-empty t = rw t (fill-none n l)
-
--- ---- the actions of the layouts, checked as those of the sections
-
-pub written-as : (m : MpegH3dAudioScene) (lent : Lent) (store : List ℕ) {k : ℕ} {p r : Pen} → Checked (sceneActs m lent) k p r → Checked (kind .acts m lent store) k p r
-written-as m lent store {k} {p} {r} w = subst (λ (q : List Act). Checked q k p r) (sym (scene-acts m lent store)) w
-
-pub ready-as : (m : MpegH3dAudioScene) (lent : Lent) (store : List ℕ) {n : ℕ} {l : List ℕ} → Ready (kind .acts m lent store) n l → Ready (sceneActs m lent) n l
-ready-as m lent store {n} {l} w = subst (λ (q : List Act). Ready q n l) (scene-acts m lent store) w
-
-pub filled-as : (m : MpegH3dAudioScene) (lent : Lent) (store : List ℕ) {n r : ℕ} {l o : List ℕ} → Filled (sceneActs m lent) n l r o → Filled (kind .acts m lent store) n l r o
-filled-as m lent store {n} {r} {l} {o} w = subst (λ (q : List Act). Filled q n l r o) (sym (scene-acts m lent store)) w

@@ -1,11 +1,11 @@
 -- `scene::writing::check` meets its contract: the fields, and the trailing run behind them.
+use mathlib.Core.List.{[], _∷_}
 use mathlib.Core.Path.{sym, _∙_}
 use native.Mathlib.Omega.{arith}
-use borrow.Author.Tests.{leb-true}
-use Rattle.wire.proofs.Passes.{then, more, passed, refused, run-looked}
-use Rattle.frame.specs.Entry.{whole}
+use Rattle.wire.proofs.Passes.{more}
+use Rattle.frame.proofs.Passes.{run-outside, all-looked}
 use Rattle.scene_kind.specs.Kind.{kind}
-use Rattle.scene_writing.proofs.Writes.{written-as}
+use Rattle.scene_writing.proofs.Writes.{scene-acts}
 use borrow.Author.Needs.{needs}
 use Rattle.scene_writing.proofs.writing.check.Statement.{statement}
 use Rattle.scene_writing.proofs.writing.check.Tie as tie
@@ -21,14 +21,15 @@ payload-run-requires c κs =
     omega (arith, c .check-fields .ensures .near)
 
 returns : tie.Need-returns
-unfolding whole kind
+unfolding kind
 returns c =
-    let e = sym (c .before .before .before .in-store .ensures) ∙ c .before .before .if1 .taken in rw e (passed _ 0 (more 71345 (then (written-as (c .before .before .before .before .before .before .before .before .before .before .before .args .m) _ _ (c .before .check-fields .ensures)) (run-looked _ _ _ (leb-true _ _ e) (c .payload-run .ensures .0))) (omega (arith, c .payload-run .ensures .1))))
+    let z = c .before .before .before .before .before .before .before .before .before .before .before in
+    let e = sym (c .before .before .before .in-store .ensures) ∙ c .before .before .if1 .taken in
+    more 71345 (all-looked kind (scene-acts (z .args .m) (z .args .groups .now ∷ z .args .switch-groups .now ∷ z .args .members .now ∷ z .args .presets .now ∷ z .args .conditions .now ∷ []) (z .args .store .now)) e (c .before .check-fields .ensures) (c .payload-run .ensures .0)) (omega (arith, c .payload-run .ensures .1))
 
 returns-2 : tie.Need-returns-2
-unfolding whole kind
-returns-2 c =
-    rw (sym (c .before .in-store .ensures) ∙ c .if1 .left) (refused _ 0 _ _)
+unfolding kind
+returns-2 c = run-outside kind _ _ _ (sym (c .before .in-store .ensures) ∙ c .if1 .left) _
 
 pub check-spec : {M : Type 1} → statement M
 check-spec =
