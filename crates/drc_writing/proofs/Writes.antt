@@ -1,8 +1,8 @@
 -- The layouts write the DRC and loudness body list after list; what the functions of both passes make of its info.
 use mathlib.Core.List.{List, [], _∷_, _++_, flatten, map}
 use mathlib.Core.Bool.{Bool, true, false, _&&_}
-use mathlib.Core.Path.{_≡_, refl, sym, subst, _∙_}
-use Prim.Native.Nat.{ℕ, _+_, _*_, _/_, _^_, _≤_, _<_}
+use mathlib.Core.Path.{_≡_, refl, sym, _∙_}
+use Prim.Native.Nat.{ℕ, _*_, _/_, _^_, _≤_, _<_}
 use native.Mathlib.Omega.{arith}
 use native.Mathlib.Nat.{le-div-iff-mul-le}
 use lib.ListN.{length}
@@ -11,14 +11,14 @@ use borrow.Author.Tests.{ltb-true, leb-true, le-leb}
 use Rattle.wire.specs.Lists.{each}
 use Rattle.wire.specs.Bits.{field, fit}
 use Rattle.wire.specs.Act.{Act, byte, when, rows}
-use Rattle.wire.specs.Pen.{clean, Checked, Ready, Filled}
+use Rattle.wire.specs.Pen.{clean, Checked, Ready}
 use Rattle.wire.specs.Spell.{fitAll}
-use Rattle.wire.specs.declared.pen.Fault.{Fault}
 use Rattle.wire.specs.declared.pen.Pen.{Pen}
 use Rattle.wire.specs.declared.pen.Pen.the-variants.{At, Stop}
 use Rattle.wire.specs.Layout.{of, cells, matches, matched, shown, writes, every, has}
 use Rattle.wire.proofs.Acts.{and-both, clean-both}
-use Rattle.wire.proofs.Passes.{then, more, here, nothing, stopped, stuck, faulty, Filling, fill-start, fill-none}
+use Rattle.wire.proofs.Parts.{part-begins}
+use Rattle.wire.proofs.Passes.{stuck, faulty, Filling}
 use Rattle.wire.proofs.Plain.{clean-all}
 use Rattle.frame.specs.Kind.{Lent}
 use Rattle.drc_kind.specs.declared.rows.DrcLoudnessInfo.{DrcLoudnessInfo}
@@ -114,34 +114,13 @@ module _ {i : DrcLoudnessInfo} {a b c : List ℕ} (l : Listed i a b c) where
   pub downmixes-stand : i .«downmix_definitions» * 4 ≤ length c
   downmixes-stand = stand (i .«downmix_definitions») c 4 (omega arith) (l .downmixes-within)
 
--- ---- the info in the check pass
-
-module _ (i : Info) (lent : Lent) (store : List ℕ) where
-  -- its bytes stop the pen
-  pub info-stops : (k : ℕ) {p r : Pen} {f : Fault} {n : ℕ} → i .present ≡ true → Checked (map byte (countFields (i .part))) 3 p r → r ≡ Stop f n → 3 ≤ k → Checked (infoActs i lent store) k p r
-  unfolding infoActs
-  info-stops k t w e l = rw t (more k (then w (stopped (listsActs (i .part) lent store) 0 e)) (omega arith))
-
-  -- its bytes fit, and its lists were looked at
-  pub info-goes : (k : ℕ) {p q r : Pen} {n j : ℕ} → i .present ≡ true → Checked (map byte (countFields (i .part))) 3 p q → q ≡ At n → Checked (listsActs (i .part) lent store) j (At n) r → 3 + j ≤ k → Checked (infoActs i lent store) k p r
-  unfolding infoActs
-  info-goes k t w e v l = rw t (more k (then w (here e v)) l)
-
-  pub info-absent : (k : ℕ) (p : Pen) → i .present ≡ false → Checked (infoActs i lent store) k p p
-  unfolding infoActs
-  info-absent k p t = rw t (nothing k p)
-
 -- ---- the info in the fill pass
 
 module _ (i : Info) (lent : Lent) (store : List ℕ) {n : ℕ} {l : List ℕ} where
   pub info-begins : i .present ≡ true → Ready (infoActs i lent store) n l → Filling (infoActs i lent store) (when true (map byte (countFields (i .part))) ++ listsActs (i .part) lent store) n l n l
   unfolding infoActs
-  info-begins t r = let all = map byte (countFields (i .part)) ++ listsActs (i .part) lent store in subst (λ (b : Bool). Filling (when b all) all n l n l) (sym t) (fill-start (subst (λ (b : Bool). Ready (when b all) n l) t r))
+  info-begins t r = part-begins (i .present) (map byte (countFields (i .part))) (listsActs (i .part) lent store) t r
 
   -- the bytes of the counts fit
   pub info-clean : i .present ≡ true → Ready (infoActs i lent store) n l → clean (map byte (countFields (i .part))) ≡ true
   info-clean t r = clean-both (map byte (countFields (i .part))) (listsActs (i .part) lent store) (info-begins t r .ready .sound) .0
-
-  pub info-empty : i .present ≡ false → Filled (infoActs i lent store) n l n l
-  unfolding infoActs
-  info-empty t = rw t (fill-none n l)

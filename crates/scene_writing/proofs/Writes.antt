@@ -1,5 +1,5 @@
 -- The layouts write the scene body section after section.
-use Prim.Native.Nat.{ℕ, _+_, _*_, _/_, _^_, _≤_, _<_}
+use Prim.Native.Nat.{ℕ, _*_, _/_, _^_, _≤_, _<_}
 use mathlib.Core.List.{List, [], _∷_, _++_, append-nil, map, flatten}
 use mathlib.Core.Bool.{Bool, true, false, _&&_}
 use mathlib.Core.Path.{_≡_, refl, sym, subst, _∙_}
@@ -12,12 +12,12 @@ use Rattle.wire.specs.Lists.{each}
 use Rattle.wire.specs.Bits.{Field, fit}
 use Rattle.wire.specs.Act.{Act, demand, byte, when, pick, rows}
 use Rattle.wire.specs.declared.pen.Fault.the-variants as F
-use Rattle.wire.specs.Pen.{Checked, Ready, Filled}
-use Rattle.wire.specs.declared.pen.Fault.{Fault}
+use Rattle.wire.specs.Pen.{Checked, Ready}
 use Rattle.wire.specs.declared.pen.Pen.{Pen}
-use Rattle.wire.specs.declared.pen.Pen.the-variants.{At, Stop}
+use Rattle.wire.specs.declared.pen.Pen.the-variants.{At}
 use Rattle.wire.proofs.Acts.{and-both}
-use Rattle.wire.proofs.Passes.{then, more, here, nothing, stopped, byte-fits, Filling, fill-start, fill-none}
+use Rattle.wire.proofs.Parts.{part-begins}
+use Rattle.wire.proofs.Passes.{byte-fits, Filling}
 use Rattle.wire.specs.Layout.{cells, matches, matched, shown, writes, every, has}
 use Rattle.frame.specs.Kind.{Lent}
 use Rattle.frame.specs.Body.{layouts, inside, pieced, beyond, table}
@@ -70,21 +70,6 @@ scene-acts m lent store = go m (m .groups .present) (m .«switch_groups» .prese
 
 -- ---- a section in the check pass
 
-module _ (s : Section) (fs : List Field) (row : ℕ → List Act) where
-  -- its byte stops the pen
-  pub section-stops : (k : ℕ) {p r : Pen} {f : Fault} {n : ℕ} → s .present ≡ true → Checked (byte fs ∷ []) 1 p r → r ≡ Stop f n → 1 ≤ k → Checked (sectionActs s fs row) k p r
-  unfolding sectionActs
-  section-stops k t w e l = rw t (more k (then w (stopped (rows row 0 (s .count)) 0 e)) (omega arith))
-
-  -- its byte fits, and its rows were looked at
-  pub section-goes : (k : ℕ) {p q r : Pen} {n j : ℕ} → s .present ≡ true → Checked (byte fs ∷ []) 1 p q → q ≡ At n → Checked (rows row 0 (s .count)) j (At n) r → 1 + j ≤ k → Checked (sectionActs s fs row) k p r
-  unfolding sectionActs
-  section-goes k t w e v l = rw t (more k (then w (here e v)) l)
-
-  pub section-absent : (k : ℕ) (p : Pen) → s .present ≡ false → Checked (sectionActs s fs row) k p p
-  unfolding sectionActs
-  section-absent k p t = rw t (nothing k p)
-
 -- a count that fits its byte
 pub count-fits : (r w v : ℕ) (s : Section) {p q : Pen} {n : ℕ} → Checked (byte (countByte r w v s) ∷ []) 1 p q → q ≡ At n → s .count < 2 ^ w
 unfolding fit
@@ -126,8 +111,4 @@ module _ (s : Section) (columns : ℕ) (t : List ℕ) where
 module _ (s : Section) (fs : List Field) (row : ℕ → List Act) {n : ℕ} {l : List ℕ} where
   pub section-begins : s .present ≡ true → Ready (sectionActs s fs row) n l → Filling (sectionActs s fs row) (when true (map byte (fs ∷ [])) ++ rows row 0 (s .count)) n l n l
   unfolding sectionActs
-  section-begins t r = subst (λ (b : Bool). Filling (when b (byte fs ∷ rows row 0 (s .count))) (byte fs ∷ rows row 0 (s .count)) n l n l) (sym t) (fill-start (subst (λ (b : Bool). Ready (when b (byte fs ∷ rows row 0 (s .count))) n l) t r))
-
-  pub section-empty : s .present ≡ false → Filled (sectionActs s fs row) n l n l
-  unfolding sectionActs
-  section-empty t = rw t (fill-none n l)
+  section-begins t r = part-begins (s .present) (byte fs ∷ []) (rows row 0 (s .count)) t r

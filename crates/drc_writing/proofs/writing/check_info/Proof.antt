@@ -1,7 +1,9 @@
 -- `drc_writing::writing::check_info` meets its contract: the bytes of the counts, then the lists, whose counts are small since their bytes fit.
 use native.Mathlib.Omega.{arith}
 use Rattle.wire.proofs.Plain.{all-checked}
-use Rattle.drc_writing.proofs.Writes.{listed, passed-clean, info-stops, info-goes, info-absent}
+use Rattle.wire.proofs.Parts.{part-stops, part-goes, part-absent}
+use Rattle.drc_writing.specs.Write.{infoActs}
+use Rattle.drc_writing.proofs.Writes.{listed, passed-clean}
 use borrow.Author.Needs.{needs}
 use Rattle.drc_writing.proofs.writing.check_info.Statement.{statement}
 use Rattle.drc_writing.proofs.writing.check_info.Tie as tie
@@ -22,8 +24,9 @@ enum-told : tie.Need-enum-told
 enum-told c = search needs
 
 returns : tie.Need-returns
+unfolding infoActs
 returns c =
-    info-stops _ _ _ 17453 (c .before .before .before .before .before .before .if1 .taken) (all-checked (c .before .before .before .before .count-bytes .ensures) (c .before .before .check-all .ensures)) (c .enum-told .given .1) (omega arith)
+    part-stops _ _ _ 17453 (c .before .before .before .before .before .before .if1 .taken) (all-checked (c .before .before .before .before .count-bytes .ensures) (c .before .before .check-all .ensures)) (c .enum-told .given .1) (omega arith)
 
 check-lists-requires : tie.Need-check-lists-requires
 check-lists-requires c κs =
@@ -32,12 +35,14 @@ check-lists-requires c κs =
     (listed _ _ _ _ (c .before .before .before .before .before .before .before .if1 .taken) (c .before .before .before .before .before .before .before .before .before .before .before .before .before .pre .0) (passed-clean _ w (c .before .p1 .given .1)), omega (arith, n, c .before .before .before .before .before .before .before .before .before .before .before .before .before .pre .1))
 
 returns-2 : tie.Need-returns-2
+unfolding infoActs
 returns-2 c =
-    info-goes _ _ _ 17453 (c .before .before .before .before .before .before .before .before .if1 .taken) (all-checked (c .before .before .before .before .before .before .count-bytes .ensures) (c .before .before .before .before .check-all .ensures)) (c .before .before .p1 .given .1) (c .check-lists .ensures) (omega arith)
+    part-goes _ _ _ 17453 (c .before .before .before .before .before .before .before .before .if1 .taken) (all-checked (c .before .before .before .before .before .before .count-bytes .ensures) (c .before .before .before .before .check-all .ensures)) (c .before .before .p1 .given .1) (c .check-lists .ensures) (omega arith)
 
 returns-3 : tie.Need-returns-3
+unfolding infoActs
 returns-3 c =
-    info-absent _ _ _ 17453 _ (c .if1 .left)
+    part-absent _ _ 17453 _ (c .if1 .left)
 
 pub check-info-spec : {M : Type 1} → statement M
 check-info-spec =

@@ -5,7 +5,8 @@ use Rattle.wire.proofs.Passes.{Filling, fill-last}
 use Rattle.wire.proofs.Plain.{ready-part, fill-part}
 use Rattle.frame.specs.Kind.{Lent}
 use Rattle.drc_writing.specs.Write.{listsActs, infoActs}
-use Rattle.drc_writing.proofs.Writes.{listed, info-begins, info-clean, info-empty}
+use Rattle.wire.proofs.Parts.{part-empty}
+use Rattle.drc_writing.proofs.Writes.{listed, info-begins, info-clean}
 use borrow.Author.Needs.{needs}
 use Rattle.drc_writing.proofs.writing.fill_info.Statement.{statement}
 use Rattle.drc_writing.proofs.writing.fill_info.Tie as tie
@@ -47,7 +48,8 @@ returns : tie.Need-returns
 returns c = fill-last (behind (c .before .before .before .before .before .before)) (c .before .before .fill-lists .ensures)
 
 returns-2 : tie.Need-returns-2
-returns-2 c = info-empty _ _ _ (c .if1 .left)
+unfolding infoActs
+returns-2 c = part-empty _ _ (c .if1 .left)
 
 pub fill-info-spec : {M : Type 1} → statement M
 fill-info-spec =

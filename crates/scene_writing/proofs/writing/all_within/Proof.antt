@@ -1,4 +1,4 @@
--- `scene::writing::all_within` meets its contract.
+-- `scene_writing::writing::all_within` meets its contract.
 use mathlib.Core.Bool.{_&&_}
 use borrow.Author.Needs.{needs}
 use Rattle.scene_writing.proofs.writing.all_within.Statement.{statement}

@@ -1,4 +1,4 @@
--- `scene::writing::check` meets its contract: the fields, and the trailing run behind them.
+-- `scene_writing::writing::check` meets its contract: the fields, and the trailing run behind them.
 use mathlib.Core.List.{[], _∷_}
 use mathlib.Core.Path.{sym, _∙_}
 use native.Mathlib.Omega.{arith}

@@ -1,4 +1,4 @@
--- `scene::writing::check_fields` meets its contract: the ranges, the two bytes, and section after section.
+-- `scene_writing::writing::check_fields` meets its contract: the ranges, the two bytes, and section after section.
 use mathlib.Core.Path.{sym, _∙_}
 use native.Mathlib.Omega.{arith}
 use Rattle.wire.proofs.Passes.{then, more, passed, refused}

@@ -1,7 +1,9 @@
--- `scene::writing::check_presets_section` meets its contract: the byte of the section, then its rows.
+-- `scene_writing::writing::check_presets_section` meets its contract: the byte of the section, then its rows.
 use native.Mathlib.Omega.{arith}
 use Rattle.wire.proofs.Plain.{all-checked}
-use Rattle.scene_writing.proofs.Writes.{section-stops, section-goes, section-absent, count-fits, rows-there}
+use Rattle.wire.proofs.Parts.{part-stops, part-goes, part-absent}
+use Rattle.scene_writing.specs.Write.{sectionActs}
+use Rattle.scene_writing.proofs.Writes.{count-fits, rows-there}
 use borrow.Author.Needs.{needs}
 use Rattle.scene_writing.proofs.writing.check_presets_section.Statement.{statement}
 use Rattle.scene_writing.proofs.writing.check_presets_section.Tie as tie
@@ -22,8 +24,9 @@ enum-told : tie.Need-enum-told
 enum-told c = search needs
 
 returns : tie.Need-returns
+unfolding sectionActs
 returns c =
-    section-stops _ _ _ 3070 (c .before .before .before .before .before .if1 .taken) (all-checked (c .before .before .before .before .count-byte .ensures) (c .before .before .check-all .ensures)) (c .enum-told .given .1) (omega arith)
+    part-stops _ _ _ 3070 (c .before .before .before .before .before .if1 .taken) (all-checked (c .before .before .before .before .count-byte .ensures) (c .before .before .check-all .ensures)) (c .enum-told .given .1) (omega arith)
 
 cast-check-presets : tie.Need-cast-check-presets
 cast-check-presets c = search needs
@@ -33,12 +36,14 @@ check-presets-requires c κs =
     let w = all-checked (c .before .before .before .before .before .count-byte .ensures) (c .before .before .before .check-all .ensures) in let n = rw (c .before .p1 .given .1) at (w .near) in (rows-there (c .before .before .before .before .before .before .before .before .before .before .args .m .presets) 7 _ (omega arith) (c .before .before .before .before .before .before .before .before .before .before .pre .0) (c .before .before .before .before .before .before .if1 .taken), count-fits 3 5 _ (c .before .before .before .before .before .before .before .before .before .before .args .m .presets) w (c .before .p1 .given .1), omega (arith, n, c .before .before .before .before .before .before .before .before .before .before .pre .1))
 
 returns-2 : tie.Need-returns-2
+unfolding sectionActs
 returns-2 c =
-    let w = all-checked (c .before .before .before .before .before .before .count-byte .ensures) (c .before .before .before .before .check-all .ensures) in section-goes _ _ _ 3070 (c .before .before .before .before .before .before .before .if1 .taken) w (c .before .before .p1 .given .1) (c .check-presets .ensures) (omega (arith, count-fits 3 5 _ (c .before .before .before .before .before .before .before .before .before .before .before .args .m .presets) w (c .before .before .p1 .given .1)))
+    let w = all-checked (c .before .before .before .before .before .before .count-byte .ensures) (c .before .before .before .before .check-all .ensures) in part-goes _ _ _ 3070 (c .before .before .before .before .before .before .before .if1 .taken) w (c .before .before .p1 .given .1) (c .check-presets .ensures) (omega (arith, count-fits 3 5 _ (c .before .before .before .before .before .before .before .before .before .before .before .args .m .presets) w (c .before .before .p1 .given .1)))
 
 returns-3 : tie.Need-returns-3
+unfolding sectionActs
 returns-3 c =
-    section-absent _ _ _ 3070 _ (c .if1 .left)
+    part-absent _ _ 3070 _ (c .if1 .left)
 
 pub check-presets-section-spec : {M : Type 1} → statement M
 check-presets-section-spec =

@@ -1,4 +1,4 @@
--- `scene::writing::count_byte` meets its contract.
+-- `scene_writing::writing::count_byte` meets its contract.
 use Rattle.wire.specs.Spell.{none, more}
 use borrow.Author.Needs.{needs}
 use Rattle.scene_writing.proofs.writing.count_byte.Statement.{statement}

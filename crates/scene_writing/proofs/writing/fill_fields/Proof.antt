@@ -1,4 +1,4 @@
--- `scene::writing::fill_fields` meets its contract: the two bytes, and section after section.
+-- `scene_writing::writing::fill_fields` meets its contract: the two bytes, and section after section.
 use mathlib.Core.List.{List, [], _∷_, _++_, map}
 use mathlib.Core.Bool.{true}
 use mathlib.Core.Path.{refl}

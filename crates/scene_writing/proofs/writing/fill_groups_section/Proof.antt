@@ -1,12 +1,13 @@
--- `scene::writing::fill_groups_section` meets its contract: the byte of the section, then its rows.
+-- `scene_writing::writing::fill_groups_section` meets its contract: the byte of the section, then its rows.
 use mathlib.Core.List.{List}
 use native.Mathlib.Omega.{arith}
 use Rattle.wire.specs.Act.{Act, rows}
 use Rattle.wire.proofs.Passes.{Filling, fill-last}
 use Rattle.wire.proofs.Plain.{ready-part, fill-part}
 use Rattle.scene_groups.specs.Write.{rowActs}
-use Rattle.scene_writing.specs.Write.{groupsActs}
-use Rattle.scene_writing.proofs.Writes.{rows-there, section-begins, section-empty}
+use Rattle.scene_writing.specs.Write.{sectionActs, groupsActs}
+use Rattle.wire.proofs.Parts.{part-empty}
+use Rattle.scene_writing.proofs.Writes.{rows-there, section-begins}
 use borrow.Author.Needs.{needs}
 use Rattle.scene_writing.proofs.writing.fill_groups_section.Statement.{statement}
 use Rattle.scene_writing.proofs.writing.fill_groups_section.Tie as tie
@@ -45,7 +46,8 @@ returns : tie.Need-returns
 returns c = fill-last (behind (c .before .before .before .before .before .before)) (c .before .before .fill-groups .ensures)
 
 returns-2 : tie.Need-returns-2
-returns-2 c = section-empty _ _ _ (c .if1 .left)
+unfolding sectionActs
+returns-2 c = part-empty _ _ (c .if1 .left)
 
 pub fill-groups-section-spec : {M : Type 1} → statement M
 fill-groups-section-spec =

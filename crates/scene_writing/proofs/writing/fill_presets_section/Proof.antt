@@ -1,4 +1,4 @@
--- `scene::writing::fill_presets_section` meets its contract: the byte of the section, then its rows.
+-- `scene_writing::writing::fill_presets_section` meets its contract: the byte of the section, then its rows.
 use Prim.Native.Nat.{ℕ}
 use mathlib.Core.List.{List}
 use native.Mathlib.Omega.{arith}
@@ -8,8 +8,9 @@ use Rattle.wire.proofs.Passes.{Filling, fill-last}
 use Rattle.wire.proofs.Plain.{ready-part, fill-part}
 use Rattle.conditions.specs.Layout.{condition}
 use Rattle.presets.specs.Layout.{preset}
-use Rattle.scene_writing.specs.Write.{presetsActs}
-use Rattle.scene_writing.proofs.Writes.{rows-there, section-begins, section-empty}
+use Rattle.scene_writing.specs.Write.{sectionActs, presetsActs}
+use Rattle.wire.proofs.Parts.{part-empty}
+use Rattle.scene_writing.proofs.Writes.{rows-there, section-begins}
 use borrow.Author.Needs.{needs}
 use Rattle.scene_writing.proofs.writing.fill_presets_section.Statement.{statement}
 use Rattle.scene_writing.proofs.writing.fill_presets_section.Tie as tie
@@ -48,7 +49,8 @@ returns : tie.Need-returns
 returns c = fill-last (behind (c .before .before .before .before .before .before)) (c .before .before .fill-presets .ensures)
 
 returns-2 : tie.Need-returns-2
-returns-2 c = section-empty _ _ _ (c .if1 .left)
+unfolding sectionActs
+returns-2 c = part-empty _ _ (c .if1 .left)
 
 pub fill-presets-section-spec : {M : Type 1} → statement M
 fill-presets-section-spec =

@@ -1,4 +1,4 @@
--- `scene::writing::flags_byte` meets its contract.
+-- `scene_writing::writing::flags_byte` meets its contract.
 use native.Mathlib.Omega.{arith}
 use Rattle.wire.specs.Bits.{total, widths}
 use borrow.Author.Needs.{needs}

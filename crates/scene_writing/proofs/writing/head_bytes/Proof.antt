@@ -1,4 +1,4 @@
--- `scene::writing::head_bytes` meets its contract.
+-- `scene_writing::writing::head_bytes` meets its contract.
 use Rattle.wire.specs.Spell.{none, more}
 use borrow.Author.Needs.{needs}
 use Rattle.scene_writing.proofs.writing.head_bytes.Statement.{statement}

@@ -1,4 +1,4 @@
--- `scene::writing::rows_within` meets its contract.
+-- `scene_writing::writing::rows_within` meets its contract.
 use Rattle.scene_writing.proofs.Writes.{within-there, within-absent}
 use borrow.Author.Needs.{needs}
 use Rattle.scene_writing.proofs.writing.rows_within.Statement.{statement}
