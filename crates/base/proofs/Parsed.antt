@@ -7,8 +7,7 @@ use mathlib.Core.Bool.{Bool, true, false, not}
 use mathlib.Core.Option.{Option, some}
 use native.Mathlib.Omega.{arith}
 use lib.ListN.{length, getD}
-use lib.Dec.{eqb, leb}
-use borrow.Author.Tests.{leb-true, leb-false}
+use lib.Dec.{eqb}
 use Rattle.wire.specs.Lists.{each}
 use Rattle.wire.specs.Bits.{part, total}
 use Rattle.wire.specs.Prog.{Prog, Out, ret, u8, pass, _>>=_, done, short, run, span}
@@ -21,7 +20,7 @@ use Rattle.wire.proofs.Runs.{run-split, run-ret}
 use Rattle.wire.proofs.Fields.{part-below}
 use Rattle.wire.proofs.Walk.{From, begun, onward, cut-off, as-short, finished, is-done, byte-next, byte-taken, run-taken}
 use Rattle.wire.proofs.Codec.{whole}
-use Rattle.wire.proofs.Straight.{ones-got, ends-at, ends-within, read-so}
+use Rattle.wire.proofs.Straight.{ends-few, Past, ones-past, read-so}
 use Rattle.frame.specs.Numbers.{accepted}
 use Rattle.frame.specs.Entry.{needs, sizes, tail, too-short, Measures}
 use Rattle.frame.specs.Sight.{Tops}
@@ -139,10 +138,6 @@ sizes-are t k = refl
 
 -- ---- the first three bytes, as code finds them
 
-pub record Three (s : List ℕ) (n : ℕ) : Type 0 where
-  pub at-three : n ≡ 3
-  pub inside : 3 ≤ length s
-
 module _ (s : List ℕ) {o : Out (Unit {0})} (e : o ≡ ends (ones 3) s 0) where
   pub three-cut : {x : Short} → o ≡ short x → o ≡ endOf (run (kind .program) s 0)
   unfolding kind parse head took ones
@@ -152,25 +147,18 @@ module _ (s : List ℕ) {o : Out (Unit {0})} (e : o ≡ ends (ones 3) s 0) where
 
   -- such a body is refused before anything else is asked
   pub headless : {x : Short} → o ≡ short x → Measures kind s (too-short (shortOf o))
-  headless {x} d =
+  unfolding ones total
+  headless d =
       let q = as-short (λ u. tt) (run (kind .program) s 0) (sym (three-cut d) ∙ d) in
-      subst (λ (y : Short). Measures kind s (too-short y)) (sym (ap shortOf d)) (measures-short kind s few q)
-    where
-      few : length s ≤ 65535
-      few = go (leb 3 (length s)) refl
-        where
-          go : (b : Bool) → leb 3 (length s) ≡ b → length s ≤ 65535
-          go true q = absurd (let z : _≡_ {A = ℕ} 0 1 = cc (sym d ∙ e ∙ ones-got 3 s 0 (leb-true 3 (length s) q)) in omega arith)
-          go false q = let k = leb-false 3 (length s) q in omega (arith, k)
+      subst (λ (y : Short). Measures kind s (too-short y)) (sym (ap shortOf d)) (measures-short kind s (omega (arith, ends-few (ones 3) s 0 (sym e ∙ d))) q)
 
   module _ {n : ℕ} (d : o ≡ done tt n) where
-    pub three-there : Three s n
-    unfolding ones total
-    three-there = let q = ends-at (ones 3) s 0 (sym e ∙ d) in let l = ends-within (ones 3) s 0 (omega arith) (sym e ∙ d) in record { at-three = q; inside = omega arith }
+    pub three-there : Past s 0 3 n
+    three-there = ones-past 3 s 0 (omega arith) e d
 
     -- and the sets behind them
     pub three-sets : {r : Out (Unit {0})} {v : ℕ} → v ≡ flagOf s → r ≡ endOf (run (sets (eqb v 1)) s n) → r ≡ endOf (run (kind .program) s 0)
-    three-sets q w = w ∙ (λ i. endOf (run (sets (eqb (q i) 1)) s (three-there .at-three i))) ∙ end-last (sets (eqb (flagOf s) 1)) (treeOf s) (head-there s (three-there .inside))
+    three-sets q w = w ∙ (λ i. endOf (run (sets (eqb (q i) 1)) s (three-there .is i))) ∙ end-last (sets (eqb (flagOf s) 1)) (treeOf s) (head-there s (three-there .inside))
 
 -- ---- a body that was measured: its record
 

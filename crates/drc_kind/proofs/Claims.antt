@@ -24,7 +24,7 @@ use Rattle.wire.proofs.Running.{RunsOn, Told, runs-on}
 use Rattle.frame.specs.Kind.{Lent}
 use Rattle.frame.specs.Numbers.{accepted, refuses}
 use Rattle.frame.specs.Entry.{leaves, onto, into, Sizes, needs, lacking, room, first, others, filled, judging, sizes, placing, reading, measuring, tallying, gives, trail, writing}
-use Rattle.frame.specs.Body.{layouts, parse, placed, tables, zeros, heeds, heededRows}
+use Rattle.frame.specs.Body.{layouts, parse, placed, tables, zeros, heeds, heededRows, table}
 use Rattle.frame.specs.Claims.{Lowest, rows-agree, none-read, Claims}
 use Rattle.frame.proofs.Judged.{was, ran-well, measured as was-measured}
 use Rattle.frame.proofs.Lawful.{Samples}
@@ -44,7 +44,6 @@ use Rattle.drc_kind.specs.declared.rows.DrcLoudnessInfo.{DrcLoudnessInfo
 use Rattle.drc_kind.specs.Layout.{head}
 use Rattle.drc_kind.specs.Rows.{noInfo, drcOf, Tree, treeIs, needed}
 use Rattle.drc_kind.specs.Read as R
-use Rattle.drc_kind.specs.Write.{table}
 use Rattle.drc_kind.specs.Kind.{pieces, kind}
 use Rattle.drc_kind.proofs.Lawful.{instructionRows, entryRows, lawful}
 use Rattle.drc_kind.proofs.Mirrored.{instruction-so, entry-so, by-lists}

@@ -1,67 +1,39 @@
 -- The largest image of the DRC and loudness body: 63 instructions with all that they can have, 63 loudness entries of 255 bytes, 31 downmix definitions and the longest trailing run make 82,989 bytes.
-use Prim.Native.Nat.{ℕ, zero, suc, _+_, _*_, _/_, _≤_, _<_}
+use Prim.Native.Nat.{ℕ, _+_, _/_, _≤_, _<_}
 use mathlib.Core.List.{List, [], _∷_, _++_, append-nil, map, flatten}
 use mathlib.Core.Bool.{Bool, true, false}
-use mathlib.Core.Path.{_≡_, ap, subst, sym, _∙_}
-use native.Mathlib.Nat.{suc-mul}
+use mathlib.Core.Path.{_≡_, ap, _∙_}
 use native.Mathlib.Omega.{arith}
 use lib.ListN.{length}
 use lib.Dec.{eqb, leb}
 use borrow.Author.Tests.{leb-true}
-use Rattle.wire.specs.Lists.{each}
 use Rattle.wire.specs.Bits.{field, fit}
 use Rattle.wire.specs.Act.{Act, byte, copy, pick, rows}
 use Rattle.wire.specs.Pen.{clean, bytes}
-use Rattle.wire.specs.Layout.{Cell, num, reserved, flag, Layout, Columns, of, at, blank, writes, shown, cells, fieldOf, has, columns, mix, every, flagged, matched, demands, flatActs, borneBytes}
-use Rattle.wire.specs.Layout as W
+use Rattle.wire.specs.Layout.{Cell, num, reserved, flag, Columns, of, at, blank, writes, shown, cells, fieldOf, has, columns, mix, flatActs, familyActsOf, bearingActs, borneBytes}
 use Rattle.wire.proofs.Fields.{fits-cons}
 use Rattle.wire.proofs.Acts.{and-both, clean-both}
 use Rattle.wire.proofs.Passes.{slice-long}
-use Rattle.wire.proofs.Rowed.{after-demands}
-use Rattle.wire.proofs.Most.{both-long, most, writes-most}
+use Rattle.wire.proofs.Most.{both-long, most, writes-most, demanded-clean, demanded-long, rows-most, flat-most}
 use Rattle.frame.specs.Kind.{Lent}
+use Rattle.frame.specs.Body as B
+use Rattle.frame.specs.Body.{table}
 use Rattle.frame.specs.Numbers.{refuses}
 use Rattle.frame.specs.Entry.{Writes}
 use Rattle.frame.proofs.Largest.{longest}
 use Rattle.pairs.specs.Layout.{pair}
 use Rattle.scopes.specs.Layout.{scope}
+use Rattle.scopes.specs.Rows.{scoped}
 use Rattle.instructions.specs.Layout as I
-use Rattle.instructions.specs.Layout.{additional, settings, effect}
+use Rattle.instructions.specs.Layout.{additional, settings, effect, instruction}
 use Rattle.loudness.specs.Layout.{entry}
 use Rattle.downmixes.specs.Layout.{downmix}
 use Rattle.drc_kind.specs.declared.rows.MpegH3dAudioDrcLoudness.{MpegH3dAudioDrcLoudness}
 use Rattle.drc_kind.specs.Layout.{head, counts, layouts}
 use Rattle.drc_kind.specs.Rows.{fields}
-use Rattle.drc_kind.specs.Write.{table, counted, instructionAt, entryAt, downmixAt, instructionActs, entryActs, downmixActs, inside, actsOf, acts}
-use Rattle.drc_kind.specs.Kind.{kind}
-use Rattle.drc_kind.proofs.Mirrored.{written-so}
-
--- ---- what is demanded makes no bytes
-
-module _ (ls : List Layout) (g : Columns) (q : List Act) where
-  demanded-clean : clean (demands ls g ++ q) ≡ true → clean q ≡ true
-  unfolding clean
-  demanded-clean e =
-      let (_, e₀) = and-both (every flagged g (cells ls g)) _ e in
-      let (_, e₁) = and-both (every W.counted g (cells ls g)) _ e₀ in
-      clean-both (matched ls g) q e₁ .1
-
-  demanded-long : length (bytes (demands ls g ++ q)) ≡ length (bytes q)
-  unfolding bytes
-  demanded-long = ap length (after-demands ls g q)
+use Rattle.drc_kind.specs.Kind.{pieces, body, kind}
 
 -- ---- the rows
-
--- rows whose actions make at most k bytes each
-rows-most : (f : ℕ → List Act) (k : ℕ) → ((i : ℕ) → clean (f i) ≡ true → length (bytes (f i)) ≤ k) → (i n : ℕ) → clean (rows f i n) ≡ true → length (bytes (rows f i n)) ≤ n * k
-unfolding rows each flatten bytes
-rows-most f k h i zero e = omega arith
-rows-most f k h i (suc n) e =
-    let (a, b) = clean-both (f i) (rows f (i + 1) n) e in
-    omega (arith, both-long (f i) (rows f (i + 1) n), h i a, rows-most f k h (i + 1) n b, suc-mul n k)
-
-flat-most : (l : Layout) (g : Columns) → length (bytes (flatActs l g)) ≤ most l
-flat-most l g = omega (arith, demanded-long (l ∷ []) g (writes l g), writes-most l g)
 
 -- how many additional IDs an instruction has
 count-few : (g : Columns) → clean (writes settings g) ≡ true → g 11 ≤ 7
@@ -75,14 +47,13 @@ count-few g e =
     let n = fits-cons 3 (g 11) _ (fits-cons 3 (g 9) _ f .1) .0 in
     omega (arith, n)
 
-instruction-most : (lent : Lent) (i : ℕ) → clean (instructionActs lent i) ≡ true → length (bytes (instructionActs lent i)) ≤ 18
+instruction-most : (ids : List ℕ) (g : Columns) → clean (familyActsOf instruction 2 additional ids g) ≡ true → length (bytes (familyActsOf instruction 2 additional ids g)) ≤ 18
 unfolding clean bytes most pair scope
-instruction-most lent i c =
-    let g = instructionAt lent i in
-    let kid : ℕ → List Act = λ j. flatActs additional (at 2 (table 1 lent) j) in
+instruction-most t g c =
+    let kid : ℕ → List Act = λ j. flatActs additional (at 2 t j) in
     let ids = rows kid (g 10) (g 11) in
     let own = writes settings g ++ (ids ++ writes effect g) in
-    let (_, e₀) = and-both (leb (g 10 + g 11) (length (table 1 lent) / 2)) _ c in
+    let (_, e₀) = and-both (leb (g 10 + g 11) (length t / 2)) _ c in
     let (a, e₁) = clean-both (writes settings g) _ (demanded-clean (settings ∷ effect ∷ []) g own e₀) in
     let (b, _) = clean-both ids _ e₁ in
     omega (
@@ -92,14 +63,13 @@ instruction-most lent i c =
       both-long ids (writes effect g),
       writes-most settings g,
       writes-most effect g,
-      rows-most kid 1 (λ j e. flat-most additional (at 2 (table 1 lent) j)) (g 10) (g 11) b,
+      rows-most kid 1 (λ j e. flat-most additional (at 2 t j)) (g 10) (g 11) b,
       count-few g a,
     )
 
-entry-most : (lent : Lent) (store : List ℕ) (i : ℕ) → clean (entryActs lent store i) ≡ true → length (bytes (entryActs lent store i)) ≤ 258
+entry-most : (store : List ℕ) (g : Columns) → clean (bearingActs entry store g) ≡ true → length (bytes (bearingActs entry store g)) ≤ 258
 unfolding clean bytes most scope
-entry-most lent store i c =
-    let g = entryAt lent i in
+entry-most store g c =
     let w = entry .head in
     let l = borneBytes entry store g in
     let run = byte (field 8 (g 6) ∷ []) ∷ copy l ∷ [] in
@@ -116,9 +86,9 @@ entry-most lent store i c =
       ap length (append-nil l) ∙ slice-long (g 5) (g 6) store (leb-true _ _ r),
     )
 
-downmix-most : (lent : Lent) (i : ℕ) → length (bytes (downmixActs lent i)) ≤ 2
+downmix-most : (g : Columns) → length (bytes (flatActs downmix g)) ≤ 2
 unfolding most downmix
-downmix-most lent i = flat-most downmix (downmixAt lent i)
+downmix-most g = flat-most downmix g
 
 -- ---- the body
 
@@ -128,8 +98,8 @@ record Few (m : Columns) : Type 0 where
   entries : m 6 < 64
   downmixes : m 7 < 32
 
-counts-few : (g : Columns) → clean (writes head g) ≡ true → Few (counted g)
-unfolding writes clean head cells shown flatten has
+counts-few : (g : Columns) → clean (writes head g) ≡ true → Few (B.counts body g)
+unfolding B.layouts writes clean head cells shown flatten has
 counts-few g e = let (_, f) = and-both (fit (field 7 (g 0) ∷ field 1 (g 1) ∷ [])) _ e in go (eqb (g 1) 1) f
   where
     some : Bool → List Cell
@@ -143,38 +113,38 @@ counts-few g e = let (_, f) = and-both (fit (field 7 (g 0) ∷ field 1 (g 1) ∷
         record { instructions = fits-cons 6 (g 5) [] (fits-cons 2 (g 2) _ a .1) .0; entries = fits-cons 6 (g 6) [] (fits-cons 2 (g 3) _ b .1) .0; downmixes = fits-cons 5 (g 7) [] (fits-cons 3 (g 4) _ c .1) .0 }
     go false f = record { instructions = omega arith; entries = omega arith; downmixes = omega arith }
 
-body-most : (g : Columns) (lent : Lent) (store : List ℕ) → clean (actsOf g lent store) ≡ true → length (bytes (actsOf g lent store)) ≤ 17454
-unfolding actsOf clean bytes most head
-body-most g lent store c =
-    let m = counted g in
-    let is = rows (instructionActs lent) 0 (m 5) in
-    let ls = rows (entryActs lent store) 0 (m 6) in
-    let ds = rows (downmixActs lent) 0 (m 7) in
-    let (_, e₀) = and-both (inside m lent) _ c in
-    let (h, e₁) = clean-both (writes head g) _ (demanded-clean layouts g (writes head g ++ (is ++ (ls ++ ds))) e₀) in
+acts-most : (m : MpegH3dAudioDrcLoudness) (lent : Lent) (store : List ℕ) → clean (kind .acts m lent store) ≡ true → length (bytes (kind .acts m lent store)) ≤ 17454
+unfolding kind B.layouts B.inside B.pieced B.beyond writes clean bytes most head
+acts-most m lent store c =
+    let g = of (fields m) in
+    let n = B.counts body g in
+    let instruction-acts : ℕ → List Act = λ i. familyActsOf instruction 2 additional (table 1 lent) (scoped (at 24 (table 0 lent) i)) in
+    let entry-acts : ℕ → List Act = λ i. bearingActs entry store (scoped (at 7 (table 2 lent) i)) in
+    let downmix-acts : ℕ → List Act = λ i. flatActs downmix (at 4 (table 3 lent) i) in
+    let is = rows instruction-acts 0 (n 5) in
+    let ls = rows entry-acts 0 (n 6) in
+    let ds = rows downmix-acts 0 (n 7) in
+    let (_, e₀) = and-both (B.inside pieces g n lent store) _ c in
+    let (h, e₁) = clean-both (writes head g) _ (demanded-clean layouts g (writes head g ++ (is ++ (ls ++ (ds ++ [])))) e₀) in
     let (a, e₂) = clean-both is _ e₁ in
-    let (b, d) = clean-both ls ds e₂ in
-    let n = counts-few g h in
+    let (b, e₃) = clean-both ls _ e₂ in
+    let (d, _) = clean-both ds [] e₃ in
+    let few = counts-few g h in
     omega (
       arith,
-      n .instructions,
-      n .entries,
-      n .downmixes,
-      demanded-long layouts g (writes head g ++ (is ++ (ls ++ ds))),
-      both-long (writes head g) (is ++ (ls ++ ds)),
-      both-long is (ls ++ ds),
-      both-long ls ds,
+      few .instructions,
+      few .entries,
+      few .downmixes,
+      demanded-long layouts g (writes head g ++ (is ++ (ls ++ (ds ++ [])))),
+      both-long (writes head g) (is ++ (ls ++ (ds ++ []))),
+      both-long is (ls ++ (ds ++ [])),
+      both-long ls (ds ++ []),
+      both-long ds [],
       writes-most head g,
-      rows-most (instructionActs lent) 18 (instruction-most lent) 0 (m 5) a,
-      rows-most (entryActs lent store) 258 (entry-most lent store) 0 (m 6) b,
-      rows-most (downmixActs lent) 2 (λ i e. downmix-most lent i) 0 (m 7) d,
+      rows-most instruction-acts 18 (λ i e. instruction-most (table 1 lent) (scoped (at 24 (table 0 lent) i)) e) 0 (n 5) a,
+      rows-most entry-acts 258 (λ i e. entry-most store (scoped (at 7 (table 2 lent) i)) e) 0 (n 6) b,
+      rows-most downmix-acts 2 (λ i e. downmix-most (at 4 (table 3 lent) i)) 0 (n 7) d,
     )
-
-acts-most : (m : MpegH3dAudioDrcLoudness) (lent : Lent) (store : List ℕ) → clean (kind .acts m lent store) ≡ true → length (bytes (kind .acts m lent store)) ≤ 17454
-unfolding acts
-acts-most m lent store c =
-    let e = written-so m lent store in
-    subst (λ (q : List Act). length (bytes q) ≤ 17454) (sym e) (body-most (of (fields m)) lent store (ap clean (sym e) ∙ c))
 
 -- where writing answers 10, the length is at most 82,989
 pub largest : (m : MpegH3dAudioDrcLoudness) (lent : Lent) (store out after : List ℕ) (n : ℕ) → m .trailing .length < 65536 → Writes kind m lent store out (refuses 10 (n ∷ [])) after → n ≤ 82989

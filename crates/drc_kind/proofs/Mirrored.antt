@@ -1,22 +1,18 @@
--- The layouts read what the Rust's own functions read, line by line: a scope, each row, and the body; and the body is written as the Rust's own.
-use Prim.Native.Nat.{ℕ, _+_, _*_, _/_}
+-- The layouts read what the Rust's own functions read, line by line: a scope, each row, and the body.
+use Prim.Native.Nat.{ℕ, _+_, _*_}
 use mathlib.Core.Path.{_≡_, refl, sym, ap, _∙_}
-use mathlib.Core.List.{List, [], _∷_, _++_, append-nil}
-use mathlib.Core.Bool.{Bool, true, false, _&&_}
-use lib.ListN.{length, getD}
-use lib.Dec.{eqb, leb}
+use mathlib.Core.List.{List, [], _∷_, _++_}
+use mathlib.Core.Bool.{Bool, true, false}
+use lib.ListN.{getD}
+use lib.Dec.{eqb}
 use Rattle.wire.specs.Lists.{each}
 use Rattle.wire.specs.Bits.{part, total, split}
 use Rattle.wire.specs.Prog.{Prog, ret, look, u8, pass, span, many, _>>=_}
-use Rattle.wire.specs.Act.{demand, pick, rows}
-use Rattle.wire.specs.declared.pen.Fault.the-variants as F
-use Rattle.wire.specs.Layout.{Layout, end, one, optional, _▹_, num, reserved, flag, Columns, of, blank, set, has, put, puts, reads, writes, demands, row, flat, Family, Borne}
+use Rattle.wire.specs.Act.{pick}
+use Rattle.wire.specs.Layout.{Layout, end, one, optional, _▹_, num, reserved, flag, Columns, blank, set, has, put, puts, reads, row, flat, Family, Borne}
 use Rattle.wire.proofs.Runs.{bind-assoc}
 use Rattle.wire.proofs.Fields.{part-below}
-use Rattle.frame.specs.Kind.{Lent}
-use Rattle.frame.specs.Body as B
-use Rattle.frame.specs.Body.{layouts, parse, inside, pieced, beyond}
-use Rattle.frame.proofs.Pieces.{and-true}
+use Rattle.frame.specs.Body.{parse}
 use Rattle.pairs.specs.Layout.{pair}
 use Rattle.scopes.specs.Layout.{ids, scope}
 use Rattle.scopes.proofs.Taken.{case-at}
@@ -24,14 +20,11 @@ use Rattle.target_loudness.specs.Layout as L
 use Rattle.instructions.specs.Layout as I
 use Rattle.loudness.specs.Layout as E
 use Rattle.downmixes.specs.Layout as D
-use Rattle.drc_kind.specs.declared.rows.MpegH3dAudioDrcLoudness.{MpegH3dAudioDrcLoudness}
-use Rattle.drc_kind.specs.Layout as T
 use Rattle.drc_kind.specs.Layout.{head, counts}
-use Rattle.drc_kind.specs.Rows.{fields, Tree, treeIs}
+use Rattle.drc_kind.specs.Rows.{Tree, treeIs}
 use Rattle.drc_kind.specs.Read as R
 use Rattle.drc_kind.specs.Read.{given, bodyOver}
-use Rattle.drc_kind.specs.Write.{table, counted, instructionActs, entryActs, downmixActs, actsOf, acts}
-use Rattle.drc_kind.specs.Kind.{body, kind}
+use Rattle.drc_kind.specs.Kind.{kind}
 
 abbrev none : ℕ → List ℕ
 none n = each blank 0 n
@@ -225,16 +218,3 @@ parse-over = by-lists ∙ body-so I.instructions E.entries (flat 4 D.downmix)
 -- and with those of its rows
 pub mirrored : kind .program ≡ R.body
 mirrored = parse-over ∙ (λ i. bodyOver (instruction-so i) (entry-so i) (downmix-so i))
-
--- ---- and is written as the Rust's `write`
-
-pub written-so : (m : MpegH3dAudioDrcLoudness) (lent : Lent) (store : List ℕ) → kind .acts m lent store ≡ acts m lent store
-unfolding kind acts actsOf layouts inside pieced beyond writes
-written-so m lent store = go (of (fields m))
-  where
-    go : (g : Columns) → B.actsOf body g lent store ≡ actsOf g lent store
-    go g =
-        let c = counted g in
-        λ i. demand F.Range (leb (c 5) (length (table 0 lent) / 24) && (leb (c 6) (length (table 2 lent) / 7) && and-true (leb (c 7) (length (table 3 lent) / 4)) i))
-        ∷ demands T.layouts g
-        ++ (writes head g ++ (rows (instructionActs lent) 0 (c 5) ++ (rows (entryActs lent store) 0 (c 6) ++ append-nil (rows (downmixActs lent) 0 (c 7)) i)))

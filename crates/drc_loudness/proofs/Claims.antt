@@ -6,7 +6,6 @@ use Rattle.frame.proofs.Numbers.{refused-back, answer-by, fixes}
 use Rattle.frame.proofs.Tables.{rowsAt}
 use Rattle.drc_kind.specs.Kind.{kind}
 use Rattle.drc_kind.proofs.Claims as K
-use Rattle.drc_loudness.specs.declared.Sizes.{Sizes}
 use Rattle.drc_loudness.specs.declared.Reading.{Reading}
 use Rattle.drc_loudness.specs.declared.Reading.the-variants as R
 use Rattle.drc_loudness.specs.declared.Measured.{Measured}

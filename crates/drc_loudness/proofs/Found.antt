@@ -1,16 +1,15 @@
--- Of a body whose lists were found: where they stand and how many rows they have, its sizes, its record and its tables; and what the entry points answer then.
+-- Of a body whose lists were found: where they stand and how many rows they have, its sizes, its record and its tally.
 use Prim.Native.Nat.{ℕ, _+_, _≤_, _<_}
 use mathlib.Core.Path.{_≡_, refl, sym, ap, subst, _∙_}
 use mathlib.Core.List.{List, [], _∷_, _++_, flatten, flatMap}
 use mathlib.Core.Bool.{Bool, true, false, _&&_}
-use mathlib.Core.Option.{none}
 use native.Mathlib.Omega.{arith}
 use lib.ListN.{length, getD, length-map}
 use lib.Dec.{eqb}
 use borrow.Author.Tests.{eqb-true}
-use Rattle.wire.specs.Lists.{each, sum, firsts}
+use Rattle.wire.specs.Lists.{Every, all-nil, all-cons, each, sum, firsts}
 use Rattle.wire.specs.Bits.{part, zeros}
-use Rattle.wire.specs.Prog.{done, run, many}
+use Rattle.wire.specs.Prog.{run, many}
 use Rattle.wire.specs.Reads.{rowsOf}
 use Rattle.wire.specs.Act.{pick}
 use Rattle.wire.specs.Layout.{Cell, num, reserved, flag, column, idle, Columns, of, flat, shown, cells, tally, Family, familyTally, Borne, borneRow, borneTally}
@@ -19,18 +18,13 @@ use Rattle.wire.proofs.Walk.{ends}
 use Rattle.wire.proofs.Fields.{part-below}
 use Rattle.wire.proofs.Loops.{many-long}
 use Rattle.wire.proofs.Rowed.{parents-long}
-use Rattle.frame.specs.declared.Refusal.the-variants as R
-use Rattle.frame.specs.declared.Room.{Room}
-use Rattle.frame.specs.declared.Room.the-variants as M
-use Rattle.frame.specs.Kind.{Lent}
 use Rattle.frame.specs.Numbers.{accepted}
-use Rattle.frame.specs.Entry as E
-use Rattle.frame.specs.Entry.{needs, sizes, tail, onto, first, others, lacking, filled, Measures, Reads, Tallies}
+use Rattle.frame.specs.Entry.{needs, sizes, tail, Measures, Tallies}
 use Rattle.frame.specs.Body as B
 use Rattle.frame.specs.Body.{placed, tables}
-use Rattle.frame.specs.Sight.{andTables}
-use Rattle.frame.proofs.Entries.{measures-done, reads-done, judges, tallies}
-use Rattle.frame.proofs.Tables.{enough, reads-lowest, same-rows, no-more, no-rows}
+use Rattle.frame.specs.Sight.{Tops}
+use Rattle.frame.proofs.Entries.{measures-walked, sizes-walked, tallies-walked, tops-walked}
+use Rattle.frame.proofs.Tables.{same-rows, Empty, empty-opens}
 use Rattle.instructions.specs.Layout.{instruction, instructions, additional}
 use Rattle.loudness.specs.Layout.{entry, entries}
 use Rattle.downmixes.specs.Layout.{downmix}
@@ -38,14 +32,14 @@ use Rattle.drc_kind.specs.declared.rows.DrcLoudnessInfo.{DrcLoudnessInfo}
 use Rattle.drc_kind.specs.declared.rows.Info.{Info}
 use Rattle.drc_kind.specs.declared.rows.MpegH3dAudioDrcLoudness.{MpegH3dAudioDrcLoudness}
 use Rattle.drc_kind.specs.Layout.{head, layouts}
-use Rattle.drc_kind.specs.Rows.{noInfo, drcOf, Tree, treeIs, needed}
+use Rattle.drc_kind.specs.Rows.{noInfo, Tree, treeIs, needed}
 use Rattle.drc_kind.specs.Kind.{kind}
 use Rattle.drc_kind.proofs.Lawful.{instructionRows}
 use Rattle.drc_loudness.specs.declared.parsing.Places.{Places}
 use Rattle.drc_loudness.specs.declared.Opening.the-variants as O
 use Rattle.drc_loudness.specs.declared.Sizes.{Sizes}
 use Rattle.drc_loudness.specs.Contract.{sized}
-use Rattle.drc_loudness.specs.Walk.{flagAt, infoThere, infoAt, rowsAt, topOf, Found, tree, Recorded, Counted, Zeros, Rooms, Stored, Opens}
+use Rattle.drc_loudness.specs.Walk.{flagAt, infoThere, infoAt, rowsAt, topOf, Found, tree, Opens}
 use Rattle.drc_loudness.proofs.Walked.{infoIn, Bare, found-reads}
 
 -- ---- the counts
@@ -92,46 +86,19 @@ module _ {s : List ℕ} {p : Places} (f : Found s p) where
   unfolding needs kind tables
   needs-found = λ i. needed ((instructions-counted ∙ sym (parents-long instructionRows (f .in-instructions))) i) (f .additional-are i) ((entries-counted ∙ sym (length-map (f .in-entries) (borneRow entry))) i) (downmixes-counted i)
 
-  module _ (h : length s ≤ 65535) where
-    -- what is measured, and what is read into tables that have room
-    measures-found : Measures kind s (accepted (sizes kind (record { tree = tree f; before = p .k })))
-    measures-found = measures-done kind s h (found-reads s p f)
-
-    reads-found : (lent : Lent) → lacking (needs (kind .tables (tree f))) lent ≡ none → Reads kind s lent (accepted (drcOf (tree f .0) (tail (p .k) s))) (filled (kind .tables (tree f)) lent)
-    unfolding kind placed each
-    reads-found lent e = reads-done kind s lent (judges kind s {o = done (tree f) (p .k)} h (sym (found-reads s p f))) e
-
 -- ---- the record and the sizes, from the bytes
 
-module _ {s : List ℕ} {p : Places} where
-  pub counted : {r : Sizes} {i : DrcLoudnessInfo} → i ≡ infoIn s → r .instructions ≡ i .«drc_instructions» → r .additional ≡ p .additional → r .loudness ≡ i .«loudness_infos» → r .downmixes ≡ i .«downmix_definitions» → r .k ≡ p .k → Counted s p r
+module _ {s : List ℕ} {p : Places} (f : Found s p) (h : length s < 65536) where
+  pub counted : {r : Sizes} {i : DrcLoudnessInfo} → i ≡ infoIn s → r .instructions ≡ i .«drc_instructions» → r .additional ≡ p .additional → r .loudness ≡ i .«loudness_infos» → r .downmixes ≡ i .«downmix_definitions» → r .k ≡ p .k → Measures kind s (accepted (sized r))
   unfolding sizes
-  counted e a b c d k = record {
-    is = λ f.
-        (λ j. record { tables = needed ((a ∙ λ j. e j .«drc_instructions») j) (b j) ((c ∙ λ j. e j .«loudness_infos») j) ((d ∙ λ j. e j .«downmix_definitions») j); before = k j })
-        ∙ (λ j. record { tables = needs-found f j; before = p .k });
-  }
+  counted e a b c d k =
+      measures-walked kind s h (found-reads s p f)
+      ((λ j. record { tables = needed ((a ∙ λ j. e j .«drc_instructions») j) (b j) ((c ∙ λ j. e j .«loudness_infos») j) ((d ∙ λ j. e j .«downmix_definitions») j); before = k j })
+      ∙ (λ j. record { tables = needs-found f j; before = p .k }))
 
-  pub recorded : {r : MpegH3dAudioDrcLoudness} → r .reserved ≡ part 1 7 (getD s 0 0) → r .info ≡ infoAt s → r .trailing ≡ tail (p .k) s → Recorded s p r
-  unfolding infoAt
-  recorded a e t = record { is = λ f. λ j. record { reserved = a j; info = e j; trailing = t j } }
-
--- ---- the sizes, and the room
-
-module _ {s : List ℕ} {p : Places} (f : Found s p) (h : length s < 65536) {z : Sizes} (c : Counted s p z) where
-  pub measures-so : Measures kind s (accepted (sized z))
-  measures-so = subst (λ (y : E.Sizes). Measures kind s (accepted y)) (sym (c .is f)) (measures-found f (omega arith))
-
-  pub lacks-so : (lent : Lent) {r : Room} → r ≡ andTables M.Enough (sized z .tables) lent → {t n : ℕ} → r ≡ M.Lacks t n → Opens s lent (O.Refused (R.NoRoom t n)) lent
-  lacks-so lent e d = record { gives = reads-lowest kind s measures-so lent e d }
-
--- the same of any two finds
-pub rooms-so : {s : List ℕ} {p : Places} {z : Sizes} → Counted s p z → (lent : Lent) {r : Room} → r ≡ andTables M.Enough (sized z .tables) lent → r ≡ M.Enough → Rooms s p lent
-unfolding sizes
-rooms-so {z = z} c lent e d = record { has = λ f. ap (λ (y : E.Sizes). lacking (y .tables) lent) (sym (c .is f)) ∙ enough (sized z .tables) lent (sym e ∙ d) }
-
-pub opened-so : {s : List ℕ} {p : Places} → Found s p → length s < 65536 → {lent after : Lent} → Rooms s p lent → Stored s p lent after → Opens s lent (O.At p) after
-opened-so {s} {p} f h {lent} r w = record { gives = record { found = f; few = h; reads = λ m. rw (m .is f, w .is f) (reads-found f (omega arith) lent (r .has f)) } }
+  pub recorded : {r : MpegH3dAudioDrcLoudness} → r .reserved ≡ part 1 7 (getD s 0 0) → r .info ≡ infoAt s → r .trailing ≡ tail (p .k) s → Tops kind s r
+  unfolding infoAt kind placed each
+  recorded a e t = tops-walked kind s h (found-reads s p f) (λ j. record { reserved = a j; info = e j; trailing = t j })
 
 -- ---- no rows: no table is needed, and none changes
 
@@ -139,45 +106,26 @@ none-of : {A : Type 0} (l : List A) → length l ≡ 0 → l ≡ []
 none-of [] e = refl
 none-of (x ∷ l) e = absurd (omega (arith, e))
 
-pub bare-counted : {s : List ℕ} {p : Places} (f : Found s p) {z : Sizes} → Counted s p z → eqb (z .instructions) 0 && (eqb (z .loudness) 0 && eqb (z .downmixes) 0) ≡ true → Bare s p
+pub bare-counted : {s : List ℕ} {p : Places} (f : Found s p) → length s < 65536 → {z : Sizes} → Measures kind s (accepted (sized z)) → eqb (z .instructions) 0 && (eqb (z .loudness) 0 && eqb (z .downmixes) 0) ≡ true → Bare s p
 unfolding sizes kind needs tables
-bare-counted {s} {p} f {z} c e =
+bare-counted {s} {p} f h {z} m e =
+    let c = sizes-walked kind s h (found-reads s p f) m in
     let (x, y) = and-both (eqb (z .instructions) 0) _ e in
     let (u, v) = and-both (eqb (z .loudness) 0) _ y in
     record {
       found = f;
-      no-instructions = none-of (f .in-instructions) (sym (parents-long instructionRows (f .in-instructions)) ∙ sym (same-rows (c .is f) 0) ∙ eqb-true (z .instructions) 0 x);
-      no-entries = none-of (f .in-entries) (sym (length-map (f .in-entries) (borneRow entry)) ∙ sym (same-rows (c .is f) 2) ∙ eqb-true (z .loudness) 0 u);
-      no-downmixes = none-of (f .in-downmixes) (sym (same-rows (c .is f) 3) ∙ eqb-true (z .downmixes) 0 v);
+      no-instructions = none-of (f .in-instructions) (sym (parents-long instructionRows (f .in-instructions)) ∙ sym (same-rows c 0) ∙ eqb-true (z .instructions) 0 x);
+      no-entries = none-of (f .in-entries) (sym (length-map (f .in-entries) (borneRow entry)) ∙ sym (same-rows c 2) ∙ eqb-true (z .loudness) 0 u);
+      no-downmixes = none-of (f .in-downmixes) (sym (same-rows c 3) ∙ eqb-true (z .downmixes) 0 v);
     }
 
-module _ {s : List ℕ} {p : Places} (b : Bare s p) where
-  abbrev bare : List Family → List Borne → List (List ℕ) → Tree
-  bare is ls ds = treeIs (topOf s) is ls ds
-
-  is-bare : tree (b .found) ≡ bare [] [] []
-  is-bare = λ i. bare (b .no-instructions i) (b .no-entries i) (b .no-downmixes i)
-
-  none-lack : (lent : Lent) → lacking (needs (kind .tables (bare [] [] []))) lent ≡ none
-  unfolding needs kind tables firsts flatMap
-  none-lack lent = no-rows _ _ lent refl (no-rows _ _ _ refl (no-rows _ _ _ refl (no-rows _ _ _ refl (no-more _))))
-
-  stays : (t₁ t₂ t₃ t₄ : List ℕ) → filled (kind .tables (bare [] [] [])) (t₁ ∷ t₂ ∷ t₃ ∷ t₄ ∷ []) ≡ t₁ ∷ t₂ ∷ t₃ ∷ t₄ ∷ []
-  unfolding filled kind tables first others flatten firsts flatMap
-  stays t₁ t₂ t₃ t₄ = refl
-
-  pub bare-opens : length s < 65536 → (t₁ t₂ t₃ t₄ : List ℕ) → Opens s (t₁ ∷ t₂ ∷ t₃ ∷ t₄ ∷ []) (O.At p) (t₁ ∷ t₂ ∷ t₃ ∷ t₄ ∷ [])
-  bare-opens h t₁ t₂ t₃ t₄ =
-      let lent = t₁ ∷ t₂ ∷ t₃ ∷ t₄ ∷ [] in
-      let n : lacking (needs (kind .tables (tree (b .found)))) lent ≡ none = ap (λ (t : Tree). lacking (needs (kind .tables t)) lent) is-bare ∙ none-lack lent in
-      let k : filled (kind .tables (tree (b .found))) lent ≡ lent = ap (λ (t : Tree). filled (kind .tables t) lent) is-bare ∙ stays t₁ t₂ t₃ t₄ in
-      record {
-        gives = record {
-          found = b .found;
-          few = h;
-          reads = λ m. rw (m .is (b .found)) (subst (λ (after : Lent). Reads kind s lent (accepted (drcOf (tree (b .found) .0) (tail (p .k) s))) after) k (reads-found (b .found) (omega arith) lent n));
-        };
-      }
+pub bare-opens : {s : List ℕ} {p : Places} → Bare s p → length s < 65536 → (t₁ t₂ t₃ t₄ : List ℕ) → Opens s (t₁ ∷ t₂ ∷ t₃ ∷ t₄ ∷ []) (O.At p) (t₁ ∷ t₂ ∷ t₃ ∷ t₄ ∷ [])
+unfolding kind tables firsts flatMap
+bare-opens {s} {p} b h t₁ t₂ t₃ t₄ =
+    let f = b .found in
+    let e : tree f ≡ treeIs (topOf s) [] [] [] = λ i. treeIs (topOf s) (b .no-instructions i) (b .no-entries i) (b .no-downmixes i) in
+    let none : Every Empty (kind .tables (tree f)) = subst (λ (t : Tree). Every Empty (kind .tables t)) (sym e) (all-cons refl (all-cons refl (all-cons refl (all-cons refl all-nil)))) in
+    record { gives = empty-opens kind s h (found-reads s p f) f (t₁ ∷ t₂ ∷ t₃ ∷ t₄ ∷ []) refl none }
 
 -- ---- the tally
 
@@ -223,19 +171,13 @@ abbrev downmixesTally : List (List ℕ) → ℕ
 downmixesTally l = sum (λ r. tally (downmix ∷ []) (of r)) l
 
 -- with the counts as code has them
-pub zeros-so : {s : List ℕ} {p : Places} {i : DrcLoudnessInfo} → i ≡ infoIn s → {r a x y z at : ℕ} → at ≡ rowsAt s → r ≡ a + x + (y + z) → a ≡ tally layouts (of (topOf s))
+pub zeros-so : {s : List ℕ} {p : Places} → Found s p → length s < 65536 → {i : DrcLoudnessInfo} → i ≡ infoIn s → {r a x y z at : ℕ} → at ≡ rowsAt s → r ≡ a + x + (y + z) → a ≡ tally layouts (of (topOf s))
     → x ≡ instructionsTally (rowsOf (run (many (i .«drc_instructions») instructions) s at))
     → y ≡ entriesTally (rowsOf (run (many (i .«loudness_infos») entries) s (p .loudness)))
-    → z ≡ downmixesTally (rowsOf (run (many (i .«downmix_definitions») (flat 4 downmix)) s (p .downmixes))) → Zeros s p r
+    → z ≡ downmixesTally (rowsOf (run (many (i .«downmix_definitions») (flat 4 downmix)) s (p .downmixes))) → Tallies kind s (accepted r)
 unfolding kind B.zeros B.layouts
-zeros-so {s} {p} e q w a x y z = record {
-  is = λ f.
-      let x′ = x ∙ (λ j. instructionsTally (rowsOf (run (many (e j .«drc_instructions») instructions) s (q j)))) ∙ (λ j. instructionsTally (rowsOf (f .instructions-read j))) in
-      let y′ = y ∙ (λ j. entriesTally (rowsOf (run (many (e j .«loudness_infos») entries) s (p .loudness)))) ∙ (λ j. entriesTally (rowsOf (f .entries-read j))) in
-      let z′ = z ∙ (λ j. downmixesTally (rowsOf (run (many (e j .«downmix_definitions») (flat 4 downmix)) s (p .downmixes)))) ∙ (λ j. downmixesTally (rowsOf (f .downmixes-read j))) in
-      omega (arith, w, a, x′, y′, z′);
-}
-
-pub tallies-so : {s : List ℕ} {p : Places} → Found s p → length s < 65536 → {n : ℕ} → Zeros s p n → Tallies kind s (accepted n)
-unfolding onto
-tallies-so {s} {p} f h z = rw (z .is f) (tallies kind s (judges kind s {o = done (tree f) (p .k)} (omega arith) (sym (found-reads s p f))))
+zeros-so {s} {p} f h e q w a x y z =
+    let x′ = x ∙ (λ j. instructionsTally (rowsOf (run (many (e j .«drc_instructions») instructions) s (q j)))) ∙ (λ j. instructionsTally (rowsOf (f .instructions-read j))) in
+    let y′ = y ∙ (λ j. entriesTally (rowsOf (run (many (e j .«loudness_infos») entries) s (p .loudness)))) ∙ (λ j. entriesTally (rowsOf (f .entries-read j))) in
+    let z′ = z ∙ (λ j. downmixesTally (rowsOf (run (many (e j .«downmix_definitions») (flat 4 downmix)) s (p .downmixes)))) ∙ (λ j. downmixesTally (rowsOf (f .downmixes-read j))) in
+    tallies-walked kind s h (found-reads s p f) (omega (arith, w, a, x′, y′, z′))

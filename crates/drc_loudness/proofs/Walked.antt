@@ -5,8 +5,8 @@ use mathlib.Core.List.{List, [], _∷_, _++_, flatMap}
 use mathlib.Core.Bool.{Bool, true, false}
 use native.Mathlib.Omega.{arith}
 use lib.ListN.{length, getD}
-use lib.Dec.{eqb, leb}
-use borrow.Author.Tests.{eq-eqb, ne-eqb, eqb-true, leb-true, leb-false}
+use lib.Dec.{eqb}
+use borrow.Author.Tests.{eq-eqb, ne-eqb, eqb-true}
 use Rattle.wire.specs.Bits.{part, total, split}
 use Rattle.wire.specs.Prog.{Prog, ret, Out, done, short, run, u8, many, _>>=_}
 use Rattle.wire.specs.Reads.{mapOut, endOf, shortOf, Summed}
@@ -16,11 +16,10 @@ use Rattle.wire.specs.Layout.{reserved, flag, blank, put, reads, flat, Family, 
 use Rattle.wire.specs.declared.reads.Short.{Short}
 use Rattle.wire.specs.declared.reads.Sum.{Sum}
 use Rattle.wire.specs.declared.reads.Sum.the-variants as S
-use Rattle.wire.proofs.Runs.{andThen, run-bind}
-use Rattle.wire.proofs.Walk.{From, byte-next, onward, as-done, cut-off-as, finished}
+use Rattle.wire.proofs.Walk.{halt, From, byte-next, onward, Passed, end-onward, end-cut-off, finished}
 use Rattle.wire.proofs.Fields.{part-below}
 use Rattle.wire.proofs.Loops.{Went-on, sum-onward, sum-cut-off, sum-small}
-use Rattle.wire.proofs.Straight.{read-so, ones-got, ends-at, ends-within, ends-on, ends-cut}
+use Rattle.wire.proofs.Straight.{read-so, ends-at, ends-within, ends-few, ends-on, ends-cut, Past}
 use Rattle.frame.specs.Entry.{too-short, Measures}
 use Rattle.frame.proofs.Entries.{measures-short}
 use Rattle.instructions.specs.Layout.{instructions}
@@ -83,12 +82,11 @@ head-there s h l = record { same = ap (λ (p : Prog Tree). run p s 0) parse-over
     go true l = byte-next _ s 1 (omega arith) refl ∙ byte-next _ s 2 (omega arith) refl ∙ byte-next _ s 3 (omega arith) refl
     go false l = refl
 
--- a read that is cut there
-bind-cut : {A B : Type 0} (p : Prog A) (k : A → Prog B) (s : List ℕ) (at : ℕ) {x : Short} → run p s at ≡ short x → run (p >>= k) s at ≡ short x
-bind-cut {A} p k s at e = run-bind p k s at ∙ ap (λ (o : Out A). andThen o (λ a n. run (k a) s n)) e
-
+-- they are cut
 head-cut : (s : List ℕ) {x : Short} → ends (spans head blank s 0) s 0 ≡ short x → run (kind .program) s 0 ≡ short x
-head-cut s e = ap (λ (p : Prog Tree). run p s 0) by-lists ∙ bind-cut (reads head blank) _ s 0 (read-so head blank s 0 ∙ ap (mapOut (λ (u : Unit {0}). taken head blank s 0)) e)
+head-cut s e =
+    let q = read-so head blank s 0 ∙ ap (mapOut (λ (u : Unit {0}). taken head blank s 0)) e in
+    ap (λ (p : Prog Tree). run p s 0) by-lists ∙ halt (reads head blank) _ s 0 refl q (sym (ap shortOf q))
 
 head-spans : (s : List ℕ) → spans head blank s 0 ≡ ones 1 ++ pick (eqb (flagAt s) 1) (ones 3) []
 unfolding head took putsAt put split total ones
@@ -114,14 +112,21 @@ pub rows-one : (s : List ℕ) → eqb (flagAt s) 1 ≡ false → rowsAt s ≡ 1
 unfolding rowsAt
 rows-one s t = ap (λ (b : Bool). pick b 4 1) t
 
--- behind the first byte
-pub record One (s : List ℕ) (n : ℕ) : Type 0 where
-  pub at-one : n ≡ 1
-  pub inside : 1 ≤ length s
+pub rows-near : (s : List ℕ) → (1 ≤ rowsAt s) × (rowsAt s ≤ 4)
+unfolding rowsAt
+rows-near s = go (eqb (flagAt s) 1)
+  where
+    go : (b : Bool) → (1 ≤ pick b 4 1) × (pick b 4 1 ≤ 4)
+    go true = (omega arith, omega arith)
+    go false = (omega arith, omega arith)
 
-pub one-there : (s : List ℕ) {o : Out (Unit {0})} {n : ℕ} → o ≡ ends (ones 1) s 0 → o ≡ done tt n → One s n
-unfolding ones total
-one-there s e d = let q = ends-at (ones 1) s 0 (sym e ∙ d) in let l = ends-within (ones 1) s 0 (omega arith) (sym e ∙ d) in record { at-one = q; inside = omega arith }
+head-long : (s : List ℕ) → total (spans head blank s 0) ≡ rowsAt s
+unfolding rowsAt ones total
+head-long s = ap total (head-spans s) ∙ go (eqb (flagAt s) 1)
+  where
+    go : (b : Bool) → total (ones 1 ++ pick b (ones 3) []) ≡ pick b 4 1
+    go true = refl
+    go false = refl
 
 -- where the bytes before the lists end, as code finds it
 module _ (s : List ℕ) {o : Out (Unit {0})} (e : o ≡ ends (ones 1) s 0) where
@@ -144,28 +149,11 @@ module _ (s : List ℕ) {o : Out (Unit {0})} (e : o ≡ ends (spans head blank s
   head-shorts d q = head-cut s (sym e ∙ d) ∙ ap short (sym (q ∙ ap shortOf d))
 
   pub begins : {n : ℕ} → o ≡ done tt n → Begun s n
-  unfolding rowsAt ones total
-  begins d = record { at-rows = ends-at (spans head blank s 0) s 0 (sym e ∙ d) ∙ ap (λ (l : List ℕ). 0 + total l) (head-spans s) ∙ go (eqb (flagAt s) 1); inside = ends-within (spans head blank s 0) s 0 (omega arith) (sym e ∙ d) }
-    where
-      go : (b : Bool) → 0 + total (ones 1 ++ pick b (ones 3) []) ≡ pick b 4 1
-      go true = refl
-      go false = refl
+  begins d = record { at-rows = omega (arith, ends-at (spans head blank s 0) s 0 (sym e ∙ d), head-long s); inside = ends-within (spans head blank s 0) s 0 (omega arith) (sym e ∙ d) }
 
   -- without them
   pub cut-head : {x : Short} → o ≡ short x → Measures kind s (too-short x)
-  unfolding ones
-  cut-head {x} d = measures-short kind s (omega (arith, few)) (head-cut s (sym e ∙ d))
-    where
-      got : 4 ≤ length s → (b : Bool) → ends (ones 1 ++ pick b (ones 3) []) s 0 ≡ done tt (pick b 4 1)
-      got h true = ones-got 4 s 0 h
-      got h false = ones-got 1 s 0 (omega arith)
-
-      few : length s < 4
-      few = go (leb 4 (length s)) refl
-        where
-          go : (b : Bool) → leb 4 (length s) ≡ b → length s < 4
-          go true q = absurd (let z : _≡_ {A = ℕ} 0 1 = cc (sym d ∙ e ∙ ap (λ (l : List ℕ). ends l s 0) (head-spans s) ∙ got (leb-true 4 (length s) q) (eqb (flagAt s) 1)) in omega arith)
-          go false q = leb-false 4 (length s) q
+  cut-head d = measures-short kind s (omega (arith, ends-few (spans head blank s 0) s 0 (sym e ∙ d), head-long s, rows-near s .1)) (head-cut s (sym e ∙ d))
 
   pub headless : {x : Short} → o ≡ short x → Measures kind s (too-short (shortOf o))
   headless {x} d = subst (λ (y : Short). Measures kind s (too-short y)) (sym (ap shortOf d)) (cut-head d)
@@ -179,12 +167,12 @@ module _ {s : List ℕ} {n : ℕ} (h : Begun s n) where
       go true t = eqb-true (flagAt s) 1 t
       go false t = absurd (omega (arith, h .at-rows, rows-one s t))
 
-  pub no-info : (n ≡ 4 → ⊥) → (eqb (flagAt s) 1 ≡ false) × One s n
+  pub no-info : (n ≡ 4 → ⊥) → (eqb (flagAt s) 1 ≡ false) × Past s 0 1 n
   no-info q = go (eqb (flagAt s) 1) refl
     where
-      go : (b : Bool) → eqb (flagAt s) 1 ≡ b → (eqb (flagAt s) 1 ≡ false) × One s n
+      go : (b : Bool) → eqb (flagAt s) 1 ≡ b → (eqb (flagAt s) 1 ≡ false) × Past s 0 1 n
       go true t = absurd (q (h .at-rows ∙ rows-four s (eqb-true (flagAt s) 1 t)))
-      go false t = (t, record { at-one = h .at-rows ∙ rows-one s t; inside = omega (arith, h .inside, h .at-rows, rows-one s t) })
+      go false t = (t, record { is = h .at-rows ∙ rows-one s t; inside = omega (arith, h .inside, h .at-rows, rows-one s t) })
 
 pub info-there : (s : List ℕ) → flagAt s ≡ 1 → infoIn s ≡ infoThere s
 unfolding infoAt
@@ -211,7 +199,7 @@ pub none-found : {s : List ℕ} {n : ℕ} → Begun s n → (n ≡ 4 → ⊥) �
 unfolding rowsAt infoAt run many flatMap
 none-found {s} {n} w z {p} e =
     let (f, h) = no-info w z in
-    let q : pick (eqb (flagAt s) 1) 4 1 ≡ n = ap (λ (b : Bool). pick b 4 1) f ∙ sym (h .at-one) in
+    let q : pick (eqb (flagAt s) 1) 4 1 ≡ n = ap (λ (b : Bool). pick b 4 1) f ∙ sym (h .is) in
     let i : pick (eqb (flagAt s) 1) (infoThere s) (noInfo .part) ≡ noInfo .part = ap (λ (b : Bool). pick b (infoThere s) (noInfo .part)) f in
     subst (Bare s) (sym e)
     (record {
@@ -219,7 +207,7 @@ none-found {s} {n} w z {p} e =
         in-instructions = [];
         in-entries = [];
         in-downmixes = [];
-        head = omega (arith, q, h .at-one, h .inside);
+        head = omega (arith, q, h .is, h .inside);
         instructions-read = λ j. run (many (i j .«drc_instructions») instructions) s (q j);
         entries-read = λ j. run (many (i j .«loudness_infos») entries) s n;
         downmixes-read = λ j. run (many (i j .«downmix_definitions») (flat 4 downmix)) s n;
@@ -265,21 +253,17 @@ module _ (s : List ℕ) (t : flagAt s ≡ 1) (h : 4 ≤ length s) {i : DrcLoudne
 -- behind the entries
 pub record InEntries (s : List ℕ) (v m n : ℕ) : Type 0 where
   pub before : InInstructions s v m
-  pub value : List Borne
-  pub reads : run (many (infoIn s .«loudness_infos») entries) s m ≡ done value n
-  pub place : From (kind .program) s 0 (behind-entries s (before .on .value) value) n
+  pub on : Passed (many (infoIn s .«loudness_infos») entries) (behind-entries s (before .on .value)) (kind .program) s 0 m n
 
 module _ {s : List ℕ} {v m : ℕ} (w : InInstructions s v m) {i : DrcLoudnessInfo} (e : i ≡ infoThere s) {o : Out (Unit {0})} (q : o ≡ endOf (run (many (i .«loudness_infos») entries) s m)) where
   same-entries : o ≡ endOf (run (many (infoIn s .«loudness_infos») entries) s m)
   same-entries = q ∙ (λ j. endOf (run (many ((e ∙ sym (info-there s (w .flagged))) j .«loudness_infos») entries) s m))
 
   pub entries-found : {n : ℕ} → o ≡ done tt n → InEntries s v m n
-  entries-found d =
-      let (x, r, _) = as-done (λ (x : List Borne). tt) (run (many (infoIn s .«loudness_infos») entries) s m) (sym same-entries ∙ d) in
-      record { before = w; value = x; reads = r; place = onward (many (infoIn s .«loudness_infos») entries) (behind-entries s (w .on .value)) (w .on .place) refl r }
+  entries-found d = record { before = w; on = end-onward (many (infoIn s .«loudness_infos») entries) (behind-entries s (w .on .value)) (w .on .place) same-entries d }
 
   pub entries-cut : {x y : Short} → o ≡ short x → y ≡ shortOf o → run (kind .program) s 0 ≡ short y
-  entries-cut d z = sym (cut-off-as (many (infoIn s .«loudness_infos») entries) (λ x. tt) (behind-entries s (w .on .value)) (w .on .place) same-entries d z)
+  entries-cut d z = sym (end-cut-off (many (infoIn s .«loudness_infos») entries) (behind-entries s (w .on .value)) (w .on .place) same-entries d z)
 
 module _ {s : List ℕ} {v m n : ℕ} (w : InEntries s v m n) {i : DrcLoudnessInfo} (e : i ≡ infoThere s) {o : Out (Unit {0})} (q : o ≡ endOf (run (many (i .«downmix_definitions») (flat 4 downmix)) s n)) where
   same-downmixes : o ≡ endOf (run (many (infoIn s .«downmix_definitions») (flat 4 downmix)) s n)
@@ -287,35 +271,27 @@ module _ {s : List ℕ} {v m n : ℕ} (w : InEntries s v m n) {i : DrcLoudnessIn
 
   pub all-found : {k : ℕ} → o ≡ done tt k → Found s (record { loudness = m; downmixes = n; additional = v; k = k })
   all-found d =
-      let (x, r, _) = as-done (λ (x : List (List ℕ)). tt) (run (many (infoIn s .«downmix_definitions») (flat 4 downmix)) s n) (sym same-downmixes ∙ d) in
+      let y = end-onward (many (infoIn s .«downmix_definitions») (flat 4 downmix)) (λ ds. ret (treeOf s (w .before .on .value) (w .on .value) ds)) (w .on .place) same-downmixes d in
       record {
         in-instructions = w .before .on .value;
-        in-entries = w .value;
-        in-downmixes = x;
+        in-entries = w .on .value;
+        in-downmixes = y .value;
         head = omega (arith, w .before .four, rows-four s (w .before .flagged));
         instructions-read = w .before .on .reads;
-        entries-read = w .reads;
-        downmixes-read = r;
+        entries-read = w .on .reads;
+        downmixes-read = y .reads;
         additional-are = sym (w .before .on .is);
         additional-few = w .before .small;
       }
 
   pub downmixes-cut : {x y : Short} → o ≡ short x → y ≡ shortOf o → run (kind .program) s 0 ≡ short y
-  downmixes-cut d z = sym (cut-off-as (many (infoIn s .«downmix_definitions») (flat 4 downmix)) (λ x. tt) (λ ds. ret (treeOf s (w .before .on .value) (w .value) ds)) (w .place) same-downmixes d z)
+  downmixes-cut d z = sym (end-cut-off (many (infoIn s .«downmix_definitions») (flat 4 downmix)) (λ ds. ret (treeOf s (w .before .on .value) (w .on .value) ds)) (w .on .place) same-downmixes d z)
 
 -- ---- what was found
 
 -- the first byte is there
-pub one-before : (s : List ℕ) → 1 ≤ rowsAt s
-unfolding rowsAt
-one-before s = some (eqb (flagAt s) 1)
-  where
-    some : (x : Bool) → 1 ≤ pick x 4 1
-    some true = omega arith
-    some false = omega arith
-
 pub first-there : {s : List ℕ} {p : Places} → Found s p → 1 ≤ length s
-first-there {s} f = omega (arith, f .head, one-before s)
+first-there {s} f = omega (arith, f .head, rows-near s .0)
 
 pub found-reads : (s : List ℕ) (p : Places) (f : Found s p) → run (kind .program) s 0 ≡ done (tree f) (p .k)
 found-reads s p f =

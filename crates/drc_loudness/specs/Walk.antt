@@ -1,7 +1,6 @@
 -- What the walk along a DRC and loudness body finds: where its lists stand, and how many additional IDs they have. The promises of the entry points do not rest on it.
-use Prim.Native.Nat.{ℕ, _<_, _≤_}
+use Prim.Native.Nat.{ℕ, _≤_}
 use mathlib.Core.List.{List, [], _∷_}
-use mathlib.Core.Option.{none}
 use mathlib.Core.Path.{_≡_}
 use lib.ListN.{length, getD}
 use lib.Dec.{eqb}
@@ -10,23 +9,21 @@ use Rattle.wire.specs.Prog.{done, short, run, many}
 use Rattle.wire.specs.Act.{pick}
 use Rattle.wire.specs.Layout.{flat, Family, Borne, kids}
 use Rattle.frame.specs.Kind.{Lent}
-use Rattle.frame.specs.Numbers.{accepted, refused, refusal}
-use Rattle.frame.specs.Entry.{needs, lacking, filled, tail, sizes, Reads}
+use Rattle.frame.specs.Numbers.{refused, refusal}
+use Rattle.frame.specs.Entry.{Reads}
+use Rattle.frame.specs.Sight.{Opened}
 use Rattle.instructions.specs.Layout.{instructions}
 use Rattle.loudness.specs.Layout.{entries}
 use Rattle.downmixes.specs.Layout.{downmix}
 use Rattle.drc_kind.specs.declared.rows.DrcLoudnessInfo.{DrcLoudnessInfo}
 use Rattle.drc_kind.specs.declared.rows.Info.{Info}
-use Rattle.drc_kind.specs.declared.rows.MpegH3dAudioDrcLoudness.{MpegH3dAudioDrcLoudness}
-use Rattle.drc_kind.specs.Rows.{noInfo, drcOf, Tree, treeIs}
+use Rattle.drc_kind.specs.Rows.{noInfo, Tree, treeIs}
 use Rattle.drc_kind.specs.Kind.{kind}
 use Rattle.drc_loudness.specs.declared.parsing.Places.{Places}
 use Rattle.drc_loudness.specs.declared.parsing.Walk.{Walk}
 use Rattle.drc_loudness.specs.declared.parsing.Walk.the-variants as W
 use Rattle.drc_loudness.specs.declared.Opening.{Opening}
 use Rattle.drc_loudness.specs.declared.Opening.the-variants as O
-use Rattle.drc_loudness.specs.declared.Sizes.{Sizes}
-use Rattle.drc_loudness.specs.Contract.{sized}
 
 -- the flag of the info, and what stands behind the first byte where it is set
 abbrev pub flagAt : List ℕ → ℕ
@@ -78,22 +75,6 @@ treeOf s is ls ds = treeIs (topOf s) is ls ds
 abbrev pub tree : {s : List ℕ} {p : Places} → Found s p → Tree
 tree {s} f = treeOf s (f .in-instructions) (f .in-entries) (f .in-downmixes)
 
--- of a body whose lists were found: its record, its sizes, its tally, the room for its rows, and what filling the tables leaves
-pub record Recorded (s : List ℕ) (p : Places) (r : MpegH3dAudioDrcLoudness) : Type 0 where
-  pub is : (f : Found s p) → r ≡ drcOf (tree f .0) (tail (p .k) s)
-
-pub record Counted (s : List ℕ) (p : Places) (r : Sizes) : Type 0 where
-  pub is : (f : Found s p) → sized r ≡ sizes kind (record { tree = tree f; before = p .k })
-
-pub record Zeros (s : List ℕ) (p : Places) (r : ℕ) : Type 0 where
-  pub is : (f : Found s p) → r ≡ kind .zeros (tree f)
-
-pub record Rooms (s : List ℕ) (p : Places) (lent : Lent) : Type 0 where
-  pub has : (f : Found s p) → lacking (needs (kind .tables (tree f))) lent ≡ none
-
-pub record Stored (s : List ℕ) (p : Places) (lent after : Lent) : Type 0 where
-  pub is : (f : Found s p) → after ≡ filled (kind .tables (tree f)) lent
-
 abbrev pub walks : List ℕ → Walk → Type 0
 walks s (W.Done p) = Found s p
 walks s (W.Short x) = run (kind .program) s 0 ≡ short x
@@ -101,14 +82,9 @@ walks s (W.Short x) = run (kind .program) s 0 ≡ short x
 pub record Walks (s : List ℕ) (r : Walk) : Type 0 where
   pub finds : walks s r
 
--- a body that was opened: its lists were found, and its record, with the tables as they are then, is what reading gives
-pub record Opened (s : List ℕ) (lent : Lent) (p : Places) (after : Lent) : Type 0 where
-  pub found : Found s p
-  pub few : length s < 65536
-  pub reads : {m : MpegH3dAudioDrcLoudness} → Recorded s p m → Reads kind s lent (accepted m) after
-
+-- a body that was opened, or why it is refused
 abbrev pub opens : List ℕ → Lent → Opening → Lent → Type 0
-opens s lent (O.At p) after = Opened s lent p after
+opens s lent (O.At p) after = Opened kind (Found s p) s lent after
 opens s lent (O.Refused x) after = Reads kind s lent (refused (refusal x)) after
 
 pub record Opens (s : List ℕ) (lent : Lent) (r : Opening) (after : Lent) : Type 0 where

@@ -6,8 +6,13 @@ ghost use lib.ListN.{length};
 ghost use Rattle.wire.specs.Reads.{endsOut};
 ghost use Rattle.wire.specs.Straight.{ends, spans};
 ghost use Rattle.wire.specs.Layout.{blank};
+ghost use Rattle.frame.specs.Numbers.{accepted};
+ghost use Rattle.frame.specs.Entry.{Measures};
+ghost use Rattle.frame.specs.Sight.{Tops, Roomy, Fills};
 ghost use Rattle.drc_kind.specs.Layout.{head};
-ghost use Rattle.drc_loudness.specs.Walk.{flagAt, infoAt, infoThere, rowsAt, Found, Walks, Recorded, Counted, Rooms, Stored};
+ghost use Rattle.drc_kind.specs.Kind.{kind};
+ghost use Rattle.drc_loudness.specs.Contract.{sized};
+ghost use Rattle.drc_loudness.specs.Walk.{flagAt, infoAt, infoThere, rowsAt, Found, Walks};
 use super::Sizes;
 use downmixes::parsing::fill_downmixes;
 use downmixes::parsing::measure_downmixes;
@@ -150,7 +155,7 @@ pub fn find_lists(body: &[u8]) -> Walk
 // The record.
 pub fn record_at(body: &[u8], p: Places) -> MpegH3dAudioDrcLoudness
     requires { ⌜ Found (now body) p × (length (now body) < 2 ^ 16) ⌝ }
-    ensures { λ r. ⌜ Recorded (now (body .entry)) p r ⌝ }
+    ensures { λ r. ⌜ Tops kind (now (body .entry)) r ⌝ }
 {
     MpegH3dAudioDrcLoudness {
         reserved: part(wide(body[0]), 1, 7) as u8,
@@ -161,8 +166,8 @@ pub fn record_at(body: &[u8], p: Places) -> MpegH3dAudioDrcLoudness
 
 // What its tables need.
 pub fn sizes_at(body: &[u8], p: Places) -> Sizes
-    requires { ⌜ Found (now body) p ⌝ }
-    ensures { λ r. ⌜ Counted (now (body .entry)) p r ⌝ }
+    requires { ⌜ Found (now body) p × (length (now body) < 2 ^ 16) ⌝ }
+    ensures { λ r. ⌜ Measures kind (now (body .entry)) (accepted (sized r)) ⌝ }
 {
     let info = info_at(body).part;
     Sizes {
@@ -183,8 +188,8 @@ pub fn fill(
     loudness: &mut [u16],
     downmixes: &mut [u16],
 )
-    requires { ⌜ Found (now body) p × (length (now body) < 2 ^ 16) × Rooms (now body) p (now instructions ∷ now additional ∷ now loudness ∷ now downmixes ∷ []) ⌝ }
-    ensures { λ r. ⌜ Stored (now (body .entry)) p (now (instructions .entry) ∷ now (additional .entry) ∷ now (loudness .entry) ∷ now (downmixes .entry) ∷ []) (now (instructions .exit) ∷ now (additional .exit) ∷ now (loudness .exit) ∷ now (downmixes .exit) ∷ []) ⌝ }
+    requires { ⌜ Found (now body) p × (length (now body) < 2 ^ 16) × Roomy kind (now body) (now instructions ∷ now additional ∷ now loudness ∷ now downmixes ∷ []) ⌝ }
+    ensures { λ r. ⌜ Fills kind (now (body .entry)) (now (instructions .entry) ∷ now (additional .entry) ∷ now (loudness .entry) ∷ now (downmixes .entry) ∷ []) (now (instructions .exit) ∷ now (additional .exit) ∷ now (loudness .exit) ∷ now (downmixes .exit) ∷ []) ⌝ }
 {
     let info = info_at(body).part;
     let at = rows_at(body);

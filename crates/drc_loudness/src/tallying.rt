@@ -3,8 +3,11 @@ ghost use Prim.Native.Nat.{_<_, _≤_, _^_};
 ghost use mathlib.Core.Path.{_≡_};
 ghost use lib.ListN.{length};
 ghost use Rattle.wire.specs.Layout.{of, tally};
+ghost use Rattle.frame.specs.Numbers.{accepted};
+ghost use Rattle.frame.specs.Entry.{Tallies};
 ghost use Rattle.drc_kind.specs.Layout.{layouts};
-ghost use Rattle.drc_loudness.specs.Walk.{topOf, infoAt, rowsAt, Found, Zeros};
+ghost use Rattle.drc_kind.specs.Kind.{kind};
+ghost use Rattle.drc_loudness.specs.Walk.{topOf, infoAt, rowsAt, Found};
 use super::parsing::Places;
 use super::parsing::info_at;
 use super::parsing::rows_at;
@@ -35,7 +38,7 @@ fn top_zeros(body: &[u8], info: Info) -> u32
 // All of them.
 pub fn zero_bits(body: &[u8], p: Places) -> usize
     requires { ⌜ Found (now body) p × (length (now body) < 2 ^ 16) ⌝ }
-    ensures { λ r. ⌜ Zeros (now (body .entry)) p r ⌝ }
+    ensures { λ r. ⌜ Tallies kind (now (body .entry)) (accepted r) ⌝ }
 {
     let info = info_at(body);
     let top = top_zeros(body, info) as usize;

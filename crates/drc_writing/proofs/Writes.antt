@@ -1,87 +1,79 @@
 -- The layouts write the DRC and loudness body list after list; what the functions of both passes make of its info.
-use mathlib.Core.List.{List, [], _∷_, _++_, flatten, map}
+use mathlib.Core.List.{List, [], _∷_, _++_, append-nil, flatten, map}
 use mathlib.Core.Bool.{Bool, true, false, _&&_}
 use mathlib.Core.Path.{_≡_, refl, sym, _∙_}
 use Prim.Native.Nat.{ℕ, _*_, _/_, _^_, _≤_, _<_}
 use native.Mathlib.Omega.{arith}
-use native.Mathlib.Nat.{le-div-iff-mul-le}
 use lib.ListN.{length}
-use lib.Dec.{leb, ltb}
-use borrow.Author.Tests.{ltb-true, leb-true, le-leb}
+use lib.Dec.{leb}
 use Rattle.wire.specs.Lists.{each}
 use Rattle.wire.specs.Bits.{field, fit}
-use Rattle.wire.specs.Act.{Act, byte, when, rows}
-use Rattle.wire.specs.Pen.{clean, Checked, Ready}
+use Rattle.wire.specs.Act.{Act, demand, byte, when, within, rows}
+use Rattle.wire.specs.Pen.{clean, Ready}
 use Rattle.wire.specs.Spell.{fitAll}
-use Rattle.wire.specs.declared.pen.Pen.{Pen}
-use Rattle.wire.specs.declared.pen.Pen.the-variants.{At, Stop}
-use Rattle.wire.specs.Layout.{of, cells, matches, matched, shown, writes, every, has}
+use Rattle.wire.specs.declared.pen.Fault.the-variants as F
+use Rattle.wire.specs.Layout.{cells, matches, matched, shown, writes, every, has}
+use Rattle.wire.proofs.Fields.{fits-cons}
 use Rattle.wire.proofs.Acts.{and-both, clean-both}
-use Rattle.wire.proofs.Parts.{part-begins}
-use Rattle.wire.proofs.Passes.{stuck, faulty, Filling}
+use Rattle.wire.proofs.Parts.{part-begins, within-there, within-absent, rows-there}
+use Rattle.wire.proofs.Passes.{Filling}
 use Rattle.wire.proofs.Plain.{clean-all}
 use Rattle.frame.specs.Kind.{Lent}
+use Rattle.frame.specs.Body.{layouts, inside, pieced, beyond, table}
+use Rattle.frame.proofs.Pieces.{and-true}
 use Rattle.drc_kind.specs.declared.rows.DrcLoudnessInfo.{DrcLoudnessInfo}
 use Rattle.drc_kind.specs.declared.rows.Info.{Info}
 use Rattle.drc_kind.specs.declared.rows.MpegH3dAudioDrcLoudness.{MpegH3dAudioDrcLoudness}
 use Rattle.drc_kind.specs.Layout.{head}
-use Rattle.drc_kind.specs.Rows.{fields}
-use Rattle.drc_kind.specs.Write.{actsOf, acts}
 use Rattle.drc_kind.specs.Kind.{kind}
-use Rattle.drc_kind.proofs.Mirrored.{written-so}
-use Rattle.drc_writing.specs.Write.{countFields, allWithin, listsActs, infoActs, drcActs, Listed}
+use Rattle.drc_writing.specs.Write.{headFields, countFields, instructionActs, entryActs, downmixActs, allWithin, listsActs, infoActs, drcActs, Listed}
 
+-- the actions of the kind, list after list
 pub drc-acts : (m : MpegH3dAudioDrcLoudness) (lent : Lent) (store : List ℕ) → kind .acts m lent store ≡ drcActs m lent store
-unfolding acts actsOf drcActs infoActs allWithin head cells matches matched shown writes every has flatten rows each
-drc-acts m lent store = written-so m lent store ∙ go m (m .info .present)
+unfolding kind layouts inside pieced beyond drcActs infoActs allWithin within head cells matches matched shown writes every has flatten rows each
+drc-acts m lent store = go m (m .info .present)
   where
     with : MpegH3dAudioDrcLoudness → Bool → MpegH3dAudioDrcLoudness
     with m a = record { reserved = m .reserved; info = record { present = a; part = m .info .part }; trailing = m .trailing }
 
-    go : (m : MpegH3dAudioDrcLoudness) (a : Bool) → actsOf (of (fields (with m a))) lent store ≡ drcActs (with m a) lent store
-    go m true = refl
-    go m false = refl
+    -- the last piece is empty: neither its rows nor its bytes count
+    ends : MpegH3dAudioDrcLoudness → (Bool → Bool) → (List Act → List Act) → List Act
+    ends m t f =
+        let p = m .info .part in
+        let there = m .info .present in
+        demand F.Range (within there (p .«drc_instructions») 24 (table 0 lent) && (within there (p .«loudness_infos») 7 (table 2 lent) && t (within there (p .«downmix_definitions») 4 (table 3 lent))))
+        ∷ demand F.Field true
+        ∷ demand F.Empty true
+        ∷ map byte (headFields m)
+        ++ when there (map byte (countFields p) ++ (rows (instructionActs lent) 0 (p .«drc_instructions») ++ (rows (entryActs lent store) 0 (p .«loudness_infos») ++ f (rows (downmixActs lent) 0 (p .«downmix_definitions»)))))
+
+    go : (m : MpegH3dAudioDrcLoudness) (a : Bool) → kind .acts (with m a) lent store ≡ drcActs (with m a) lent store
+    go m a = case a ∙ λ i. ends (with m a) (λ t. and-true t i) (λ q. append-nil q i)
+      where
+        case : (a : Bool) → kind .acts (with m a) lent store ≡ ends (with m a) (λ t. t && true) (λ q. q ++ [])
+        case true = refl
+        case false = refl
 
 -- ---- the rows of the lists stand in their tables
 
 module _ (i : Info) (a b c : List ℕ) where
-  pub within-there : {x y z : Bool} → i .present ≡ true → x ≡ leb (i .part .«drc_instructions») (length a / 24) → y ≡ leb (i .part .«loudness_infos») (length b / 7) → z ≡ leb (i .part .«downmix_definitions») (length c / 4) → x && (y && z) ≡ allWithin i a b c
+  pub all-there : {x y z : Bool} → i .present ≡ true → x ≡ leb (i .part .«drc_instructions») (length a / 24) → y ≡ leb (i .part .«loudness_infos») (length b / 7) → z ≡ leb (i .part .«downmix_definitions») (length c / 4) → x && (y && z) ≡ allWithin i a b c
   unfolding allWithin
-  within-there p e f g = rw p (λ k. e k && (f k && g k))
+  all-there p e f g = λ k. within-there _ _ 24 a p e k && (within-there _ _ 7 b p f k && within-there _ _ 4 c p g k)
 
-  pub within-absent : i .present ≡ false → true ≡ allWithin i a b c
+  pub none-there : i .present ≡ false → true ≡ allWithin i a b c
   unfolding allWithin
-  within-absent p = rw (p, le-leb 0 (length a / 24) (omega arith), le-leb 0 (length b / 7) (omega arith), le-leb 0 (length c / 4) (omega arith))
+  none-there p = λ k. within-absent _ (i .part .«drc_instructions») 24 a p k && (within-absent _ (i .part .«loudness_infos») 7 b p k && within-absent _ (i .part .«downmix_definitions») 4 c p k)
 
 -- ---- the counts are small, since their bytes fit
 
--- a pen that stands behind actions has met no fault among them
-pub passed-clean : {q : List Act} {k n : ℕ} (p : Pen) {r : Pen} → Checked q k p r → r ≡ At n → clean q ≡ true
-passed-clean {q} {n = n} (At m) w e = go (clean q) refl
-  where
-    go : (b : Bool) → clean q ≡ b → clean q ≡ true
-    go true z = z
-    go false z =
-        let (f, j, s) = faulty q m z in
-        let t : Stop f j ≡ At n = sym (w .pens ∙ s) ∙ e in
-        let y : _≡_ {A = ℕ} 0 1 = cc t in
-        absurd (omega arith)
-passed-clean {q} {n = n} (Stop f m) w e =
-    let t : Stop f m ≡ At n = sym (w .pens ∙ stuck q f m) ∙ e in
-    let y : _≡_ {A = ℕ} 0 1 = cc t in
-    absurd (omega arith)
-
 -- the lower field of a byte that fits
 few : (r v w x : ℕ) → fit (field r v ∷ field w x ∷ []) ≡ true → x < 2 ^ w
-unfolding fit
-few r v w x f =
-    let (_, g) = and-both (ltb v (2 ^ r)) _ f in
-    let (h, _) = and-both (ltb x (2 ^ w)) _ g in
-    ltb-true _ _ h
+few r v w x f = fits-cons w x [] (fits-cons r v _ f .1) .0
 
 module _ (i : Info) (a b c : List ℕ) where
   pub listed : i .present ≡ true → allWithin i a b c ≡ true → clean (map byte (countFields (i .part))) ≡ true → Listed (i .part) a b c
-  unfolding allWithin fitAll
+  unfolding allWithin within fitAll
   listed p e f =
       let d = i .part in
       let h : leb (d .«drc_instructions») (length a / 24) && (leb (d .«loudness_infos») (length b / 7) && leb (d .«downmix_definitions») (length c / 4)) ≡ true = rw p at e in
@@ -101,18 +93,18 @@ module _ (i : Info) (a b c : List ℕ) where
       }
 
 -- a table that has the rows is long enough for them
-stand : (count : ℕ) (t : List ℕ) (columns : ℕ) → 0 < columns → leb count (length t / columns) ≡ true → count * columns ≤ length t
-stand count t columns z h = le-div-iff-mul-le z .0 (leb-true _ _ h)
-
 module _ {i : DrcLoudnessInfo} {a b c : List ℕ} (l : Listed i a b c) where
   pub instructions-stand : i .«drc_instructions» * 24 ≤ length a
-  instructions-stand = stand (i .«drc_instructions») a 24 (omega arith) (l .instructions-within)
+  unfolding within
+  instructions-stand = rows-there true (i .«drc_instructions») 24 a (omega arith) (l .instructions-within) refl
 
   pub entries-stand : i .«loudness_infos» * 7 ≤ length b
-  entries-stand = stand (i .«loudness_infos») b 7 (omega arith) (l .entries-within)
+  unfolding within
+  entries-stand = rows-there true (i .«loudness_infos») 7 b (omega arith) (l .entries-within) refl
 
   pub downmixes-stand : i .«downmix_definitions» * 4 ≤ length c
-  downmixes-stand = stand (i .«downmix_definitions») c 4 (omega arith) (l .downmixes-within)
+  unfolding within
+  downmixes-stand = rows-there true (i .«downmix_definitions») 4 c (omega arith) (l .downmixes-within) refl
 
 -- ---- the info in the fill pass
 

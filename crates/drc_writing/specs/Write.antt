@@ -6,13 +6,18 @@ use mathlib.Core.Path.{_≡_}
 use lib.ListN.{length}
 use lib.Dec.{leb}
 use Rattle.wire.specs.Bits.{Field, field, bit}
-use Rattle.wire.specs.Act.{Act, demand, byte, when, pick, rows}
+use Rattle.wire.specs.Act.{Act, demand, byte, when, within, rows}
 use Rattle.wire.specs.declared.pen.Fault.the-variants as F
+use Rattle.wire.specs.Layout.{at, flatActs, familyActsOf, bearingActs}
 use Rattle.frame.specs.Kind.{Lent}
+use Rattle.frame.specs.Body.{table}
+use Rattle.scopes.specs.Rows.{scoped}
+use Rattle.instructions.specs.Layout.{additional, instruction}
+use Rattle.loudness.specs.Layout.{entry}
+use Rattle.downmixes.specs.Layout.{downmix}
 use Rattle.drc_kind.specs.declared.rows.DrcLoudnessInfo.{DrcLoudnessInfo}
 use Rattle.drc_kind.specs.declared.rows.Info.{Info}
 use Rattle.drc_kind.specs.declared.rows.MpegH3dAudioDrcLoudness.{MpegH3dAudioDrcLoudness}
-use Rattle.drc_kind.specs.Write.{table, instructionActs, entryActs, downmixActs}
 
 -- ---- the bytes of the top record
 
@@ -26,11 +31,18 @@ countFields i =
     ∷ (field 3 (i .«reserved_downmix») ∷ field 5 (i .«downmix_definitions») ∷ [])
     ∷ []
 
--- ---- the lists
+-- ---- the rows of the tables; one that has a scope is seen through it (`scoped`)
 
--- a count that its table has rows for, where the info is there
-abbrev pub within : Bool → ℕ → ℕ → List ℕ → Bool
-within present count columns t = leb (pick present count 0) (length t / columns)
+abbrev pub instructionActs : Lent → ℕ → List Act
+instructionActs lent i = familyActsOf instruction 2 additional (table 1 lent) (scoped (at 24 (table 0 lent) i))
+
+abbrev pub entryActs : Lent → List ℕ → ℕ → List Act
+entryActs lent store i = bearingActs entry store (scoped (at 7 (table 2 lent) i))
+
+abbrev pub downmixActs : Lent → ℕ → List Act
+downmixActs lent i = flatActs downmix (at 4 (table 3 lent) i)
+
+-- ---- the lists
 
 unfoldable pub allWithin : Info → (instructions loudness downmixes : List ℕ) → Bool
 allWithin i a b c =

@@ -11,6 +11,7 @@ use lib.Seq.{drop-append-seam}
 use lib.Dec.{leb}
 use borrow.Author.Tests.{leb-true, leb-false, le-leb, lt-leb}
 use Rattle.wire.specs.Lists.{Every, all-cons}
+use Rattle.wire.specs.Prog.{done, run}
 use Rattle.wire.proofs.Takes.{run-takes}
 use Rattle.wire.proofs.Lists.{every-head, every-tail}
 use Rattle.frame.specs.Numbers.{accepted, number}
@@ -111,6 +112,10 @@ keeps (r ∷ rs) (t ∷ ts) h f n =
     kept-behind (front-length (flatten (r .rows)) t l) (behind-kept (flatten (r .rows)) t w) (keeps rs ts (every-tail Shaped h) (g .1) (omega arith))
 
 module _ {Tree Top Value : Type 0} (K : Kind Tree Top Value) where
+  -- the rows of a body that was read are as wide as their tables
+  pub shapes : Lawful K → (body : List ℕ) {t : Tree} {k : ℕ} → run (K .program) body 0 ≡ done t k → Every Shaped (K .tables t)
+  shapes L body {t} e = L .shaped t _ (run-takes (K .program) body 0 e (omega arith))
+
   fits-more : (ns : List Need) (lent more : Lent) → Roomier lent more → lacking ns lent ≡ none → lacking ns more ≡ none
   fits-more ns lent more r h = fit-none (fit-more more r (none-fit ns lent h))
 
@@ -157,8 +162,7 @@ module _ {Tree Top Value : Type 0} (K : Kind Tree Top Value) where
     kept = λ body lent top after e n.
         let w = was K body lent top after e in
         let t = w .sound .tree in
-        let d = run-takes (K .program) body 0 (ran-well K body (w .sound) (w .judges) .reads) (omega arith) in
-        let k = keeps (K .tables t) lent (L .shaped t _ d) (none-fit _ lent (w .fits)) (n ∙ sym (L .all-there t)) in
+        let k = keeps (K .tables t) lent (shapes L body (ran-well K body (w .sound) (w .judges) .reads)) (none-fit _ lent (w .fits)) (n ∙ sym (L .all-there t)) in
         (sizes K (w .sound), ap (onto (sizes K)) (w .judges), subst (Kept (needs (K .tables t)) lent) (w .after-is) k);
     more-room = room-changes;
     same-rows = λ body lent more top after r e.

@@ -1,6 +1,6 @@
--- The room of the lent tables, one after the other, is what is lacking of all.
-use Prim.Native.Nat.{ℕ, zero, suc, _/_}
-use mathlib.Core.List.{List, [], _∷_}
+-- The room of the lent tables, one after the other, is what is lacking of all; with room the body is opened, and a body without rows needs none.
+use Prim.Native.Nat.{ℕ, zero, suc, _/_, _<_}
+use mathlib.Core.List.{List, [], _∷_, flatten}
 use mathlib.Core.Bool.{Bool, true, false}
 use mathlib.Core.Option.{Option, none, some}
 use mathlib.Core.Path.{_≡_, refl, sym, ap, subst, _∙_}
@@ -8,14 +8,16 @@ use native.Mathlib.Omega.{arith}
 use lib.ListN.{length}
 use lib.Dec.{leb}
 use borrow.Author.Tests.{le-leb}
+use Rattle.wire.specs.Lists.{Every, all-nil, all-cons}
+use Rattle.wire.specs.Prog.{done, run}
 use Rattle.frame.specs.declared.Room.{Room}
 use Rattle.frame.specs.declared.Room.the-variants as M
 use Rattle.frame.specs.declared.Refusal.the-variants as R
-use Rattle.frame.specs.Kind.{Kind, Lent}
+use Rattle.frame.specs.Kind.{Kind, Lent, Rows}
 use Rattle.frame.specs.Numbers.{accepted, refused, refusal}
-use Rattle.frame.specs.Entry.{Sizes, Need, room, first, others, lacking, Measures, Reads}
-use Rattle.frame.specs.Sight.{andTable, andTables}
-use Rattle.frame.proofs.Entries.{reads-lacking}
+use Rattle.frame.specs.Entry.{Sizes, Need, needs, room, first, others, lacking, filled, sizes, Measures, Reads}
+use Rattle.frame.specs.Sight.{Roomy, Fills, Opened, andTable, andTables}
+use Rattle.frame.proofs.Entries.{within-measured, roomy, reads-lacking, reads-filled, measures-walked, fills-walked}
 
 -- ---- one table
 
@@ -74,12 +76,21 @@ lowest ns lent {i} {k} e = go (lacking ns lent) refl (sym (all-so ns lent) ∙ e
     go none q e = let z : _≡_ {A = ℕ} 0 1 = cc e in absurd (omega arith)
     go (some n) q e = record { need = n; is = q; number = cc e; rows = cc e }
 
--- a body that is measured, and whose tables are lent one by one: the lowest that is short is what reading answers
+-- a body that is measured, and whose tables are lent one by one
 module _ {Tree Top Value : Type 0} (K : Kind Tree Top Value) (body : List ℕ) {y : Sizes} (m : Measures K body (accepted y)) (lent : Lent) {r : Room} (e : r ≡ andTables M.Enough (y .tables) lent) where
+  -- the lowest that is short is what reading answers
   pub reads-lowest : {i k : ℕ} → r ≡ M.Lacks i k → Reads K body lent (refused (refusal (R.NoRoom i k))) lent
   reads-lowest {i} {k} d =
       let l = lowest (y .tables) lent (sym e ∙ d) in
       subst (λ (k : ℕ). Reads K body lent (refused (refusal (R.NoRoom i k))) lent) (l .rows) (subst (λ (i : ℕ). Reads K body lent (refused (refusal (R.NoRoom i (l .need .rows)))) lent) (l .number) (reads-lacking K body m lent (l .need) (l .is)))
+
+  -- else there is room, and once they are filled the body is opened
+  module _ (d : r ≡ M.Enough) where
+    pub all-roomy : Roomy K body lent
+    all-roomy = roomy K body m lent (enough (y .tables) lent (sym e ∙ d))
+
+    pub filled-opens : {F : Type 0} → F → {after : Lent} → Fills K body lent after → Opened K F body lent after
+    filled-opens f {after} w = record { found = f; few = within-measured K body m .all; reads = λ t. reads-filled K body m lent after (enough (y .tables) lent (sym e ∙ d)) w t }
 
 -- ---- the rows that the k-th table needs
 
@@ -91,12 +102,24 @@ rowsAt (suc k) (n ∷ ns) = rowsAt k ns
 pub same-rows : {y y′ : Sizes} → y ≡ y′ → (k : ℕ) → rowsAt k (y .tables) ≡ rowsAt k (y′ .tables)
 same-rows e k = ap (λ (y : Sizes). rowsAt k (y .tables)) e
 
--- ---- no rows need no table
+-- ---- tables without rows: no room is lacking, and they stay as they are
 
-pub no-more : (lent : Lent) → lacking [] lent ≡ none
-unfolding lacking
-no-more lent = refl
+abbrev pub Empty : Rows → Type 0
+Empty r = r .rows ≡ []
 
-pub no-rows : (n : Need) (ns : List Need) (lent : Lent) → n .rows ≡ 0 → lacking ns (others lent) ≡ none → lacking (n ∷ ns) lent ≡ none
-unfolding lacking
-no-rows n ns lent e h = rw (le-leb (n .rows) (room n lent) (omega arith), lacking) h
+none-lacks : (rs : List Rows) (lent : Lent) → Every Empty rs → lacking (needs rs) lent ≡ none
+unfolding needs lacking
+none-lacks [] lent all-nil = refl
+none-lacks (r ∷ rs) lent (all-cons e w) = rw (e, le-leb 0 (room (record { number = r .number; columns = r .columns; rows = 0 }) lent) (omega arith), lacking) (none-lacks rs (others lent) w)
+
+all-stay : (rs : List Rows) (lent : Lent) → length rs ≡ length lent → Every Empty rs → filled rs lent ≡ lent
+unfolding filled first others flatten
+all-stay [] [] q all-nil = refl
+all-stay [] (t ∷ lent) q w = absurd (omega (arith, q))
+all-stay (r ∷ rs) [] q w = absurd (omega (arith, q))
+all-stay (r ∷ rs) (t ∷ lent) q (all-cons e w) = rw e (ap (λ (l : Lent). t ∷ l) (all-stay rs lent (omega (arith, q)) w))
+
+module _ {Tree Top Value : Type 0} (K : Kind Tree Top Value) (body : List ℕ) {t : Tree} {k : ℕ} (h : length body < 65536) (e : run (K .program) body 0 ≡ done t k) where
+  pub empty-opens : {F : Type 0} → F → (lent : Lent) → length (K .tables t) ≡ length lent → Every Empty (K .tables t) → Opened K F body lent lent
+  unfolding sizes
+  empty-opens f lent q w = record { found = f; few = h; reads = λ r. reads-filled K body (measures-walked K body h e refl) lent lent (none-lacks (K .tables t) lent w) (fills-walked K body h e (sym (all-stay (K .tables t) lent q w))) r }

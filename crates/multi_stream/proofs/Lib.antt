@@ -4,4 +4,3 @@ pub mod Bodies
 pub mod Claims
 pub mod Parsed
 pub mod Sighted
-pub mod Writes

@@ -9,6 +9,7 @@ use lib.Dec.{eqb}
 use Rattle.wire.specs.Lists.{each}
 use Rattle.wire.specs.Bits.{part, total, split}
 use Rattle.wire.specs.Prog.{Prog, ret, look, u8, many, _>>=_}
+use Rattle.wire.specs.Act as A
 use Rattle.wire.specs.Act.{Act, demand, byte, pick, rows}
 use Rattle.wire.specs.declared.pen.Fault.the-variants as F
 use Rattle.wire.specs.Layout.{Columns, end, one, num, reserved, flag, blank, set, put, puts, reads, row, flat, cells, matches, matched, shown, writes, every, has}
@@ -73,7 +74,7 @@ mirrored = parse-over ∙ (λ i. multiStreamOver (group-so i))
 -- ---- and is written as the Rust's `write`
 
 pub written-so : (m : MpegH3dAudioMultiStream) (lent : Lent) (store : List ℕ) → kind .acts m lent store ≡ multiStreamActs m (first lent)
-unfolding kind layouts inside pieced beyond multiStreamActs mainActs within head cells matches matched shown writes every has flatten rows each
+unfolding kind layouts inside pieced beyond multiStreamActs mainActs A.within head cells matches matched shown writes every has flatten rows each
 written-so m lent store = go m (m .main .present)
   where
     with : MpegH3dAudioMultiStream → Bool → MpegH3dAudioMultiStream

@@ -7,7 +7,7 @@ use native.Mathlib.Omega.{arith}
 use lib.ListN.{length, getD}
 use lib.Dec.{eqb}
 use Rattle.wire.specs.Lists.{each}
-use Rattle.wire.specs.Bits.{part, total}
+use Rattle.wire.specs.Bits.{part}
 use Rattle.wire.specs.Prog.{Prog, ret, Out, done, short, run, u8, many, _>>=_}
 use Rattle.wire.specs.Reads.{mapOut, endOf, shortOf, isDone, posOf, Summed}
 use Rattle.wire.specs.Layout.{flat}
@@ -18,7 +18,7 @@ use Rattle.wire.specs.declared.reads.Sum.the-variants as S
 use Rattle.wire.proofs.Runs.{run-split, run-ret}
 use Rattle.wire.proofs.Walk.{From, begun, onward, cut-off, cut-off-as, as-done, finished, byte-taken, is-done, run-ret as run-done}
 use Rattle.wire.proofs.Loops.{many-long, summed-done, summed-cut, sum-onward, sum-cut-off, sum-small}
-use Rattle.wire.proofs.Straight.{singly, singly-there, singly-cut, ends-at, ends-within}
+use Rattle.wire.proofs.Straight.{ones-past, singly, singly-there, singly-cut}
 use Rattle.stream_groups.specs.Layout.{group}
 use Rattle.multi_stream.specs.Rows.{MultiStream}
 use Rattle.multi_stream.specs.Read.{Main, noMain, mainOf, main, streamOf, multiStreamOver}
@@ -38,10 +38,6 @@ abbrev pub behind-two : ℕ → ℕ → Prog Main
 behind-two a g = groups (part 0 7 g) >>= λ l. ret (mainOf a g l)
 
 module _ (s : List ℕ) (at : ℕ) {o : Out (Unit {0})} (q : o ≡ ends (ones 2) s at) where
-  pub two-there : at ≤ length s → {n : ℕ} → o ≡ done tt n → (n ≡ at + 2) × (at + 2 ≤ length s)
-  unfolding ones total
-  two-there h d = let a = ends-at (ones 2) s at (sym q ∙ d) in let b = ends-within (ones 2) s at h (sym q ∙ d) in (a, omega arith)
-
   pub main-cut : {x : Short} → o ≡ short x → run (mainPart true) s at ≡ short x
   unfolding main singly
   main-cut d = singly-cut 2 (λ l. behind-two (getD l 0 0) (getD l 1 0)) s at (sym q ∙ d)
@@ -56,11 +52,11 @@ module _ (s : List ℕ) (at : ℕ) {o : Out (Unit {0})} (q : o ≡ ends (ones 2)
   count = part 0 7 (getD s (at + 1) 0)
 
   place : From (mainPart true) s at (behind-two (getD s at 0) (getD s (at + 1) 0)) (at + 2)
-  place = behind-there s at (two-there s at q h d .1)
+  place = behind-there s at (ones-past 2 s at h q d .inside)
 
   ended : r ≡ mapOut (λ l. tt) (run (groups count) s (at + 2))
   unfolding count
-  ended = w ∙ λ i. endOf (run (groups ((f ∙ ap (part 0 7) e) i)) s (two-there s at q h d .0 i))
+  ended = w ∙ λ i. endOf (run (groups ((f ∙ ap (part 0 7) e) i)) s (ones-past 2 s at h q d .is i))
 
   pub groups-cut : {x y : Short} → r ≡ short x → y ≡ shortOf r → short y ≡ run (mainPart true) s at
   unfolding count

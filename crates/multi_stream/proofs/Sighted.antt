@@ -1,7 +1,7 @@
 -- What is known of a body that was measured: its sizes, its record, its tally, and that filling table 8 gives the rows of the tree.
-use Prim.Native.Nat.{ℕ, _+_, _*_, _/_, _≤_, _<_}
+use Prim.Native.Nat.{ℕ, _+_, _/_, _≤_, _<_}
 use mathlib.Core.Path.{_≡_, refl, sym, ap, _∙_}
-use mathlib.Core.List.{List, [], _∷_, _++_, map-id, flatten, flatMap}
+use mathlib.Core.List.{List, [], _∷_, _++_, flatten, flatMap}
 use mathlib.Core.Bool.{Bool, true, false}
 use mathlib.Core.Option.{none}
 use native.Mathlib.Omega.{arith}
@@ -15,10 +15,8 @@ use Rattle.wire.specs.Reads.{mapOut, isDone, rowsOf}
 use Rattle.wire.specs.Act.{pick}
 use Rattle.wire.specs.declared.rows.Payload.{Payload}
 use Rattle.wire.specs.Layout.{Cell, num, reserved, flag, column, idle, Columns, of, shown, cells, tally}
-use Rattle.wire.proofs.Tables.{flat-map}
-use Rattle.wire.proofs.Takes.{run-takes}
 use Rattle.wire.proofs.Rowed.{Wide}
-use Rattle.wire.proofs.Fronts.{front}
+use Rattle.wire.proofs.Fronts.{flat-front}
 use Rattle.frame.specs.declared.Room.{Room}
 use Rattle.frame.specs.declared.Room.the-variants as M
 use Rattle.frame.specs.Numbers.{accepted}
@@ -28,7 +26,7 @@ use Rattle.frame.specs.Body as B
 use Rattle.frame.specs.Body.{layouts, placed, tables}
 use Rattle.frame.proofs.Lawful.{Shaped}
 use Rattle.frame.proofs.Tables.{enough}
-use Rattle.frame.proofs.MoreRoom.{none-fit, fit-head}
+use Rattle.frame.proofs.MoreRoom.{none-fit, fit-head, shapes}
 use Rattle.frame.proofs.Entries.{firstRows, Known, known, tops-known, fills-known}
 use Rattle.stream_groups.specs.Layout.{group}
 use Rattle.multi_stream.specs.declared.rows.MainStream.{MainStream}
@@ -114,7 +112,7 @@ module _ (body : List ℕ) {n k : ℕ} (m : Measures kind body (accepted (sized 
 
   wide : Every (Wide 5) rows
   unfolding rows kind tables
-  wide = go (lawful .shaped (knows .sound .tree) _ (run-takes (kind .program) body 0 ran (omega arith)))
+  wide = go (shapes kind lawful body ran)
     where
       go : Every Shaped (tables pieces (knows .sound .tree .1)) → Every (Wide 5) (knows .sound .tree .1 .0)
       go (all-cons h all-nil) = h
@@ -125,9 +123,8 @@ module _ (body : List ℕ) {n k : ℕ} (m : Measures kind body (accepted (sized 
 
   pub filled-there : 0 < n → (t after : List ℕ) → n ≤ length t / 5 → after ≡ sets t 0 (flatMap (λ r. r) (Rows-of body n)) → Fills kind body (t ∷ []) (after ∷ [])
   filled-there p t after h e =
-      let r : Rows-of body n ≡ rows = ap (Rows-of body) (sym count-is) ∙ ap rowsOf (stand p .reads) in
-      let l : length rows * 5 ≤ length t = omega (arith, count-is, h) in
-      filled-so t after (e ∙ ap (λ (l : List (List ℕ)). sets t 0 (flatMap (λ r. r) l)) r ∙ ap (sets t 0) (flat-map (λ (r : List ℕ). r) rows ∙ ap flatten (map-id rows)) ∙ front 5 rows t wide l)
+      let r : run (groups n) body 3 ≡ done rows (knows .sound .before) = ap (λ (n : ℕ). run (groups n) body 3) (sym count-is) ∙ stand p .reads in
+      filled-so t after (flat-front 5 rows t e r wide (omega (arith, count-is, h)))
 
   pub filled-none : n ≤ 0 → (t : List ℕ) → Fills kind body (t ∷ []) (t ∷ [])
   unfolding flatten

@@ -1,11 +1,10 @@
 -- Writing the multi-stream body as `MpegH3dAudioMultiStream::write` has it: what the functions of both passes promise. The actions of the kind are these (proofs/Mirrored).
-use Prim.Native.Nat.{ℕ, _/_}
+use Prim.Native.Nat.{ℕ}
 use mathlib.Core.List.{List, [], _∷_, _++_, map}
 use mathlib.Core.Bool.{Bool, true}
-use lib.ListN.{length}
-use lib.Dec.{leb}
 use Rattle.wire.specs.Bits.{Field, field, bit}
-use Rattle.wire.specs.Act.{Act, demand, byte, when, pick, rows}
+use Rattle.wire.specs.Act as A
+use Rattle.wire.specs.Act.{Act, demand, byte, when, rows}
 use Rattle.wire.specs.declared.pen.Fault.the-variants as F
 use Rattle.stream_groups.specs.Write.{rowActs}
 use Rattle.multi_stream.specs.declared.rows.MultiStreamMain.{MultiStreamMain}
@@ -19,8 +18,8 @@ abbrev pub mainFields : MultiStreamMain → List (List Field)
 mainFields p = (field 1 (p .«reserved_aux») ∷ field 7 (p .«num_auxiliary_streams») ∷ []) ∷ (field 1 (p .«reserved_groups») ∷ field 7 (p .groups) ∷ []) ∷ []
 
 -- the groups of a main part that is there stand in table 8
-unfoldable pub within : MainStream → List ℕ → Bool
-within m t = leb (pick (m .present) (m .part .groups) 0) (length t / 5)
+abbrev pub within : MainStream → List ℕ → Bool
+within m t = A.within (m .present) (m .part .groups) 5 t
 
 unfoldable pub mainActs : MainStream → List ℕ → List Act
 mainActs m t = when (m .present) (map byte (mainFields (m .part)) ++ rows (rowActs t) 0 (m .part .groups))

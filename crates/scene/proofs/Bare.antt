@@ -1,14 +1,13 @@
 -- A body whose sections have no rows is found at once, and needs no table; one that ends before the byte of its first section is short.
 use Prim.Native.Nat.{ℕ, zero, suc, _+_, _≤_, _<_}
 use mathlib.Core.Path.{_≡_, refl, sym, ap, subst, _∙_}
-use mathlib.Core.List.{List, [], _∷_, flatten, flatMap}
+use mathlib.Core.List.{List, [], _∷_, flatMap}
 use mathlib.Core.Bool.{Bool, true, false, _&&_}
-use mathlib.Core.Option.{none}
 use native.Mathlib.Omega.{arith}
 use lib.ListN.{length, getD}
 use lib.Dec.{eqb, leb}
-use borrow.Author.Tests.{eqb-true, ne-eqb, eq-eqb, leb-true, leb-false}
-use Rattle.wire.specs.Lists.{each, firsts}
+use borrow.Author.Tests.{eqb-true, ne-eqb, eq-eqb, leb-false}
+use Rattle.wire.specs.Lists.{Every, all-nil, all-cons, firsts}
 use Rattle.wire.specs.Bits.{part, total}
 use Rattle.wire.specs.Prog.{Prog, Out, done, short, needing, run, many, _>>=_}
 use Rattle.wire.specs.Reads.{mapOut, shortOf}
@@ -19,25 +18,22 @@ use Rattle.wire.specs.Layout.{flat, Family}
 use Rattle.wire.proofs.Acts.{and-both}
 use Rattle.wire.proofs.Walk.{From, onward, cut-off}
 use Rattle.wire.proofs.Cells.{clash}
-use Rattle.wire.proofs.Straight.{ones-got, ones-lacks, ends-at, ends-within}
-use Rattle.frame.specs.Kind.{Lent}
-use Rattle.frame.specs.Body.{placed, tables}
-use Rattle.frame.specs.Numbers.{accepted}
-use Rattle.frame.specs.Entry.{needs, lacking, first, others, filled, tail, too-short, Reads, Measures}
+use Rattle.wire.proofs.Straight.{ones-lacks, ends-few, Past, ones-past}
+use Rattle.frame.specs.Body.{tables}
+use Rattle.frame.specs.Entry.{too-short, Measures}
 use Rattle.frame.proofs.Entries.{measures-short}
-use Rattle.frame.proofs.Tables.{no-more, no-rows}
+use Rattle.frame.proofs.Tables.{Empty, empty-opens}
 use Rattle.scene_groups.specs.Layout.{group}
 use Rattle.switch_groups.specs.Layout.{switchGroups}
 use Rattle.presets.specs.Layout.{presets}
 use Rattle.scene_kind.specs.Read.{Section, section}
 use Rattle.scene_kind.specs.Rows.{Scene, sceneIs}
-use Rattle.scene_kind.specs.Kind.{pieces, kind}
+use Rattle.scene_kind.specs.Kind.{kind}
 use Rattle.scene.specs.declared.parsing.Places.{Places}
 use Rattle.scene.specs.declared.Opening.the-variants as O
 use Rattle.scene.specs.Walk.{Flags, rowsAt, countAt, groupsFlag, switchesFlag, presetsFlag, tree, Bare, Opens}
 use Rattle.scene.proofs.Sections.{sectionOf, section-so, section-cut}
-use Rattle.scene.proofs.Walked.{Two, behind-groups, head-there, head-cut}
-use Rattle.scene.proofs.Found.{reads-found}
+use Rattle.scene.proofs.Walked.{behind-groups, head-there, head-cut, found-reads}
 
 -- ---- sections without rows
 
@@ -102,11 +98,11 @@ bare-so {s} h w {a} {b} {k} {y} {z} ea eb ek l x0 ey ez n =
     (ap (λ (q : ℕ). countAt 5 s q b) (sym (w .of-presets)) ∙ sym ez ∙ z0)
 
 -- no section at all
-pub none-so : {s : List ℕ} {n v : ℕ} → Two s n → v ≡ getD s 0 0 → v < 32 → Bare s (record { «switch_groups» = n; presets = n; members = 0; conditions = 0; k = n })
+pub none-so : {s : List ℕ} {n v : ℕ} → Past s 0 2 n → v ≡ getD s 0 0 → v < 32 → Bare s (record { «switch_groups» = n; presets = n; members = 0; conditions = 0; k = n })
 unfolding rowsAt countAt
 none-so {s} {n} {v} h e l =
     let i = h .inside in
-    let m = h .at-two in
+    let m = h .is in
     let x : groupsFlag s ≡ 0 = omega arith in
     let y : switchesFlag s ≡ 0 = omega arith in
     let z : presetsFlag s ≡ 0 = omega arith in
@@ -114,36 +110,14 @@ none-so {s} {n} {v} h e l =
     let uncounted : (m v at : ℕ) → v ≡ 0 → countAt m s v at ≡ 0 = λ m v at e. ap (λ (v : ℕ). countAt m s v at) e in
     bare-found s i (sym (ap (rowsAt (groupsFlag s)) (sym m) ∙ absent _ x)) (sym (absent _ y)) (sym (absent _ z)) (omega arith) (uncounted 7 _ 2 x) (uncounted 5 _ n y) (uncounted 5 _ n z)
 
--- ---- they need no table, and none changes
-
-module _ {s : List ℕ} {p : Places} (b : Bare s p) where
-  abbrev none-of : (gs : List (List ℕ)) (ss ps : List Family) → Scene
-  none-of gs ss ps = sceneIs (tree (b .found) .0) gs ss ps
-
-  enough : (lent : Lent) → lacking (needs (tables pieces (none-of [] [] [] .1))) lent ≡ none
-  unfolding needs tables firsts flatMap
-  enough lent = no-rows _ _ lent refl (no-rows _ _ _ refl (no-rows _ _ _ refl (no-rows _ _ _ refl (no-rows _ _ _ refl (no-more _)))))
-
-  stays : (x y z u v : List ℕ) → filled (tables pieces (none-of [] [] [] .1)) (x ∷ y ∷ z ∷ u ∷ v ∷ []) ≡ x ∷ y ∷ z ∷ u ∷ v ∷ []
-  unfolding filled tables first others flatten firsts flatMap
-  stays x y z u v = refl
-
-  bare-is : tree (b .found) ≡ none-of [] [] []
-  bare-is = λ i. none-of (b .no-groups i) (b .no-switches i) (b .no-presets i)
-
-  pub bare-opens : length s < 65536 → (x y z u v : List ℕ) → Opens s (x ∷ y ∷ z ∷ u ∷ v ∷ []) (O.At p) (x ∷ y ∷ z ∷ u ∷ v ∷ [])
-  unfolding kind placed each
-  bare-opens h x y z u v =
-      let lent = x ∷ y ∷ z ∷ u ∷ v ∷ [] in
-      let e : lacking (needs (tables pieces (tree (b .found) .1))) lent ≡ none = ap (λ (t : Scene). lacking (needs (tables pieces (t .1))) lent) bare-is ∙ enough lent in
-      let k : filled (tables pieces (tree (b .found) .1)) lent ≡ lent = ap (λ (t : Scene). filled (tables pieces (t .1)) lent) bare-is ∙ stays x y z u v in
-      record {
-        gives = record {
-          found = b .found;
-          few = h;
-          reads = λ r. rw (r .is (b .found)) (subst (λ (after : Lent). Reads kind s lent (accepted (kind .top (tree (b .found)) (tail (p .k) s))) after) k (reads-found (b .found) (omega arith) lent e));
-        };
-      }
+-- they need no table, and none changes
+pub bare-opens : {s : List ℕ} {p : Places} → Bare s p → length s < 65536 → (x y z u v : List ℕ) → Opens s (x ∷ y ∷ z ∷ u ∷ v ∷ []) (O.At p) (x ∷ y ∷ z ∷ u ∷ v ∷ [])
+unfolding kind tables firsts flatMap
+bare-opens {s} {p} b h x y z u v =
+    let f = b .found in
+    let e : tree f ≡ sceneIs (tree f .0) [] [] [] = λ i. sceneIs (tree f .0) (b .no-groups i) (b .no-switches i) (b .no-presets i) in
+    let none : Every Empty (kind .tables (tree f)) = subst (λ (t : Scene). Every Empty (kind .tables t)) (sym e) (all-cons refl (all-cons refl (all-cons refl (all-cons refl (all-cons refl all-nil))))) in
+    record { gives = empty-opens kind s h (found-reads s p f) f (x ∷ y ∷ z ∷ u ∷ v ∷ []) refl none }
 
 -- ---- cut before the byte of its first section
 
@@ -204,8 +178,7 @@ first-cut s l low high = go (eqb (groupsFlag s) 1) (eqb (switchesFlag s) 1) (eqb
 -- the read of that byte tells: it is there, or the body is cut
 module _ (s : List ℕ) (h : 2 ≤ length s) {o : Out (Unit {0})} (e : o ≡ ends (ones 1) s 2) where
   pub first-there : {n : ℕ} → o ≡ done tt n → 3 ≤ length s
-  unfolding ones total
-  first-there d = omega (arith, ends-within (ones 1) s 2 h (sym e ∙ d), ends-at (ones 1) s 2 (sym e ∙ d))
+  first-there d = ones-past 1 s 2 h e d .inside
 
   pub cut-so : 32 ≤ getD s 0 0 → getD s 0 0 < 256 → {x y : Short} → o ≡ short x → y ≡ shortOf o → run (kind .program) s 0 ≡ short y
   unfolding ends ones
@@ -217,11 +190,5 @@ module _ (s : List ℕ) (h : 2 ≤ length s) {o : Out (Unit {0})} (e : o ≡ end
 
 -- without its first two bytes
 pub headless : (s : List ℕ) {o : Out (Unit {0})} {x : Short} → o ≡ ends (ones 2) s 0 → o ≡ short x → Measures kind s (too-short (shortOf o))
-unfolding kind
-headless s {o} {x} e d =
-    let l : length s ≤ 1 = go (leb 2 (length s)) refl in
-    measures-short kind s (omega arith) (head-cut s (sym e ∙ d) ∙ ap short (sym (ap shortOf d)))
-  where
-    go : (b : Bool) → leb 2 (length s) ≡ b → length s ≤ 1
-    go true q = let k = leb-true 2 (length s) q in absurd (let z : _≡_ {A = ℕ} 0 1 = cc (sym d ∙ e ∙ ones-got 2 s 0 (omega arith)) in omega arith)
-    go false q = let k = leb-false 2 (length s) q in omega (arith, k)
+unfolding kind ones total
+headless s e d = measures-short kind s (omega (arith, ends-few (ones 2) s 0 (sym e ∙ d))) (head-cut s (sym e ∙ d) ∙ ap short (sym (ap shortOf d)))

@@ -6,7 +6,6 @@ use Rattle.frame.proofs.Numbers.{refused-back, answer-by, fixes}
 use Rattle.frame.proofs.Tables.{rowsAt}
 use Rattle.scene_kind.specs.Kind.{kind}
 use Rattle.scene_kind.proofs.Claims as K
-use Rattle.scene.specs.declared.Sizes.{Sizes}
 use Rattle.scene.specs.declared.Reading.{Reading}
 use Rattle.scene.specs.declared.Reading.the-variants as R
 use Rattle.scene.specs.declared.Measured.{Measured}

@@ -3,6 +3,6 @@ pub mod Sections
 pub mod Walked
 pub mod Found
 pub mod Stored
-pub mod Answers
+pub mod Tallied
 pub mod Bare
 pub mod Claims

@@ -2,21 +2,18 @@
 use Prim.Native.Nat.{ℕ, _≤_}
 use mathlib.Core.Path.{_≡_, refl, sym, ap, subst, _∙_}
 use mathlib.Core.List.{List}
-use mathlib.Core.Bool.{Bool, true, false}
 use native.Mathlib.Omega.{arith}
 use lib.ListN.{length}
-use lib.Dec.{leb}
-use Rattle.wire.specs.Bits.{total}
-use Rattle.wire.specs.Prog.{Prog, ret, Out, done, short, needing, run, u8, _>>=_}
+use Rattle.wire.specs.Prog.{Prog, ret, Out, done, short, run, _>>=_}
 use Rattle.wire.specs.Reads.{endOf, shortOf, Summed}
 use Rattle.wire.specs.Straight.{ends, ones}
 use Rattle.wire.specs.Layout.{flat, Family, kids}
 use Rattle.wire.specs.declared.reads.Short.{Short}
 use Rattle.wire.specs.declared.reads.Sum.{Sum}
 use Rattle.wire.specs.declared.reads.Sum.the-variants as S
-use Rattle.wire.proofs.Walk.{From, byte-next, onward, as-done, cut-off-as, finished}
+use Rattle.wire.proofs.Walk.{From, byte-next, onward, Passed, end-onward, end-cut-off, finished}
 use Rattle.wire.proofs.Loops.{Went-on, sum-onward, sum-cut-off, sum-small}
-use Rattle.wire.proofs.Straight.{ends-at, ends-within}
+use Rattle.wire.proofs.Straight.{Past, singly, singly-cut}
 use Rattle.scene_groups.specs.Layout.{group}
 use Rattle.switch_groups.specs.Layout.{switchGroups}
 use Rattle.presets.specs.Layout.{presets}
@@ -51,42 +48,26 @@ head-there s h = record {
 }
 
 pub head-cut : (s : List ℕ) {x : Short} → ends (ones 2) s 0 ≡ short x → run (kind .program) s 0 ≡ short x
-unfolding sceneOver run u8 _>>=_ ends ones
-head-cut s {x} e = ap (λ (p : Prog Scene). run p s 0) parse-over ∙ go (leb 1 (length s)) (leb 2 (length s)) _ e
-  where
-    go : (b c : Bool) (q : Out Scene) → _≡_ {A = Out (Unit {0})} (elim b [ true ↦ elim c [ true ↦ done tt 2 | false ↦ short (needing 2) ] | false ↦ short (needing 1) ]) (short x)
-        → _≡_ {A = Out Scene} (elim b [ true ↦ elim c [ true ↦ q | false ↦ short (needing 2) ] | false ↦ short (needing 1) ]) (short x)
-    go true true q e = absurd (let z : _≡_ {A = ℕ} 0 1 = cc e in omega arith)
-    go true false q e = let z : needing 2 ≡ x = cc e in ap short z
-    go false c q e = let z : needing 1 ≡ x = cc e in ap short z
-
-pub record Two (s : List ℕ) (n : ℕ) : Type 0 where
-  pub at-two : n ≡ 2
-  pub inside : 2 ≤ length s
-
-pub two-there : (s : List ℕ) {o : Out (Unit {0})} {n : ℕ} → o ≡ ends (ones 2) s 0 → o ≡ done tt n → Two s n
-unfolding ones total
-two-there s e d = let q = ends-at (ones 2) s 0 (sym e ∙ d) in let l = ends-within (ones 2) s 0 (omega arith) (sym e ∙ d) in record { at-two = q; inside = omega arith }
+unfolding sceneOver singly
+head-cut s e = ap (λ (p : Prog Scene). run p s 0) parse-over ∙ singly-cut 2 behind-head s 0 e
 
 -- ---- section after section, each with the flag as code has it
 
 abbrev members : Section Family → ℕ
 members x = length (kids (x .rows))
 
-pub record InGroups (s : List ℕ) (m : ℕ) : Type 0 where
-  pub value : Section (List ℕ)
-  pub reads : run (section (groupsFlag s) 1 7 1 (flat 27 group)) s 2 ≡ done value m
-  pub place : From (kind .program) s 0 (behind-groups s value) m
+abbrev pub InGroups : List ℕ → ℕ → Type 0
+InGroups s m = Passed (section (groupsFlag s) 1 7 1 (flat 27 group)) (behind-groups s) (kind .program) s 0 2 m
 
-module _ {s : List ℕ} {n g : ℕ} (h : Two s n) (q : g ≡ groupsFlag s) {o : Out (Unit {0})} (e : o ≡ endOf (run (section g 1 7 1 (flat 27 group)) s n)) where
+module _ {s : List ℕ} {n g : ℕ} (h : Past s 0 2 n) (q : g ≡ groupsFlag s) {o : Out (Unit {0})} (e : o ≡ endOf (run (section g 1 7 1 (flat 27 group)) s n)) where
   same : o ≡ endOf (run (section (groupsFlag s) 1 7 1 (flat 27 group)) s 2)
-  same = e ∙ (λ i. endOf (run (section (q i) 1 7 1 (flat 27 group)) s (h .at-two i)))
+  same = e ∙ (λ i. endOf (run (section (q i) 1 7 1 (flat 27 group)) s (h .is i)))
 
   pub groups-found : {m : ℕ} → o ≡ done tt m → InGroups s m
-  groups-found d = let (x, r, _) = as-done (λ (x : Section (List ℕ)). tt) (run (section (groupsFlag s) 1 7 1 (flat 27 group)) s 2) (sym same ∙ d) in record { value = x; reads = r; place = onward (section (groupsFlag s) 1 7 1 (flat 27 group)) (behind-groups s) (head-there s (h .inside)) refl r }
+  groups-found d = end-onward (section (groupsFlag s) 1 7 1 (flat 27 group)) (behind-groups s) (head-there s (h .inside)) same d
 
   pub groups-cut : {x y : Short} → o ≡ short x → y ≡ shortOf o → run (kind .program) s 0 ≡ short y
-  groups-cut d z = sym (cut-off-as (section (groupsFlag s) 1 7 1 (flat 27 group)) (λ x. tt) (behind-groups s) (head-there s (h .inside)) same d z)
+  groups-cut d z = sym (end-cut-off (section (groupsFlag s) 1 7 1 (flat 27 group)) (behind-groups s) (head-there s (h .inside)) same d z)
 
 pub record InSwitches (s : List ℕ) (m v n : ℕ) : Type 0 where
   pub before : InGroups s m

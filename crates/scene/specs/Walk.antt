@@ -1,7 +1,6 @@
 -- What the walk along a scene body finds: where its sections stand, and how many rows they need of the tables below theirs. The promises of the entry points do not rest on it.
-use Prim.Native.Nat.{ℕ, _+_, _<_, _≤_}
+use Prim.Native.Nat.{ℕ, _+_, _≤_}
 use mathlib.Core.List.{List, [], _∷_}
-use mathlib.Core.Option.{none}
 use mathlib.Core.Path.{_≡_}
 use lib.ListN.{length, getD}
 use lib.Dec.{eqb}
@@ -10,9 +9,9 @@ use Rattle.wire.specs.Prog.{done, short, run}
 use Rattle.wire.specs.Act.{pick}
 use Rattle.wire.specs.Layout.{flat, Family, kids}
 use Rattle.frame.specs.Kind.{Lent}
-use Rattle.frame.specs.Body.{tables}
-use Rattle.frame.specs.Numbers.{accepted, refused, refusal}
-use Rattle.frame.specs.Entry.{needs, lacking, filled, tail, sizes, Reads}
+use Rattle.frame.specs.Numbers.{refused, refusal}
+use Rattle.frame.specs.Entry.{Reads}
+use Rattle.frame.specs.Sight.{Opened}
 use Rattle.scene_groups.specs.Layout.{group}
 use Rattle.switch_groups.specs.Layout.{switchGroups}
 use Rattle.presets.specs.Layout.{presets}
@@ -21,14 +20,11 @@ use Rattle.scene.specs.declared.parsing.Look.{Look}
 use Rattle.scene.specs.declared.parsing.Look.the-variants as L
 use Rattle.scene.specs.declared.parsing.Walk.{Walk}
 use Rattle.scene.specs.declared.parsing.Walk.the-variants as W
-use Rattle.scene_kind.specs.declared.rows.MpegH3dAudioScene.{MpegH3dAudioScene}
 use Rattle.scene.specs.declared.Opening.{Opening}
 use Rattle.scene.specs.declared.Opening.the-variants as O
-use Rattle.scene.specs.declared.Sizes.{Sizes}
-use Rattle.scene_kind.specs.Rows.{Scene, sceneIs, sceneOf}
+use Rattle.scene_kind.specs.Rows.{Scene, sceneIs}
 use Rattle.scene_kind.specs.Read.{all, Section, section}
-use Rattle.scene_kind.specs.Kind.{pieces, kind}
-use Rattle.scene.specs.Contract.{sized}
+use Rattle.scene_kind.specs.Kind.{kind}
 
 -- of a section whose byte stands at a position, if its flag is 1: where its rows begin, and how many there are
 unfoldable pub rowsAt : ℕ → ℕ → ℕ
@@ -84,22 +80,6 @@ treeOf s g x p = sceneIs (topOf s g x p) (g .rows) (x .rows) (p .rows)
 abbrev pub tree : {s : List ℕ} {p : Places} → Found s p → Scene
 tree {s} f = treeOf s (f .in-groups) (f .in-switches) (f .in-presets)
 
--- of a body whose sections were found: its record, its sizes, its tally, the room for its rows, and what filling the tables leaves
-pub record Recorded (s : List ℕ) (p : Places) (r : MpegH3dAudioScene) : Type 0 where
-  pub is : (f : Found s p) → r ≡ sceneOf (tree f .0) (tail (p .k) s)
-
-pub record Counted (s : List ℕ) (p : Places) (r : Sizes) : Type 0 where
-  pub is : (f : Found s p) → sized r ≡ sizes kind (record { tree = tree f; before = p .k })
-
-pub record Zeros (s : List ℕ) (p : Places) (r : ℕ) : Type 0 where
-  pub is : (f : Found s p) → r ≡ kind .zeros (tree f)
-
-pub record Rooms (s : List ℕ) (p : Places) (lent : Lent) : Type 0 where
-  pub has : (f : Found s p) → lacking (needs (tables pieces (tree f .1))) lent ≡ none
-
-pub record Stored (s : List ℕ) (p : Places) (lent after : Lent) : Type 0 where
-  pub is : (f : Found s p) → after ≡ filled (tables pieces (tree f .1)) lent
-
 abbrev pub walks : List ℕ → Walk → Type 0
 walks s (W.Done p) = Found s p
 walks s (W.Short x) = run (kind .program) s 0 ≡ short x
@@ -122,14 +102,9 @@ looks s L.Rows = 2 ≤ length s
 pub record Looks (s : List ℕ) (r : Look) : Type 0 where
   pub sees : looks s r
 
--- a body that was opened: its sections were found, and its record, with the tables as they are then, is what reading gives
-pub record Opened (s : List ℕ) (lent : Lent) (p : Places) (after : Lent) : Type 0 where
-  pub found : Found s p
-  pub few : length s < 65536
-  pub reads : {m : MpegH3dAudioScene} → Recorded s p m → Reads kind s lent (accepted m) after
-
+-- a body that was opened, or why it is refused
 abbrev pub opens : List ℕ → Lent → Opening → Lent → Type 0
-opens s lent (O.At p) after = Opened s lent p after
+opens s lent (O.At p) after = Opened kind (Found s p) s lent after
 opens s lent (O.Refused x) after = Reads kind s lent (refused (refusal x)) after
 
 pub record Opens (s : List ℕ) (lent : Lent) (r : Opening) (after : Lent) : Type 0 where

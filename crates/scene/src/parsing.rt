@@ -10,12 +10,17 @@ ghost use Rattle.wire.specs.Prog.{run, many};
 ghost use Rattle.wire.specs.Reads.{endOf, isDone, rowsOf, endsOut, Summed};
 ghost use Rattle.wire.specs.Nest.{Fillable, Nests};
 ghost use Rattle.wire.specs.Layout.{flat, brokenRow, kids};
+ghost use Rattle.frame.specs.Numbers.{accepted};
+ghost use Rattle.frame.specs.Entry.{Measures};
+ghost use Rattle.frame.specs.Sight.{Tops, Roomy, Fills};
 ghost use Rattle.scene_groups.specs.Layout.{group};
 ghost use Rattle.switch_groups.specs.Layout.{switchGroup, switchGroups};
 ghost use Rattle.presets.specs.Layout.{preset, presets as presetRows};
 ghost use Rattle.scene_kind.specs.Read.{section};
 ghost use Rattle.scene_kind.specs.Rows.{section as sectionIs};
-ghost use Rattle.scene.specs.Walk.{rowsAt, countAt, reservedAt, Flags, Found, Looks, Walks, Recorded, Counted, Rooms, Stored};
+ghost use Rattle.scene_kind.specs.Kind.{kind};
+ghost use Rattle.scene.specs.Contract.{sized};
+ghost use Rattle.scene.specs.Walk.{rowsAt, countAt, reservedAt, Flags, Found, Looks, Walks};
 use super::Sizes;
 use presets::parsing::fill_presets;
 use presets::parsing::measure_presets;
@@ -225,7 +230,7 @@ fn reserved_at(body: &[u8], at: usize, flag: u16, width: u32, low: u32, ones: u1
 // The record.
 pub fn record_at(body: &[u8], p: Places) -> MpegH3dAudioScene
     requires { ⌜ Found (now body) p × (length (now body) < 2 ^ 16) ⌝ }
-    ensures { λ r. ⌜ Recorded (now (body .entry)) p r ⌝ }
+    ensures { λ r. ⌜ Tops kind (now (body .entry)) r ⌝ }
 {
     let flags = wide(body[0]);
     let g = part(flags, 7, 1);
@@ -246,8 +251,8 @@ pub fn record_at(body: &[u8], p: Places) -> MpegH3dAudioScene
 
 // What it needs.
 pub fn sizes_at(body: &[u8], p: Places) -> Sizes
-    requires { ⌜ Found (now body) p ⌝ }
-    ensures { λ r. ⌜ Counted (now (body .entry)) p r ⌝ }
+    requires { ⌜ Found (now body) p × (length (now body) < 2 ^ 16) ⌝ }
+    ensures { λ r. ⌜ Measures kind (now (body .entry)) (accepted (sized r)) ⌝ }
 {
     let flags = wide(body[0]);
     Sizes {
@@ -322,8 +327,8 @@ pub fn fill(
     presets: &mut [u16],
     conditions: &mut [u16],
 )
-    requires { ⌜ Found (now body) p × (length (now body) < 2 ^ 16) × Rooms (now body) p (now groups ∷ now «switch_groups» ∷ now members ∷ now presets ∷ now conditions ∷ []) ⌝ }
-    ensures { λ r. ⌜ Stored (now (body .entry)) p (now (groups .entry) ∷ now («switch_groups» .entry) ∷ now (members .entry) ∷ now (presets .entry) ∷ now (conditions .entry) ∷ []) (now (groups .exit) ∷ now («switch_groups» .exit) ∷ now (members .exit) ∷ now (presets .exit) ∷ now (conditions .exit) ∷ []) ⌝ }
+    requires { ⌜ Found (now body) p × (length (now body) < 2 ^ 16) × Roomy kind (now body) (now groups ∷ now «switch_groups» ∷ now members ∷ now presets ∷ now conditions ∷ []) ⌝ }
+    ensures { λ r. ⌜ Fills kind (now (body .entry)) (now (groups .entry) ∷ now («switch_groups» .entry) ∷ now (members .entry) ∷ now (presets .entry) ∷ now (conditions .entry) ∷ []) (now (groups .exit) ∷ now («switch_groups» .exit) ∷ now (members .exit) ∷ now (presets .exit) ∷ now (conditions .exit) ∷ []) ⌝ }
 {
     let flags = wide(body[0]);
     fill_groups_section(body, 2, part(flags, 7, 1), groups);

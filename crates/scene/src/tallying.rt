@@ -8,11 +8,14 @@ ghost use Rattle.wire.specs.Lists.{sum};
 ghost use Rattle.wire.specs.Prog.{run, many};
 ghost use Rattle.wire.specs.Reads.{isDone, rowsOf};
 ghost use Rattle.wire.specs.Layout.{flat, of, tally, familyTally};
+ghost use Rattle.frame.specs.Numbers.{accepted};
+ghost use Rattle.frame.specs.Entry.{Tallies};
 ghost use Rattle.scene_groups.specs.Layout.{group};
 ghost use Rattle.switch_groups.specs.Layout.{member, switchGroup, switchGroups};
 ghost use Rattle.conditions.specs.Layout.{condition};
 ghost use Rattle.presets.specs.Layout.{preset, presets};
-ghost use Rattle.scene.specs.Walk.{rowsAt, countAt, reservedZeros, Found, Zeros};
+ghost use Rattle.scene_kind.specs.Kind.{kind};
+ghost use Rattle.scene.specs.Walk.{rowsAt, countAt, reservedZeros, Found};
 use super::parsing::Places;
 use super::parsing::count_at;
 use super::parsing::rows_at;
@@ -65,7 +68,7 @@ fn presets_zeros(body: &[u8], at: usize, flag: u16) -> usize
 // All of them.
 pub fn zero_bits(body: &[u8], p: Places) -> usize
     requires { ⌜ Found (now body) p × (length (now body) < 2 ^ 16) ⌝ }
-    ensures { λ r. ⌜ Zeros (now (body .entry)) p r ⌝ }
+    ensures { λ r. ⌜ Tallies kind (now (body .entry)) (accepted r) ⌝ }
 {
     let flags = wide(body[0]);
     let top = idle_bits(part(flags, 0, 5), 5) as usize;

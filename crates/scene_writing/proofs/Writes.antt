@@ -1,20 +1,17 @@
 -- The layouts write the scene body section after section.
-use Prim.Native.Nat.{ℕ, _*_, _/_, _^_, _≤_, _<_}
+use Prim.Native.Nat.{ℕ, _^_, _<_}
 use mathlib.Core.List.{List, [], _∷_, _++_, append-nil, map, flatten}
 use mathlib.Core.Bool.{Bool, true, false, _&&_}
-use mathlib.Core.Path.{_≡_, refl, sym, subst, _∙_}
-use native.Mathlib.Omega.{arith}
-use native.Mathlib.Nat.{le-div-iff-mul-le}
-use lib.ListN.{length}
-use lib.Dec.{leb, ltb}
-use borrow.Author.Tests.{ltb-true, leb-true, le-leb}
+use mathlib.Core.Path.{_≡_, refl, _∙_}
 use Rattle.wire.specs.Lists.{each}
-use Rattle.wire.specs.Bits.{Field, fit}
-use Rattle.wire.specs.Act.{Act, demand, byte, when, pick, rows}
+use Rattle.wire.specs.Bits.{Field}
+use Rattle.wire.specs.Act as A
+use Rattle.wire.specs.Act.{Act, demand, byte, when, rows}
 use Rattle.wire.specs.declared.pen.Fault.the-variants as F
 use Rattle.wire.specs.Pen.{Checked, Ready}
 use Rattle.wire.specs.declared.pen.Pen.{Pen}
 use Rattle.wire.specs.declared.pen.Pen.the-variants.{At}
+use Rattle.wire.proofs.Fields.{fits-cons}
 use Rattle.wire.proofs.Acts.{and-both}
 use Rattle.wire.proofs.Parts.{part-begins}
 use Rattle.wire.proofs.Passes.{byte-fits, Filling}
@@ -30,7 +27,7 @@ use Rattle.scene_writing.specs.Write.{headBytes, countByte, groupActs, s
 
 -- the actions of the kind, section after section
 pub scene-acts : (m : MpegH3dAudioScene) (lent : Lent) (store : List ℕ) → kind .acts m lent store ≡ sceneActs m lent
-unfolding kind layouts inside pieced beyond sceneActs sectionActs within T.groups T.switchGroups T.presets cells matches matched shown writes every has flatten rows each
+unfolding kind layouts inside pieced beyond sceneActs sectionActs A.within T.groups T.switchGroups T.presets cells matches matched shown writes every has flatten rows each
 scene-acts m lent store = go m (m .groups .present) (m .«switch_groups» .present) (m .presets .present)
   where
     with : MpegH3dAudioScene → Bool → Bool → Bool → MpegH3dAudioScene
@@ -72,12 +69,7 @@ scene-acts m lent store = go m (m .groups .present) (m .«switch_groups» .prese
 
 -- a count that fits its byte
 pub count-fits : (r w v : ℕ) (s : Section) {p q : Pen} {n : ℕ} → Checked (byte (countByte r w v s) ∷ []) 1 p q → q ≡ At n → s .count < 2 ^ w
-unfolding fit
-count-fits r w v s {p} c e =
-    let f = byte-fits p c e in
-    let (_, g) = and-both (ltb v (2 ^ r)) _ f in
-    let (h, _) = and-both (ltb (s .count) (2 ^ w)) _ g in
-    ltb-true _ _ h
+count-fits r w v s {p} c e = fits-cons w (s .count) [] (fits-cons r v _ (byte-fits p c e) .1) .0
 
 -- the three of them
 pub record Inside (m : MpegH3dAudioScene) (g x p : List ℕ) : Type 0 where
@@ -90,21 +82,6 @@ insides m g x p e =
     let (a, r) = and-both (within (m .groups) 27 g) _ e in
     let (b, c) = and-both (within (m .«switch_groups») 9 x) _ r in
     record { groups = a; switches = b; presets = c }
-
--- ---- its rows stand in the table
-
-module _ (s : Section) (columns : ℕ) (t : List ℕ) where
-  pub within-there : {r : Bool} → s .present ≡ true → r ≡ leb (s .count) (length t / columns) → r ≡ within s columns t
-  unfolding within
-  within-there p e = rw p e
-
-  pub within-absent : s .present ≡ false → true ≡ within s columns t
-  unfolding within
-  within-absent p = rw p (sym (le-leb 0 (length t / columns) (omega arith)))
-
-  pub rows-there : 0 < columns → within s columns t ≡ true → s .present ≡ true → s .count * columns ≤ length t
-  unfolding within
-  rows-there z e p = let h : leb (s .count) (length t / columns) ≡ true = subst (λ (b : Bool). leb (pick b (s .count) 0) (length t / columns) ≡ true) p e in le-div-iff-mul-le z .0 (leb-true _ _ h)
 
 -- ---- a section in the fill pass
 

@@ -1,11 +1,10 @@
 -- Writing the scene body section after section, as `MpegH3dAudioScene::write` has it: what the functions of both passes promise. It is what the layouts write (proofs/Writes).
-use Prim.Native.Nat.{ℕ, _/_}
+use Prim.Native.Nat.{ℕ}
 use mathlib.Core.List.{List, [], _∷_, _++_, map}
 use mathlib.Core.Bool.{Bool, true, _&&_}
-use lib.ListN.{length}
-use lib.Dec.{leb}
 use Rattle.wire.specs.Bits.{Field, field, bit}
-use Rattle.wire.specs.Act.{Act, demand, byte, when, pick, rows}
+use Rattle.wire.specs.Act as A
+use Rattle.wire.specs.Act.{Act, demand, byte, when, rows}
 use Rattle.wire.specs.declared.pen.Fault.the-variants as F
 use Rattle.wire.specs.Layout.{at, flatActs, familyActs}
 use Rattle.frame.specs.Kind.{Lent}
@@ -55,8 +54,8 @@ abbrev pub presetsActs : MpegH3dAudioScene → (ℕ → List Act) → List Act
 presetsActs m row = sectionActs (m .presets) (countByte 3 5 (m .«reserved_presets») (m .presets)) row
 
 -- the rows of a section that is there stand in its table
-unfoldable pub within : Section → ℕ → List ℕ → Bool
-within s columns t = leb (pick (s .present) (s .count) 0) (length t / columns)
+abbrev pub within : Section → ℕ → List ℕ → Bool
+within s columns t = A.within (s .present) (s .count) columns t
 
 abbrev pub allWithin : MpegH3dAudioScene → (groups switches presets : List ℕ) → Bool
 allWithin m g s p = within (m .groups) 27 g && (within (m .«switch_groups») 9 s && within (m .presets) 7 p)

@@ -28,13 +28,13 @@ use Rattle.wire.proofs.Walk.{step, halt, run-ret, byte-next}
 use Rattle.wire.proofs.Tables.{each-length}
 use Rattle.wire.proofs.Acts.{and-both, both-and, clean-append, clean-both, bytes-append}
 use Rattle.wire.proofs.Fields.{fits-cons}
-use Rattle.wire.proofs.Passes.{stuck, stopped, then, more, clean-looks, quick-clean, quick-odd, run-looked, run-room, slice-long, Filling, fill-start, fill-demand, fill-turn, fill-column, column-ready, demanded, fill-last}
+use Rattle.wire.proofs.Passes.{stuck, stopped, then, more, clean-looks, passed-clean, quick-clean, quick-odd, run-looked, run-room, slice-long, Filling, fill-start, fill-demand, fill-turn, fill-column, column-ready, demanded, fill-last}
 use Rattle.wire.proofs.Cells.{On, on-none, every-same, proper, cells-on, Same, same}
 use Rattle.wire.proofs.Forms.{form-shown, form-all, form-proper, below, each-in, row-of}
 use Rattle.wire.proofs.Rowed.{each-like, row-on, on-all, matched-none}
 use Rattle.wire.proofs.Straight.{read-so, end-of, still-done, thenEnds, ends-got, ends-lacks, ends-append, ends-at, ends-within, ends-on, ends-cut, ends-done, total-append}
 use Rattle.wire.proofs.Plain.{no-quick}
-use Rattle.wire.proofs.Families.{then-map, passed-clean}
+use Rattle.wire.proofs.Families.{then-map}
 use Rattle.wire.proofs.Borne.{bear-form, Bear, t, stands}
 
 -- ---- measured
@@ -206,7 +206,7 @@ module _ (b : Bearing) (store : List ℕ) (g : Columns) where
 
       go : (p : Pen) → p₂ ≡ p → Checked (demand F.Range inStore ∷ (headActs b g ++ payloadActs b store g)) (k + 256) (At n) r
       go (At m) d =
-          let (i, c) = and-both inStore _ (passed-clean (demand F.Range inStore ∷ (headActs b g ++ (byte (field 8 (g (b .size)) ∷ []) ∷ []))) front d) in
+          let (i, c) = and-both inStore _ (passed-clean (demand F.Range inStore ∷ (headActs b g ++ (byte (field 8 (g (b .size)) ∷ []) ∷ []))) _ front d) in
           let (_, f) = clean-both (headActs b g) (byte (field 8 (g (b .size)) ∷ []) ∷ []) c in
           let l = fits-cons 8 (g (b .size)) [] (and-both _ true f .0) .0 in
           whole (g (b .size)) (omega (arith, l)) (run-looked (g (b .offset)) (g (b .size)) store (leb-true _ _ i) w₃)
@@ -219,7 +219,7 @@ module _ (b : Bearing) (store : List ℕ) (g : Columns) where
   head-passed : {h k : ℕ} → Quick (headActs b g) h k → 0 < k → (clean (headActs b g) ≡ true) × (length (bytes (headActs b g)) ≡ k) × (k ≤ h)
   head-passed {h} {k} w p =
       let v = w .to p 0 in
-      let c = passed-clean (headActs b g) v refl in
+      let c = passed-clean (headActs b g) _ v refl in
       let z : At (0 + length (bytes (headActs b g))) ≡ At (0 + k) = sym (clean-looks (headActs b g) 0 c) ∙ sym (v .pens) in
       let y : 0 + length (bytes (headActs b g)) ≡ 0 + k = cc z in
       (c, omega (arith, y), omega (arith, v .near))

@@ -34,7 +34,7 @@ use Rattle.wire.proofs.Adding.{Adding, adding-start, adding-turn, addin
 use Rattle.wire.proofs.Tables.{each-length}
 use Rattle.wire.proofs.Nest.{flat-length, Nesting, nest-start, nest-ready, nest-turn, nest-end}
 use Rattle.wire.proofs.Acts.{and-both, both-and, clean-append, clean-both, bytes-append}
-use Rattle.wire.proofs.Passes.{stuck, looks-append, then, more, rows-turn, clean-looks, faulty, check-start, check-turn, check-stop, quick-clean, quick-odd, Filling, fill-start, fill-demand, fill-row, fill-turn}
+use Rattle.wire.proofs.Passes.{stuck, looks-append, then, more, rows-turn, clean-looks, faulty, passed-clean, check-start, check-turn, check-stop, quick-clean, quick-odd, Filling, fill-start, fill-demand, fill-row, fill-turn}
 use Rattle.wire.proofs.Plain.{plain-odd, plain-end, rows-from, no-quick, filled-long}
 use Rattle.wire.proofs.Cells.{all, free, proper, all-fit, fit-flags, append-every, or-none, has-append}
 use Rattle.wire.proofs.Forms.{each-in, sure}
@@ -519,18 +519,10 @@ frontActs b room g = demand F.Range (leb (g (b .first) + g (b .count)) room) ∷
 abbrev pub kidActs : Broken → (ℕ → List Act) → Columns → List Act
 kidActs b kid g = rows kid (g (b .first)) (g (b .count))
 
--- Actions that were passed have no fault.
-pub passed-clean : (q : List Act) {k n m : ℕ} {r : Pen} → Checked q k (At n) r → r ≡ At m → clean q ≡ true
-passed-clean q {n = n} {m} w e = go (clean q) refl
-  where
-    go : (c : Bool) → clean q ≡ c → c ≡ true
-    go true z = refl
-    go false z = let (f, k, s) = faulty q n z in let y : At m ≡ Stop f k = sym e ∙ w .pens ∙ s in absurd (let z : _≡_ {A = ℕ} 0 1 = cc y in omega arith)
-
--- and make as many bytes as the pen went on
+-- Actions that were passed have no fault, and make as many bytes as the pen went on.
 passed-long : (q : List Act) {k r : ℕ} → Checked q k (At 0) (At (0 + r)) → (clean q ≡ true) × (length (bytes q) ≡ r)
 passed-long q {r = r} w =
-    let c = passed-clean q w refl in
+    let c = passed-clean q _ w refl in
     let z : At (0 + length (bytes q)) ≡ At (0 + r) = sym (clean-looks q 0 c) ∙ sym (w .pens) in
     let y : 0 + length (bytes q) ≡ 0 + r = cc z in
     (c, omega (arith, y))
@@ -586,7 +578,7 @@ module _ (b : Broken) (room : ℕ) (kid : ℕ → List Act) (g : Columns) where
 
   module _ {k n : ℕ} {p : Pen} (w : Checked (frontActs b room g) k (At n) p) where
     pub front-passed : {m : ℕ} → p ≡ At m → Front
-    front-passed e = front-so (passed-clean (frontActs b room g) w e)
+    front-passed e = front-so (passed-clean (frontActs b room g) _ w e)
 
     pub broken-stopped : (most : ℕ) → k ≤ most → {f : Fault} {m : ℕ} → p ≡ Stop f m → Checked (brokenActs b room kid g) most (At n) p
     broken-stopped most l e = check-stop most (check-turn {rest = kidActs b kid g ++ writes (b .tail) g} k (check-start (brokenActs b room kid g) (At n)) (sym acts-so) w (omega arith)) e l

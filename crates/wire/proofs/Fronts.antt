@@ -1,12 +1,13 @@
 -- Rows at the front of lent tables: what storing them leaves, of one table and of two whose rows belong together.
 use Prim.Native.Nat.{ℕ, _*_, _≤_}
 use mathlib.Core.Path.{_≡_, refl, sym, ap, subst, _∙_}
-use mathlib.Core.List.{List, [], _∷_, _++_, flatten, flatMap, append-assoc}
+use mathlib.Core.List.{List, [], _∷_, _++_, map, map-id, flatten, flatMap, append-assoc}
 use native.Mathlib.Omega.{arith}
-use lib.ListN.{length, drop}
+use lib.ListN.{length, drop, length-map}
 use lib.Seq.{sets}
 use Rattle.wire.specs.Lists.{Every, firsts}
-use Rattle.wire.specs.Prog.{Prog, done, run, many}
+use Rattle.wire.specs.Prog.{Prog, Out, done, run, many}
+use Rattle.wire.specs.Reads.{rowsOf}
 use Rattle.wire.specs.Nest.{Nests}
 use Rattle.wire.specs.Layout.{Broken, Family, parents, kids, brokenRow}
 use Rattle.wire.proofs.Steps.{front-stored}
@@ -15,6 +16,17 @@ use Rattle.wire.proofs.Rowed.{Wide, rows-long, Nest, parents-long, pare
 
 pub front : (n : ℕ) (l : List (List ℕ)) (t : List ℕ) → Every (Wide n) l → length l * n ≤ length t → sets t 0 (flatten l) ≡ flatten l ++ drop (length (flatten l)) t
 front n l t w h = front-stored t (flatten l) (omega (arith, rows-long n l w))
+
+-- the rows of a list that was read, which stand in one table; and rows that are their own columns
+pub rows-front : {A : Type 0} (row : A → List ℕ) (n : ℕ) {o : Out (List A)} {end : ℕ} (l : List A) (t : List ℕ) {t′ : List ℕ} → t′ ≡ sets t 0 (flatMap row (rowsOf o)) → o ≡ done l end → Every (Wide n) (map row l) → length l * n ≤ length t
+    → t′ ≡ flatten (map row l) ++ drop (length (flatten (map row l))) t
+rows-front {A} row n l t e d w h = e ∙ ap (λ (o : Out (List A)). sets t 0 (flatMap row (rowsOf o))) d ∙ ap (sets t 0) (flat-map row l) ∙ front n (map row l) t w (rw (length-map l row) h)
+
+pub flat-front : (n : ℕ) {o : Out (List (List ℕ))} {end : ℕ} (l : List (List ℕ)) (t : List ℕ) {t′ : List ℕ} → t′ ≡ sets t 0 (flatMap (λ r. r) (rowsOf o)) → o ≡ done l end → Every (Wide n) l → length l * n ≤ length t
+    → t′ ≡ flatten l ++ drop (length (flatten l)) t
+flat-front n l t {t′} e d w h =
+    let q : map (λ r. r) l ≡ l = map-id l in
+    subst (λ (l : List (List ℕ)). t′ ≡ flatten l ++ drop (length (flatten l)) t) q (rows-front (λ r. r) n l t e d (subst (Every (Wide n)) (sym q) w) h)
 
 flatten-append : (a b : List (List ℕ)) → flatten (a ++ b) ≡ flatten a ++ flatten b
 unfolding flatten

@@ -1,16 +1,19 @@
--- How many bytes a layout makes at most, whatever its columns are.
-use Prim.Native.Nat.{ℕ, _+_, _≤_}
+-- How many bytes a layout makes at most, whatever its columns are; and rows, what is demanded before a row making none.
+use Prim.Native.Nat.{ℕ, zero, suc, _+_, _*_, _≤_}
 use mathlib.Core.Path.{_≡_, refl, ap, _∙_}
-use mathlib.Core.List.{List, [], _∷_, _++_, map}
+use mathlib.Core.List.{List, [], _∷_, _++_, map, flatten}
 use mathlib.Core.Bool.{Bool, true, false}
+use native.Mathlib.Nat.{suc-mul}
 use native.Mathlib.Omega.{arith}
 use lib.ListN.{length, length-append}
 use lib.Dec.{leb}
 use borrow.Author.Tests.{leb-true, leb-false}
-use Rattle.wire.specs.Act.{Act, pick}
-use Rattle.wire.specs.Pen.{bytes}
-use Rattle.wire.specs.Layout.{Cell, Layout, end, line, word, choose, follows, judged, Columns, byteOf, writes}
-use Rattle.wire.proofs.Acts.{bytes-append}
+use Rattle.wire.specs.Lists.{each}
+use Rattle.wire.specs.Act.{Act, pick, rows}
+use Rattle.wire.specs.Pen.{clean, bytes}
+use Rattle.wire.specs.Layout.{Cell, Layout, end, line, word, choose, follows, judged, Columns, byteOf, writes, cells, every, flagged, counted, matched, demands, flatActs}
+use Rattle.wire.proofs.Acts.{and-both, clean-both, bytes-append}
+use Rattle.wire.proofs.Rowed.{after-demands}
 
 abbrev larger : ℕ → ℕ → ℕ
 larger a b = pick (leb a b) b a
@@ -50,3 +53,30 @@ writes-most (choose k is p q l) g = omega (arith, both-long (pick (is (g k)) (wr
     one false x y = omega (arith, y, larger-so (most p) (most q) .1)
 writes-most (follows c j t x l) g = writes-most l g
 writes-most (judged p l) g = omega (arith, both-long (writes p g) (writes l g), writes-most p g, writes-most l g)
+
+-- ---- what is demanded makes no bytes
+
+module _ (ls : List Layout) (g : Columns) (q : List Act) where
+  pub demanded-clean : clean (demands ls g ++ q) ≡ true → clean q ≡ true
+  unfolding clean
+  demanded-clean e =
+      let (_, e₀) = and-both (every flagged g (cells ls g)) _ e in
+      let (_, e₁) = and-both (every counted g (cells ls g)) _ e₀ in
+      clean-both (matched ls g) q e₁ .1
+
+  pub demanded-long : length (bytes (demands ls g ++ q)) ≡ length (bytes q)
+  unfolding bytes
+  demanded-long = ap length (after-demands ls g q)
+
+-- ---- rows
+
+pub flat-most : (l : Layout) (g : Columns) → length (bytes (flatActs l g)) ≤ most l
+flat-most l g = omega (arith, demanded-long (l ∷ []) g (writes l g), writes-most l g)
+
+-- rows whose actions make at most k bytes each
+pub rows-most : (f : ℕ → List Act) (k : ℕ) → ((i : ℕ) → clean (f i) ≡ true → length (bytes (f i)) ≤ k) → (i n : ℕ) → clean (rows f i n) ≡ true → length (bytes (rows f i n)) ≤ n * k
+unfolding rows each flatten bytes
+rows-most f k h i zero e = omega arith
+rows-most f k h i (suc n) e =
+    let (a, b) = clean-both (f i) (rows f (i + 1) n) e in
+    omega (arith, both-long (f i) (rows f (i + 1) n), h i a, rows-most f k h (i + 1) n b, suc-mul n k)

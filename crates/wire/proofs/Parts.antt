@@ -1,10 +1,14 @@
--- A part that stands only where a flag is set: some actions and what follows them, in the check pass and in the fill pass.
-use Prim.Native.Nat.{ℕ, _+_, _≤_}
+-- A part that stands only where a flag is set: some actions and what follows them, in the check pass and in the fill pass, and its rows in their table.
+use Prim.Native.Nat.{ℕ, _+_, _*_, _/_, _≤_, _<_}
 use mathlib.Core.List.{List, _++_}
 use mathlib.Core.Bool.{Bool, true, false}
 use mathlib.Core.Path.{_≡_, sym, subst}
 use native.Mathlib.Omega.{arith}
-use Rattle.wire.specs.Act.{Act, when}
+use native.Mathlib.Nat.{le-div-iff-mul-le}
+use lib.ListN.{length}
+use lib.Dec.{leb}
+use borrow.Author.Tests.{leb-true, le-leb}
+use Rattle.wire.specs.Act.{Act, pick, when, within}
 use Rattle.wire.specs.Pen.{Checked, Ready, Filled}
 use Rattle.wire.specs.declared.pen.Fault.{Fault}
 use Rattle.wire.specs.declared.pen.Pen.{Pen}
@@ -30,3 +34,18 @@ part-absent b q k p t = rw t (nothing k p)
 
 pub part-empty : (b : Bool) (q : List Act) {n : ℕ} {l : List ℕ} → b ≡ false → Filled (when b q) n l n l
 part-empty b q {n} {l} t = rw t (fill-none n l)
+
+-- ---- its rows stand in their table
+
+module _ (b : Bool) (count columns : ℕ) (t : List ℕ) where
+  pub within-there : {r : Bool} → b ≡ true → r ≡ leb count (length t / columns) → r ≡ within b count columns t
+  unfolding within
+  within-there p e = rw p e
+
+  pub within-absent : b ≡ false → true ≡ within b count columns t
+  unfolding within
+  within-absent p = rw p (sym (le-leb 0 (length t / columns) (omega arith)))
+
+  pub rows-there : 0 < columns → within b count columns t ≡ true → b ≡ true → count * columns ≤ length t
+  unfolding within
+  rows-there z e p = let h : leb count (length t / columns) ≡ true = subst (λ (b : Bool). leb (pick b count 0) (length t / columns) ≡ true) p e in le-div-iff-mul-le z .0 (leb-true _ _ h)

@@ -2,7 +2,6 @@
 use native.Mathlib.Omega.{arith}
 use Rattle.frame.proofs.Entries.{measures-long, measures-short}
 use Rattle.drc_kind.specs.Kind.{kind}
-use Rattle.drc_loudness.proofs.Found.{measures-so}
 use borrow.Author.Needs.{needs}
 use Rattle.drc_loudness.proofs.measure.Statement.{statement}
 use Rattle.drc_loudness.proofs.measure.Tie as tie
@@ -19,14 +18,13 @@ enum-known-w c = search needs
 
 sizes-at-requires : tie.Need-sizes-at-requires
 sizes-at-requires c κs =
-    rw (c .before .w .given .1) at (c .before .before .before .find-lists .ensures) .finds
+    (rw (c .before .w .given .1) at (c .before .before .before .find-lists .ensures) .finds, omega (arith, c .before .before .before .before .if1 .left))
 
 enum-known-w-2 : tie.Need-enum-known-w-2
 enum-known-w-2 c = search needs
 
 returns-2 : tie.Need-returns-2
-returns-2 c =
-    measures-so (rw (c .before .before .w .given .1) at (c .before .before .before .before .find-lists .ensures) .finds) (omega (arith, c .before .before .before .before .before .if1 .left)) (c .sizes-at .ensures)
+returns-2 c = c .sizes-at .ensures
 
 returns-3 : tie.Need-returns-3
 returns-3 c =

@@ -1,5 +1,7 @@
 -- `drc_loudness::opened_found` meets its contract: no rows, or the lowest table that is short, else the rows.
-use Rattle.drc_loudness.proofs.Found.{lacks-so, rooms-so, opened-so, bare-counted, bare-opens}
+use Rattle.frame.proofs.Tables.{reads-lowest, all-roomy, filled-opens}
+use Rattle.drc_kind.specs.Kind.{kind}
+use Rattle.drc_loudness.proofs.Found.{bare-counted, bare-opens}
 use borrow.Author.Needs.{needs}
 use Rattle.drc_loudness.proofs.opened_found.Statement.{statement}
 use Rattle.drc_loudness.proofs.opened_found.Tie as tie
@@ -9,7 +11,7 @@ sizes-at-requires c κs = search needs
 
 returns : tie.Need-returns
 returns c =
-    bare-opens (bare-counted (c .before .before .before .before .before .before .before .before .before .before .pre .0) (c .before .before .before .before .sizes-at .ensures) (c .if1 .taken)) (c .before .before .before .before .before .before .before .before .before .before .pre .1) _ _ _ _
+    bare-opens (bare-counted (c .before .before .before .before .before .before .before .before .before .before .pre .0) (c .before .before .before .before .before .before .before .before .before .before .pre .1) (c .before .before .before .before .sizes-at .ensures) (c .if1 .taken)) (c .before .before .before .before .before .before .before .before .before .before .pre .1) _ _ _ _
 
 room-requires : tie.Need-room-requires
 room-requires c κs = search needs
@@ -22,7 +24,7 @@ enum-told c = search needs
 
 fill-requires : tie.Need-fill-requires
 fill-requires c κs =
-    (c .before .before .before .before .before .before .before .before .before .before .before .before .before .before .before .before .before .before .before .before .before .pre .0, c .before .before .before .before .before .before .before .before .before .before .before .before .before .before .before .before .before .before .before .before .before .pre .1, rooms-so (c .before .before .before .before .before .before .before .before .before .before .before .before .before .before .before .sizes-at .ensures) _ (c .before .before .before .before .before .before .room .ensures) (c .before .before .before .before .enum-told .given .1))
+    (c .before .before .before .before .before .before .before .before .before .before .before .before .before .before .before .before .before .before .before .before .before .pre .0, c .before .before .before .before .before .before .before .before .before .before .before .before .before .before .before .before .before .before .before .before .before .pre .1, all-roomy kind _ (c .before .before .before .before .before .before .before .before .before .before .before .before .before .before .before .sizes-at .ensures) _ (c .before .before .before .before .before .before .room .ensures) (c .before .before .before .before .enum-told .given .1))
 
 same-length : tie.Need-same-length
 same-length c = search needs
@@ -38,7 +40,7 @@ same-length-4 c = search needs
 
 returns-2 : tie.Need-returns-2
 returns-2 c =
-    lacks-so (c .before .before .before .before .before .before .before .before .before .before .before .before .before .before .before .before .before .before .pre .0) (c .before .before .before .before .before .before .before .before .before .before .before .before .before .before .before .before .before .before .pre .1) (c .before .before .before .before .before .before .before .before .before .before .before .before .sizes-at .ensures) _ (c .before .before .before .room .ensures) (c .before .r .given .1)
+    record { gives = reads-lowest kind _ (c .before .before .before .before .before .before .before .before .before .before .before .before .sizes-at .ensures) _ (c .before .before .before .room .ensures) (c .before .r .given .1) }
 
 same-length-5 : tie.Need-same-length-5
 same-length-5 c = search needs
@@ -54,7 +56,7 @@ same-length-8 c = search needs
 
 returns-3 : tie.Need-returns-3
 returns-3 c =
-    opened-so (c .before .before .before .before .before .before .before .before .before .before .before .before .before .before .before .before .before .before .before .before .before .before .before .before .before .before .before .before .before .before .pre .0) (c .before .before .before .before .before .before .before .before .before .before .before .before .before .before .before .before .before .before .before .before .before .before .before .before .before .before .before .before .before .before .pre .1) (rooms-so (c .before .before .before .before .before .before .before .before .before .before .before .before .before .before .before .before .before .before .before .before .before .before .before .before .sizes-at .ensures) _ (c .before .before .before .before .before .before .before .before .before .before .before .before .before .before .before .room .ensures) (c .before .before .before .before .before .before .before .before .before .before .before .before .before .enum-told .given .1)) (c .before .before .before .before .before .before .before .before .fill .ensures)
+    record { gives = filled-opens kind _ (c .before .before .before .before .before .before .before .before .before .before .before .before .before .before .before .before .before .before .before .before .before .before .before .before .sizes-at .ensures) _ (c .before .before .before .before .before .before .before .before .before .before .before .before .before .before .before .room .ensures) (c .before .before .before .before .before .before .before .before .before .before .before .before .before .enum-told .given .1) (c .before .before .before .before .before .before .before .before .before .before .before .before .before .before .before .before .before .before .before .before .before .before .before .before .before .before .before .before .before .before .pre .0) (c .before .before .before .before .before .before .before .before .fill .ensures) }
 
 pub opened-found-spec : {M : Type 1} → statement M
 opened-found-spec =

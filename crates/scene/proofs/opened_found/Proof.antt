@@ -1,5 +1,6 @@
 -- `scene::opened_found` meets its contract: the lowest table that is short, else the rows.
-use Rattle.scene.proofs.Answers.{lacks-so, rooms-so, opened-so}
+use Rattle.frame.proofs.Tables.{reads-lowest, all-roomy, filled-opens}
+use Rattle.scene_kind.specs.Kind.{kind}
 use borrow.Author.Needs.{needs}
 use Rattle.scene.proofs.opened_found.Statement.{statement}
 use Rattle.scene.proofs.opened_found.Tie as tie
@@ -18,7 +19,7 @@ enum-told c = search needs
 
 fill-requires : tie.Need-fill-requires
 fill-requires c κs =
-    (c .before .before .before .before .before .before .before .before .before .before .before .before .before .before .before .before .before .before .before .before .pre .0, c .before .before .before .before .before .before .before .before .before .before .before .before .before .before .before .before .before .before .before .before .pre .1, rooms-so (c .before .before .before .before .before .before .before .before .before .before .before .before .before .sizes-at .ensures) _ (c .before .before .before .before .before .before .before .room .ensures) (c .before .before .before .before .before .enum-told .given .1))
+    (c .before .before .before .before .before .before .before .before .before .before .before .before .before .before .before .before .before .before .before .before .pre .0, c .before .before .before .before .before .before .before .before .before .before .before .before .before .before .before .before .before .before .before .before .pre .1, all-roomy kind _ (c .before .before .before .before .before .before .before .before .before .before .before .before .before .sizes-at .ensures) _ (c .before .before .before .before .before .before .before .room .ensures) (c .before .before .before .before .before .enum-told .given .1))
 
 same-length : tie.Need-same-length
 same-length c = search needs
@@ -37,7 +38,7 @@ same-length-5 c = search needs
 
 returns : tie.Need-returns
 returns c =
-    lacks-so (c .before .before .before .before .before .before .before .before .before .before .before .before .before .before .before .before .pre .0) (c .before .before .before .before .before .before .before .before .before .before .before .before .before .before .before .before .pre .1) (c .before .before .before .before .before .before .before .before .before .sizes-at .ensures) _ (c .before .before .before .room .ensures) (c .before .r .given .1)
+    record { gives = reads-lowest kind _ (c .before .before .before .before .before .before .before .before .before .sizes-at .ensures) _ (c .before .before .before .room .ensures) (c .before .r .given .1) }
 
 same-length-6 : tie.Need-same-length-6
 same-length-6 c = search needs
@@ -56,7 +57,7 @@ same-length-10 c = search needs
 
 returns-2 : tie.Need-returns-2
 returns-2 c =
-    opened-so (c .before .before .before .before .before .before .before .before .before .before .before .before .before .before .before .before .before .before .before .before .before .before .before .before .before .before .before .before .before .before .before .pre .0) (c .before .before .before .before .before .before .before .before .before .before .before .before .before .before .before .before .before .before .before .before .before .before .before .before .before .before .before .before .before .before .before .pre .1) (rooms-so (c .before .before .before .before .before .before .before .before .before .before .before .before .before .before .before .before .before .before .before .before .before .before .before .before .sizes-at .ensures) _ (c .before .before .before .before .before .before .before .before .before .before .before .before .before .before .before .before .before .before .room .ensures) (c .before .before .before .before .before .before .before .before .before .before .before .before .before .before .before .before .enum-told .given .1)) (c .before .before .before .before .before .before .before .before .before .before .fill .ensures)
+    record { gives = filled-opens kind _ (c .before .before .before .before .before .before .before .before .before .before .before .before .before .before .before .before .before .before .before .before .before .before .before .before .sizes-at .ensures) _ (c .before .before .before .before .before .before .before .before .before .before .before .before .before .before .before .before .before .before .room .ensures) (c .before .before .before .before .before .before .before .before .before .before .before .before .before .before .before .before .enum-told .given .1) (c .before .before .before .before .before .before .before .before .before .before .before .before .before .before .before .before .before .before .before .before .before .before .before .before .before .before .before .before .before .before .before .pre .0) (c .before .before .before .before .before .before .before .before .before .before .fill .ensures) }
 
 pub opened-found-spec : {M : Type 1} → statement M
 opened-found-spec =

@@ -4,7 +4,8 @@ use native.Mathlib.Omega.{arith}
 use Rattle.wire.specs.Bits.{part}
 use Rattle.wire.specs.Prog.{short}
 use Rattle.wire.specs.Reads.{shortOf, endsOut}
-use Rattle.base.proofs.Parsed.{Three, three-cut, three-there, three-sets}
+use Rattle.wire.proofs.Straight.{Past}
+use Rattle.base.proofs.Parsed.{three-cut, three-there, three-sets}
 use borrow.Author.Needs.{needs}
 use Rattle.base.proofs.parsing.end.Statement.{statement}
 use Rattle.base.proofs.parsing.end.Tie as tie
@@ -12,7 +13,7 @@ use Rattle.base.proofs.parsing.end.Tie as tie
 abbrev start : tie.After-known-told → tie.Start
 start c = c .before .before .before .before .before
 
-there : (c : tie.After-known-told) → Three (start c .args .body .now) (c .before .a .given .0 .0)
+there : (c : tie.After-known-told) → Past (start c .args .body .now) 0 3 (c .before .a .given .0 .0)
 there c = three-there _ (c .before .before .before .head-end .ensures) (ap endsOut (c .before .a .given .1))
 
 head-end-requires : tie.Need-head-end-requires
@@ -42,7 +43,7 @@ part-requires : tie.Need-part-requires
 part-requires c κs = search needs
 
 sets-end-requires : tie.Need-sets-end-requires
-sets-end-requires c κs = let h = there (c .before .before .before) in omega (arith, h .at-three, h .inside)
+sets-end-requires c κs = let h = there (c .before .before .before) in omega (arith, h .is, h .inside)
 
 returns-2 : tie.Need-returns-2
 returns-2 c =

@@ -20,21 +20,21 @@ cast-fill-instructions c = search needs
 
 fill-instructions-requires : tie.Need-fill-instructions-requires
 fill-instructions-requires c κs =
-    instructions-ask (c .before .before .before .before .before .before .before .before .before .before .before .pre .0) _ _ _ _ (c .before .before .before .before .before .before .before .before .before .before .before .pre .2) (ap (λ (i : Info). i .part) (c .before .before .before .before .before .info-at .ensures)) (c .before .before .before .rows-at .ensures) (c .before .before .before .before .before .before .before .before .before .before .before .pre .1)
+    instructions-ask (c .before .before .before .before .before .before .before .before .before .before .before .pre .0) (c .before .before .before .before .before .before .before .before .before .before .before .pre .1) _ _ _ _ (c .before .before .before .before .before .before .before .before .before .before .before .pre .2) (ap (λ (i : Info). i .part) (c .before .before .before .before .before .info-at .ensures)) (c .before .before .before .rows-at .ensures)
 
 cast-fill-entries : tie.Need-cast-fill-entries
 cast-fill-entries c = search needs
 
 fill-entries-requires : tie.Need-fill-entries-requires
 fill-entries-requires c κs =
-    entries-ask (c .before .before .before .before .before .before .before .before .before .before .before .before .before .before .before .before .before .before .pre .0) _ _ _ _ (c .before .before .before .before .before .before .before .before .before .before .before .before .before .before .before .before .before .before .pre .2) (ap (λ (i : Info). i .part) (c .before .before .before .before .before .before .before .before .before .before .before .before .info-at .ensures)) (c .before .before .before .before .before .before .before .before .before .before .before .before .before .before .before .before .before .before .pre .1)
+    entries-ask (c .before .before .before .before .before .before .before .before .before .before .before .before .before .before .before .before .before .before .pre .0) (c .before .before .before .before .before .before .before .before .before .before .before .before .before .before .before .before .before .before .pre .1) _ _ _ _ (c .before .before .before .before .before .before .before .before .before .before .before .before .before .before .before .before .before .before .pre .2) (ap (λ (i : Info). i .part) (c .before .before .before .before .before .before .before .before .before .before .before .before .info-at .ensures))
 
 cast-fill-downmixes : tie.Need-cast-fill-downmixes
 cast-fill-downmixes c = search needs
 
 fill-downmixes-requires : tie.Need-fill-downmixes-requires
 fill-downmixes-requires c κs =
-    downmixes-ask (c .before .before .before .before .before .before .before .before .before .before .before .before .before .before .before .before .before .before .before .before .before .before .before .pre .0) _ _ _ _ (c .before .before .before .before .before .before .before .before .before .before .before .before .before .before .before .before .before .before .before .before .before .before .before .pre .2) (ap (λ (i : Info). i .part) (c .before .before .before .before .before .before .before .before .before .before .before .before .before .before .before .before .before .info-at .ensures))
+    downmixes-ask (c .before .before .before .before .before .before .before .before .before .before .before .before .before .before .before .before .before .before .before .before .before .before .before .pre .0) (c .before .before .before .before .before .before .before .before .before .before .before .before .before .before .before .before .before .before .before .before .before .before .before .pre .1) _ _ _ _ (c .before .before .before .before .before .before .before .before .before .before .before .before .before .before .before .before .before .before .before .before .before .before .before .pre .2) (ap (λ (i : Info). i .part) (c .before .before .before .before .before .before .before .before .before .before .before .before .before .before .before .before .before .info-at .ensures))
 
 same-length : tie.Need-same-length
 same-length c = search needs
@@ -50,7 +50,7 @@ same-length-4 c = search needs
 
 returns : tie.Need-returns
 returns c =
-    stored _ _ _ _ (ap (λ (i : Info). i .part) (c .before .before .before .before .before .before .before .before .before .before .before .before .before .before .before .before .before .before .before .before .info-at .ensures)) (c .before .before .before .before .before .before .before .before .before .before .before .before .before .before .before .before .before .before .rows-at .ensures) (c .before .before .before .before .before .before .before .before .before .before .before .before .before .before .before .before .before .before .before .before .before .before .before .before .before .before .pre .2) (c .before .before .before .before .before .before .before .before .before .before .before .before .before .before .fill-instructions .ensures) (c .before .before .before .before .before .before .before .fill-entries .ensures) (c .before .before .fill-downmixes .ensures)
+    stored (c .before .before .before .before .before .before .before .before .before .before .before .before .before .before .before .before .before .before .before .before .before .before .before .before .before .before .pre .0) (c .before .before .before .before .before .before .before .before .before .before .before .before .before .before .before .before .before .before .before .before .before .before .before .before .before .before .pre .1) _ _ _ _ (ap (λ (i : Info). i .part) (c .before .before .before .before .before .before .before .before .before .before .before .before .before .before .before .before .before .before .before .before .info-at .ensures)) (c .before .before .before .before .before .before .before .before .before .before .before .before .before .before .before .before .before .before .rows-at .ensures) (c .before .before .before .before .before .before .before .before .before .before .before .before .before .before .before .before .before .before .before .before .before .before .before .before .before .before .pre .2) (c .before .before .before .before .before .before .before .before .before .before .before .before .before .before .fill-instructions .ensures) (c .before .before .before .before .before .before .before .fill-entries .ensures) (c .before .before .fill-downmixes .ensures)
 
 pub fill-spec : {M : Type 1} → statement M
 fill-spec =

@@ -2,7 +2,8 @@
 use mathlib.Core.Path.{sym, ap, _∙_}
 use native.Mathlib.Omega.{arith}
 use Rattle.wire.specs.Reads.{endsOut}
-use Rattle.drc_loudness.proofs.Walked.{one-there, flag-taken, flag-left, head-short, head-alone, head-whole}
+use Rattle.wire.proofs.Straight.{ones-past}
+use Rattle.drc_loudness.proofs.Walked.{flag-taken, flag-left, head-short, head-alone, head-whole}
 use borrow.Author.Needs.{needs}
 use Rattle.drc_loudness.proofs.parsing.head_end.Statement.{statement}
 use Rattle.drc_loudness.proofs.parsing.head_end.Tie as tie
@@ -22,7 +23,7 @@ returns c =
 
 shared-slice-read-wide : tie.Need-shared-slice-read-wide
 shared-slice-read-wide c =
-    let h = one-there (c .before .before .before .before .before .before .args .body .now) (c .before .before .before .before .head .ensures) (ap endsOut (c .before .before .a .given .1)) .inside in omega arith
+    let h = ones-past 1 (c .before .before .before .before .before .before .args .body .now) 0 (omega arith) (c .before .before .before .before .head .ensures) (ap endsOut (c .before .before .a .given .1)) .inside in omega arith
 
 wide-requires : tie.Need-wide-requires
 wide-requires c κs = search needs
@@ -32,7 +33,7 @@ part-requires c κs = search needs
 
 head-requires-2 : tie.Need-head-requires-2
 head-requires-2 c κs =
-    let h = one-there (c .before .before .before .before .before .before .before .before .before .args .body .now) (c .before .before .before .before .before .before .before .head .ensures) (ap endsOut (c .before .before .before .before .before .a .given .1)) in (omega (arith, h .at-one, h .inside), omega arith)
+    let h = ones-past 1 (c .before .before .before .before .before .before .before .before .before .args .body .now) 0 (omega arith) (c .before .before .before .before .before .before .before .head .ensures) (ap endsOut (c .before .before .before .before .before .a .given .1)) in (omega (arith, h .is, h .inside), omega arith)
 
 returns-2 : tie.Need-returns-2
 returns-2 c =

@@ -56,7 +56,7 @@ cast-measure-downmixes c = search needs
 
 measure-downmixes-requires : tie.Need-measure-downmixes-requires
 measure-downmixes-requires c κs =
-    (entries-found (instructions-found _ (c .before .before .before .before .before .before .before .before .before .before .before .before .before .pre .1) (c .before .before .before .before .before .before .before .before .before .before .before .before .before .pre .0) (c .before .before .before .before .before .before .before .before .before .before .before .info-there .ensures) (c .before .before .before .before .before .before .before .before .before .measure-instructions .ensures) (c .before .before .before .before .before .before .before .s .given .1)) (c .before .before .before .before .before .before .before .before .before .before .before .info-there .ensures) (c .before .before .before .before .measure-entries .ensures) (ap endsOut (c .before .before .e .given .1)) .place .inside, rw (c .before .before .before .before .before .before .before .before .before .before .before .info-there .ensures) (there-few (c .before .before .before .before .before .before .before .before .before .before .before .before .before .args .body .now) .downmixes))
+    (entries-found (instructions-found _ (c .before .before .before .before .before .before .before .before .before .before .before .before .before .pre .1) (c .before .before .before .before .before .before .before .before .before .before .before .before .before .pre .0) (c .before .before .before .before .before .before .before .before .before .before .before .info-there .ensures) (c .before .before .before .before .before .before .before .before .before .measure-instructions .ensures) (c .before .before .before .before .before .before .before .s .given .1)) (c .before .before .before .before .before .before .before .before .before .before .before .info-there .ensures) (c .before .before .before .before .measure-entries .ensures) (ap endsOut (c .before .before .e .given .1)) .on .place .inside, rw (c .before .before .before .before .before .before .before .before .before .before .before .info-there .ensures) (there-few (c .before .before .before .before .before .before .before .before .before .before .before .before .before .args .body .now) .downmixes))
 
 enum-known-d : tie.Need-enum-known-d
 enum-known-d c = search needs

@@ -3,7 +3,7 @@ use Prim.Native.Nat.{_+_}
 use mathlib.Core.Path.{ap, _∙_}
 use native.Mathlib.Omega.{arith}
 use Rattle.wire.specs.Bits.{part, zeros}
-use Rattle.drc_loudness.proofs.Walked.{one-before}
+use Rattle.drc_loudness.proofs.Walked.{rows-near}
 use Rattle.drc_loudness.proofs.Found.{top-with, top-alone}
 use borrow.Author.Needs.{needs}
 use Rattle.drc_loudness.proofs.tallying.top_zeros.Statement.{statement}
@@ -11,7 +11,7 @@ use Rattle.drc_loudness.proofs.tallying.top_zeros.Tie as tie
 
 shared-slice-read-wide : tie.Need-shared-slice-read-wide
 shared-slice-read-wide c =
-    omega (arith, c .before .before .pre .0, one-before (c .before .before .args .body .now))
+    omega (arith, c .before .before .pre .0, rows-near (c .before .before .args .body .now) .0)
 
 wide-requires : tie.Need-wide-requires
 wide-requires c κs = search needs

@@ -64,7 +64,7 @@ add-result-3 c = search needs
 
 returns : tie.Need-returns
 returns c =
-    zeros-so (ap (λ (i : Info). i .part) (c .before .before .before .before .before .before .before .before .before .info-at .ensures)) (c .before .before .before .before .before .before .rows-at .ensures) refl (c .before .before .before .before .before .before .before .before .top-zeros .ensures .0) (c .before .before .before .before .tally-instructions .ensures) (c .before .before .tally-entries .ensures) (c .tally-downmixes .ensures)
+    zeros-so (c .before .before .before .before .before .before .before .before .before .before .before .pre .0) (c .before .before .before .before .before .before .before .before .before .before .before .pre .1) (ap (λ (i : Info). i .part) (c .before .before .before .before .before .before .before .before .before .info-at .ensures)) (c .before .before .before .before .before .before .rows-at .ensures) refl (c .before .before .before .before .before .before .before .before .top-zeros .ensures .0) (c .before .before .before .before .tally-instructions .ensures) (c .before .before .tally-entries .ensures) (c .tally-downmixes .ensures)
 
 pub zero-bits-spec : {M : Type 1} → statement M
 zero-bits-spec =

@@ -1,5 +1,5 @@
 -- `drc_writing::writing::all_within` meets its contract.
-use Rattle.drc_writing.proofs.Writes.{within-there, within-absent}
+use Rattle.drc_writing.proofs.Writes.{all-there, none-there}
 use borrow.Author.Needs.{needs}
 use Rattle.drc_writing.proofs.writing.all_within.Statement.{statement}
 use Rattle.drc_writing.proofs.writing.all_within.Tie as tie
@@ -24,11 +24,11 @@ has-rows-requires-3 c κs = search needs
 
 returns : tie.Need-returns
 returns c =
-    within-there _ _ _ _ (c .before .before .before .before .before .before .before .if1 .taken) (c .before .before .before .before .has-rows .ensures) (c .before .before .has-rows2 .ensures) (c .has-rows3 .ensures)
+    all-there _ _ _ _ (c .before .before .before .before .before .before .before .if1 .taken) (c .before .before .before .before .has-rows .ensures) (c .before .before .has-rows2 .ensures) (c .has-rows3 .ensures)
 
 returns-2 : tie.Need-returns-2
 returns-2 c =
-    within-absent _ _ _ _ (c .if1 .left)
+    none-there _ _ _ _ (c .if1 .left)
 
 pub all-within-spec : {M : Type 1} → statement M
 all-within-spec =

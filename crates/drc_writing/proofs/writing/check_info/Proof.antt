@@ -1,9 +1,10 @@
 -- `drc_writing::writing::check_info` meets its contract: the bytes of the counts, then the lists, whose counts are small since their bytes fit.
 use native.Mathlib.Omega.{arith}
+use Rattle.wire.proofs.Passes.{passed-clean}
 use Rattle.wire.proofs.Plain.{all-checked}
 use Rattle.wire.proofs.Parts.{part-stops, part-goes, part-absent}
 use Rattle.drc_writing.specs.Write.{infoActs}
-use Rattle.drc_writing.proofs.Writes.{listed, passed-clean}
+use Rattle.drc_writing.proofs.Writes.{listed}
 use borrow.Author.Needs.{needs}
 use Rattle.drc_writing.proofs.writing.check_info.Statement.{statement}
 use Rattle.drc_writing.proofs.writing.check_info.Tie as tie
@@ -32,7 +33,7 @@ check-lists-requires : tie.Need-check-lists-requires
 check-lists-requires c κs =
     let w = all-checked (c .before .before .before .before .before .count-bytes .ensures) (c .before .before .before .check-all .ensures) in
     let n = rw (c .before .p1 .given .1) at (w .near) in
-    (listed _ _ _ _ (c .before .before .before .before .before .before .before .if1 .taken) (c .before .before .before .before .before .before .before .before .before .before .before .before .before .pre .0) (passed-clean _ w (c .before .p1 .given .1)), omega (arith, n, c .before .before .before .before .before .before .before .before .before .before .before .before .before .pre .1))
+    (listed _ _ _ _ (c .before .before .before .before .before .before .before .if1 .taken) (c .before .before .before .before .before .before .before .before .before .before .before .before .before .pre .0) (passed-clean _ _ w (c .before .p1 .given .1)), omega (arith, n, c .before .before .before .before .before .before .before .before .before .before .before .before .before .pre .1))
 
 returns-2 : tie.Need-returns-2
 unfolding infoActs

@@ -6,8 +6,9 @@ use Rattle.wire.specs.Reads.{shortOf, endsOut}
 use Rattle.wire.specs.declared.reads.Ends.{Ends}
 use Rattle.wire.proofs.Walk.{run-ret}
 use Rattle.wire.proofs.Loops.{summed-done, summed-short}
+use Rattle.wire.proofs.Straight.{ones-past}
 use Rattle.multi_stream.specs.Read.{main}
-use Rattle.multi_stream.proofs.Parsed.{two-there, main-cut, groups-cut, groups-summed}
+use Rattle.multi_stream.proofs.Parsed.{main-cut, groups-cut, groups-summed}
 use borrow.Author.Needs.{needs}
 use Rattle.multi_stream.proofs.parsing.main_rows.Statement.{statement}
 use Rattle.multi_stream.proofs.parsing.main_rows.Tie as tie
@@ -33,7 +34,7 @@ add-wide c = search needs
 
 shared-slice-read-wide : tie.Need-shared-slice-read-wide
 shared-slice-read-wide c =
-    let w = two-there _ _ (c .before .before .before .before .head .ensures) (c .before .before .before .before .before .before .before .pre) (ap endsOut (c .before .before .a .given .1)) in omega (arith, w .1)
+    let w = ones-past 2 _ _ (c .before .before .before .before .before .before .before .pre) (c .before .before .before .before .head .ensures) (ap endsOut (c .before .before .a .given .1)) in omega (arith, w .inside)
 
 wide-requires : tie.Need-wide-requires
 wide-requires c κs = search needs
@@ -46,7 +47,7 @@ cast-count c = search needs
 
 measure-groups-requires : tie.Need-measure-groups-requires
 measure-groups-requires c κs =
-    let w = two-there _ _ (c .before .before .before .before .before .before .head .ensures) (c .before .before .before .before .before .before .before .before .before .pre) (ap endsOut (c .before .before .before .before .a .given .1)) in omega (arith, w .0, w .1)
+    let w = ones-past 2 _ _ (c .before .before .before .before .before .before .before .before .before .pre) (c .before .before .before .before .before .before .head .ensures) (ap endsOut (c .before .before .before .before .a .given .1)) in omega (arith, w .is, w .inside)
 
 enum-known-b : tie.Need-enum-known-b
 enum-known-b c = search needs

@@ -1,9 +1,8 @@
 -- `multi_stream::writing::check_main` meets its contract: two bytes, then the groups.
 use native.Mathlib.Omega.{arith}
 use Rattle.wire.proofs.Plain.{all-checked}
-use Rattle.wire.proofs.Parts.{part-stops, part-goes, part-absent}
+use Rattle.wire.proofs.Parts.{part-stops, part-goes, part-absent, rows-there}
 use Rattle.multi_stream.specs.Write.{mainActs}
-use Rattle.multi_stream.proofs.Writes.{rows-there}
 use borrow.Author.Needs.{needs}
 use Rattle.multi_stream.proofs.writing.check_main.Statement.{statement}
 use Rattle.multi_stream.proofs.writing.check_main.Tie as tie
@@ -33,7 +32,7 @@ cast-check-groups c = search needs
 
 check-groups-requires : tie.Need-check-groups-requires
 check-groups-requires c κs =
-    let w = all-checked (c .before .before .before .before .before .main-bytes .ensures) (c .before .before .before .check-all .ensures) in let n = rw (c .before .p1 .given .1) at (w .near) in (rows-there _ _ (c .before .before .before .before .before .before .before .before .before .pre .0) (c .before .before .before .before .before .before .before .if1 .taken), omega arith, omega (arith, n, c .before .before .before .before .before .before .before .before .before .pre .1))
+    let w = all-checked (c .before .before .before .before .before .main-bytes .ensures) (c .before .before .before .check-all .ensures) in let n = rw (c .before .p1 .given .1) at (w .near) in (rows-there _ _ 5 _ (omega arith) (c .before .before .before .before .before .before .before .before .before .pre .0) (c .before .before .before .before .before .before .before .if1 .taken), omega arith, omega (arith, n, c .before .before .before .before .before .before .before .before .before .pre .1))
 
 returns-2 : tie.Need-returns-2
 unfolding mainActs

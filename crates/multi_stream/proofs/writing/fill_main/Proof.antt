@@ -4,12 +4,11 @@ use native.Mathlib.Omega.{arith}
 use Rattle.wire.specs.Act.{Act, byte, when, rows}
 use Rattle.wire.proofs.Passes.{Filling, fill-last}
 use Rattle.wire.proofs.Plain.{ready-part, fill-part}
-use Rattle.wire.proofs.Parts.{part-begins, part-empty}
+use Rattle.wire.proofs.Parts.{part-begins, part-empty, rows-there}
 use mathlib.Core.Bool.{true}
 use mathlib.Core.Path.{_≡_}
 use Rattle.stream_groups.specs.Write.{rowActs}
 use Rattle.multi_stream.specs.Write.{mainFields, mainActs}
-use Rattle.multi_stream.proofs.Writes.{rows-there}
 use borrow.Author.Needs.{needs}
 use Rattle.multi_stream.proofs.writing.fill_main.Statement.{statement}
 use Rattle.multi_stream.proofs.writing.fill_main.Tie as tie
@@ -46,7 +45,7 @@ cast-fill-groups c = search needs
 fill-groups-requires : tie.Need-fill-groups-requires
 fill-groups-requires c κs =
     let d = c .before .before .before in
-    (rows-there _ _ (start d .pre .0) (taken d), omega (arith, start d .good), behind d .ready)
+    (rows-there _ _ 5 _ (omega arith) (start d .pre .0) (taken d), omega (arith, start d .good), behind d .ready)
 
 same-length : tie.Need-same-length
 same-length c = search needs

@@ -18,21 +18,21 @@ part-requires c κs = search needs
 
 fill-groups-section-requires : tie.Need-fill-groups-section-requires
 fill-groups-section-requires c κs =
-    groups-ask (c .before .before .before .before .before .before .before .before .before .before .pre .0) _ _ _ _ _ (c .before .before .before .before .before .before .before .before .before .before .pre .2) (c .before .part .ensures ∙ ap (part 7 1) (c .before .before .wide .ensures))
+    groups-ask (c .before .before .before .before .before .before .before .before .before .before .pre .0) (c .before .before .before .before .before .before .before .before .before .before .pre .1) _ _ _ _ _ (c .before .before .before .before .before .before .before .before .before .before .pre .2) (c .before .part .ensures ∙ ap (part 7 1) (c .before .before .wide .ensures))
 
 part-requires-2 : tie.Need-part-requires-2
 part-requires-2 c κs = search needs
 
 fill-switch-groups-section-requires : tie.Need-fill-switch-groups-section-requires
 fill-switch-groups-section-requires c κs =
-    switches-ask (c .before .before .before .before .before .before .before .before .before .before .before .before .before .before .before .before .pre .0) _ _ _ _ _ (c .before .before .before .before .before .before .before .before .before .before .before .before .before .before .before .before .pre .2) (c .before .before .before .before .before .before .before .before .before .before .before .before .before .before .before .before .pre .1) (c .before .before .part2 .ensures ∙ ap (part 6 1) (c .before .before .before .before .before .before .before .before .wide .ensures))
+    switches-ask (c .before .before .before .before .before .before .before .before .before .before .before .before .before .before .before .before .pre .0) (c .before .before .before .before .before .before .before .before .before .before .before .before .before .before .before .before .pre .1) _ _ _ _ _ (c .before .before .before .before .before .before .before .before .before .before .before .before .before .before .before .before .pre .2) (c .before .before .part2 .ensures ∙ ap (part 6 1) (c .before .before .before .before .before .before .before .before .wide .ensures))
 
 part-requires-3 : tie.Need-part-requires-3
 part-requires-3 c κs = search needs
 
 fill-presets-section-requires : tie.Need-fill-presets-section-requires
 fill-presets-section-requires c κs =
-    presets-ask (c .before .before .before .before .before .before .before .before .before .before .before .before .before .before .before .before .before .before .before .before .before .before .before .before .pre .0) _ _ _ _ _ (c .before .before .before .before .before .before .before .before .before .before .before .before .before .before .before .before .before .before .before .before .before .before .before .before .pre .2) (c .before .before .before .before .before .before .before .before .before .before .before .before .before .before .before .before .before .before .before .before .before .before .before .before .pre .1) (c .before .before .part3 .ensures ∙ ap (part 5 1) (c .before .before .before .before .before .before .before .before .before .before .before .before .before .before .before .before .wide .ensures))
+    presets-ask (c .before .before .before .before .before .before .before .before .before .before .before .before .before .before .before .before .before .before .before .before .before .before .before .before .pre .0) (c .before .before .before .before .before .before .before .before .before .before .before .before .before .before .before .before .before .before .before .before .before .before .before .before .pre .1) _ _ _ _ _ (c .before .before .before .before .before .before .before .before .before .before .before .before .before .before .before .before .before .before .before .before .before .before .before .before .pre .2) (c .before .before .part3 .ensures ∙ ap (part 5 1) (c .before .before .before .before .before .before .before .before .before .before .before .before .before .before .before .before .wide .ensures))
 
 same-length : tie.Need-same-length
 same-length c = search needs
@@ -51,7 +51,7 @@ same-length-5 c = search needs
 
 returns : tie.Need-returns
 returns c =
-    stored _ _ _ _ _ (flags-so (c .before .before .before .before .before .before .before .before .before .before .before .before .before .before .before .before .before .before .before .before .before .wide .ensures) (c .before .before .before .before .before .before .before .before .before .before .before .before .before .before .before .before .before .before .before .before .part .ensures) (c .before .before .before .before .before .before .before .before .before .before .before .before .before .before .before .part2 .ensures) (c .before .before .before .before .before .before .before .part3 .ensures)) (c .before .before .before .before .before .before .before .before .before .before .before .before .before .before .before .before .before .before .before .before .before .before .before .before .before .before .before .before .before .pre .2) (c .before .before .before .before .before .before .before .before .before .before .before .before .before .before .before .before .before .before .fill-groups-section .ensures) (c .before .before .before .before .before .before .before .before .before .before .before .before .fill-switch-groups-section .ensures) (c .before .before .before .before .fill-presets-section .ensures)
+    stored (c .before .before .before .before .before .before .before .before .before .before .before .before .before .before .before .before .before .before .before .before .before .before .before .before .before .before .before .before .before .pre .0) (c .before .before .before .before .before .before .before .before .before .before .before .before .before .before .before .before .before .before .before .before .before .before .before .before .before .before .before .before .before .pre .1) _ _ _ _ _ (flags-so (c .before .before .before .before .before .before .before .before .before .before .before .before .before .before .before .before .before .before .before .before .before .wide .ensures) (c .before .before .before .before .before .before .before .before .before .before .before .before .before .before .before .before .before .before .before .before .part .ensures) (c .before .before .before .before .before .before .before .before .before .before .before .before .before .before .before .part2 .ensures) (c .before .before .before .before .before .before .before .part3 .ensures)) (c .before .before .before .before .before .before .before .before .before .before .before .before .before .before .before .before .before .before .before .before .before .before .before .before .before .before .before .before .before .pre .2) (c .before .before .before .before .before .before .before .before .before .before .before .before .before .before .before .before .before .before .fill-groups-section .ensures) (c .before .before .before .before .before .before .before .before .before .before .before .before .fill-switch-groups-section .ensures) (c .before .before .before .before .fill-presets-section .ensures)
 
 pub fill-spec : {M : Type 1} → statement M
 fill-spec =

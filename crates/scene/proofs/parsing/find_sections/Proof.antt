@@ -4,7 +4,8 @@ use native.Mathlib.Omega.{arith}
 use Rattle.wire.specs.Bits.{part}
 use Rattle.wire.specs.Prog.{short}
 use Rattle.wire.specs.Reads.{endsOut, sumOut, shortOf}
-use Rattle.scene.proofs.Walked.{Two, two-there, head-cut, InGroups, groups-found, groups-cut, InSwitches, switches-found, switches-cut, all-found, presets-cut}
+use Rattle.wire.proofs.Straight.{Past, ones-past}
+use Rattle.scene.proofs.Walked.{head-cut, InGroups, groups-found, groups-cut, InSwitches, switches-found, switches-cut, all-found, presets-cut}
 use borrow.Author.Needs.{needs}
 use Rattle.scene.proofs.parsing.find_sections.Statement.{statement}
 use Rattle.scene.proofs.parsing.find_sections.Tie as tie
@@ -12,8 +13,8 @@ use Rattle.scene.proofs.parsing.find_sections.Tie as tie
 abbrev start : tie.After-known-told → tie.Start
 start c = c .before .before .before .before .before
 
-two : (c : tie.After-known-told) → Two (start c .args .body .now) (c .before .a .given .0 .0)
-two c = two-there _ (c .before .before .before .head .ensures) (ap endsOut (c .before .a .given .1))
+two : (c : tie.After-known-told) → Past (start c .args .body .now) 0 2 (c .before .a .given .0 .0)
+two c = ones-past 2 _ 0 (omega arith) (c .before .before .before .head .ensures) (ap endsOut (c .before .a .given .1))
 
 abbrev back-1 : tie.After-groups-end → tie.After-known-told
 back-1 c = c .before .before .before .before
@@ -59,7 +60,7 @@ part-requires : tie.Need-part-requires
 part-requires c κs = search needs
 
 groups-end-requires : tie.Need-groups-end-requires
-groups-end-requires c κs = let h = two (c .before .before .before) in rw (h .at-two) (h .inside)
+groups-end-requires c κs = let h = two (c .before .before .before) in rw (h .is) (h .inside)
 
 enum-known-g : tie.Need-enum-known-g
 enum-known-g c = search needs

@@ -3,7 +3,8 @@ use mathlib.Core.Path.{sym, ap, _∙_}
 use native.Mathlib.Omega.{arith}
 use Rattle.wire.specs.Prog.{short}
 use Rattle.wire.specs.Reads.{endsOut, shortOf}
-use Rattle.scene.proofs.Walked.{two-there, head-cut}
+use Rattle.wire.proofs.Straight.{ones-past}
+use Rattle.scene.proofs.Walked.{head-cut}
 use Rattle.scene.proofs.Found.{flags-so}
 use Rattle.scene.proofs.Bare.{none-so}
 use borrow.Author.Needs.{needs}
@@ -28,14 +29,14 @@ returns c =
 
 shared-slice-read-wide : tie.Need-shared-slice-read-wide
 shared-slice-read-wide c =
-    let h = two-there _ (c .before .before .before .before .head .ensures) (ap endsOut (c .before .before .a .given .1)) .inside in omega arith
+    let h = ones-past 2 _ 0 (omega arith) (c .before .before .before .before .head .ensures) (ap endsOut (c .before .before .a .given .1)) .inside in omega arith
 
 wide-requires : tie.Need-wide-requires
 wide-requires c κs = search needs
 
 returns-2 : tie.Need-returns-2
 returns-2 c =
-    record { sees = none-so (two-there _ (c .before .before .before .before .before .before .head .ensures) (ap endsOut (c .before .before .before .before .a .given .1))) (c .before .wide .ensures) (c .if1 .taken) }
+    record { sees = none-so (ones-past 2 _ 0 (omega arith) (c .before .before .before .before .before .before .head .ensures) (ap endsOut (c .before .before .before .before .a .given .1))) (c .before .wide .ensures) (c .if1 .taken) }
 
 part-requires : tie.Need-part-requires
 part-requires c κs = search needs
@@ -48,7 +49,7 @@ part-requires-3 c κs = search needs
 
 first-section-requires : tie.Need-first-section-requires
 first-section-requires c κs =
-    let i = two-there _ (c .before .before .before .before .before .before .before .before .before .head .ensures) (ap endsOut (c .before .before .before .before .before .before .before .a .given .1)) .inside in (i, flags-so (c .before .before .before .before .wide .ensures) (c .before .before .part .ensures) (c .before .part2 .ensures) (c .part3 .ensures), omega (arith, c .before .before .before .before .wide .ensures, c .before .before .before .if1 .left), omega (arith, c .before .before .before .before .before .shared-slice-known2 .given 0))
+    let i = ones-past 2 _ 0 (omega arith) (c .before .before .before .before .before .before .before .before .before .head .ensures) (ap endsOut (c .before .before .before .before .before .before .before .a .given .1)) .inside in (i, flags-so (c .before .before .before .before .wide .ensures) (c .before .before .part .ensures) (c .before .part2 .ensures) (c .part3 .ensures), omega (arith, c .before .before .before .before .wide .ensures, c .before .before .before .if1 .left), omega (arith, c .before .before .before .before .before .shared-slice-known2 .given 0))
 
 returns-3 : tie.Need-returns-3
 returns-3 c = search needs

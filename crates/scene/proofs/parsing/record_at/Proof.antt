@@ -79,7 +79,7 @@ trailing-run-requires c κs =
 
 returns : tie.Need-returns
 returns c =
-    recorded (flags-so (c .before .before .before .before .before .before .before .before .before .before .before .before .before .before .wide .ensures) (c .before .before .before .before .before .before .before .before .before .before .before .before .before .part .ensures) (c .before .before .before .before .before .before .before .before .before .before .before .before .part2 .ensures) (c .before .before .before .before .before .before .before .before .before .before .before .part3 .ensures)) (c .before .before .before .before .before .before .before .before .before .before .part4 .ensures ∙ ap (part 0 5) (c .before .before .before .before .before .before .before .before .before .before .before .before .before .before .wide .ensures)) (c .before .before .before .before .before .before .before .part5 .ensures ∙ ap (part 0 8) (c .before .before .before .before .before .before .before .before .wide2 .ensures)) (c .before .before .before .before .before .before .section-at .ensures) (c .before .before .before .before .before .reserved-at .ensures .0) (c .before .before .before .before .section-at2 .ensures) (c .before .before .before .reserved-at2 .ensures .0) (c .before .before .section-at3 .ensures) (c .before .reserved-at3 .ensures .0) (c .trailing-run .ensures)
+    recorded (c .before .before .before .before .before .before .before .before .before .before .before .before .before .before .before .before .before .pre .0) (c .before .before .before .before .before .before .before .before .before .before .before .before .before .before .before .before .before .pre .1) (flags-so (c .before .before .before .before .before .before .before .before .before .before .before .before .before .before .wide .ensures) (c .before .before .before .before .before .before .before .before .before .before .before .before .before .part .ensures) (c .before .before .before .before .before .before .before .before .before .before .before .before .part2 .ensures) (c .before .before .before .before .before .before .before .before .before .before .before .part3 .ensures)) (c .before .before .before .before .before .before .before .before .before .before .part4 .ensures ∙ ap (part 0 5) (c .before .before .before .before .before .before .before .before .before .before .before .before .before .before .wide .ensures)) (c .before .before .before .before .before .before .before .part5 .ensures ∙ ap (part 0 8) (c .before .before .before .before .before .before .before .before .wide2 .ensures)) (c .before .before .before .before .before .before .section-at .ensures) (c .before .before .before .before .before .reserved-at .ensures .0) (c .before .before .before .before .section-at2 .ensures) (c .before .before .before .reserved-at2 .ensures .0) (c .before .before .section-at3 .ensures) (c .before .reserved-at3 .ensures .0) (c .trailing-run .ensures)
 
 pub record-at-spec : {M : Type 1} → statement M
 record-at-spec =

@@ -18,14 +18,14 @@ part-requires c κs = search needs
 
 count-at-requires : tie.Need-count-at-requires
 count-at-requires c κs =
-    (groups-there (c .before .before .before .before .pre) (c .part .ensures ∙ ap (part 7 1) (c .before .wide .ensures)), omega arith)
+    (groups-there (c .before .before .before .before .pre .0) (c .part .ensures ∙ ap (part 7 1) (c .before .wide .ensures)), omega arith)
 
 part-requires-2 : tie.Need-part-requires-2
 part-requires-2 c κs = search needs
 
 count-at-requires-2 : tie.Need-count-at-requires-2
 count-at-requires-2 c κs =
-    (switches-there (c .before .before .before .before .before .before .pre) (c .part2 .ensures ∙ ap (part 6 1) (c .before .before .before .wide .ensures)), omega arith)
+    (switches-there (c .before .before .before .before .before .before .pre .0) (c .part2 .ensures ∙ ap (part 6 1) (c .before .before .before .wide .ensures)), omega arith)
 
 cast-t10 : tie.Need-cast-t10
 cast-t10 c = search needs
@@ -35,14 +35,14 @@ part-requires-3 c κs = search needs
 
 count-at-requires-3 : tie.Need-count-at-requires-3
 count-at-requires-3 c κs =
-    (presets-there (c .before .before .before .before .before .before .before .before .before .pre) (c .part3 .ensures ∙ ap (part 5 1) (c .before .before .before .before .before .before .wide .ensures)), omega arith)
+    (presets-there (c .before .before .before .before .before .before .before .before .before .pre .0) (c .part3 .ensures ∙ ap (part 5 1) (c .before .before .before .before .before .before .wide .ensures)), omega arith)
 
 cast-t13 : tie.Need-cast-t13
 cast-t13 c = search needs
 
 returns : tie.Need-returns
 returns c =
-    counted (flags-so (c .before .before .before .before .before .before .before .before .wide .ensures) (c .before .before .before .before .before .before .before .part .ensures) (c .before .before .before .before .before .part2 .ensures) (c .before .before .part3 .ensures)) (c .before .before .before .before .before .before .count-at .ensures .0) (c .before .before .before .before .count-at2 .ensures .0) refl (c .before .count-at3 .ensures .0) refl refl
+    counted (c .before .before .before .before .before .before .before .before .before .before .before .pre .0) (c .before .before .before .before .before .before .before .before .before .before .before .pre .1) (flags-so (c .before .before .before .before .before .before .before .before .wide .ensures) (c .before .before .before .before .before .before .before .part .ensures) (c .before .before .before .before .before .part2 .ensures) (c .before .before .part3 .ensures)) (c .before .before .before .before .before .before .count-at .ensures .0) (c .before .before .before .before .count-at2 .ensures .0) refl (c .before .count-at3 .ensures .0) refl refl
 
 pub sizes-at-spec : {M : Type 1} → statement M
 sizes-at-spec =

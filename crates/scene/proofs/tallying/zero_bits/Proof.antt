@@ -4,7 +4,7 @@ use native.Mathlib.Omega.{arith}
 use Rattle.wire.specs.Bits.{part, zeros}
 use Rattle.wire.specs.Reads.{isDone}
 use Rattle.scene.proofs.Found.{groups-stand, switches-stand, presets-stand, at-switches, at-presets, flags-so}
-use Rattle.scene.proofs.Answers.{zeros-so}
+use Rattle.scene.proofs.Tallied.{zeros-so}
 use borrow.Author.Needs.{needs}
 use Rattle.scene.proofs.tallying.zero_bits.Statement.{statement}
 use Rattle.scene.proofs.tallying.zero_bits.Tie as tie
@@ -56,7 +56,7 @@ add-result-3 c = search needs
 
 returns : tie.Need-returns
 returns c =
-    zeros-so (flags-so (c .before .before .before .before .before .before .before .before .wide .ensures) (c .before .before .before .before .before .part2 .ensures) (c .before .before .before .part3 .ensures) (c .before .part4 .ensures)) refl (c .before .before .before .before .before .before .idle-bits .ensures ∙ ap (zeros 5) (c .before .before .before .before .before .before .before .part .ensures ∙ ap (part 0 5) (c .before .before .before .before .before .before .before .before .wide .ensures))) (c .before .before .before .before .groups-zeros .ensures .0) (c .before .before .switch-groups-zeros .ensures .0) (c .presets-zeros .ensures .0)
+    zeros-so (c .before .before .before .before .before .before .before .before .before .before .before .pre .0) (c .before .before .before .before .before .before .before .before .before .before .before .pre .1) (flags-so (c .before .before .before .before .before .before .before .before .wide .ensures) (c .before .before .before .before .before .part2 .ensures) (c .before .before .before .part3 .ensures) (c .before .part4 .ensures)) refl (c .before .before .before .before .before .before .idle-bits .ensures ∙ ap (zeros 5) (c .before .before .before .before .before .before .before .part .ensures ∙ ap (part 0 5) (c .before .before .before .before .before .before .before .before .wide .ensures))) (c .before .before .before .before .groups-zeros .ensures .0) (c .before .before .switch-groups-zeros .ensures .0) (c .presets-zeros .ensures .0)
 
 pub zero-bits-spec : {M : Type 1} → statement M
 zero-bits-spec =

@@ -6,8 +6,8 @@ use Rattle.wire.proofs.Passes.{Filling, fill-last}
 use Rattle.wire.proofs.Plain.{ready-part, fill-part}
 use Rattle.scene_groups.specs.Write.{rowActs}
 use Rattle.scene_writing.specs.Write.{sectionActs, groupsActs}
-use Rattle.wire.proofs.Parts.{part-empty}
-use Rattle.scene_writing.proofs.Writes.{rows-there, section-begins}
+use Rattle.wire.proofs.Parts.{part-empty, rows-there}
+use Rattle.scene_writing.proofs.Writes.{section-begins}
 use borrow.Author.Needs.{needs}
 use Rattle.scene_writing.proofs.writing.fill_groups_section.Statement.{statement}
 use Rattle.scene_writing.proofs.writing.fill_groups_section.Tie as tie
@@ -37,7 +37,7 @@ fill-groups-requires : tie.Need-fill-groups-requires
 fill-groups-requires c κs =
     let w = behind (c .before .before .before) in
     let z = start (c .before .before .before) in
-    (rows-there (z .args .m .groups) 27 _ (omega arith) (z .pre .0) (c .before .before .before .before .before .before .before .if1 .taken), omega (arith, z .good), w .ready)
+    (rows-there _ _ 27 _ (omega arith) (z .pre .0) (c .before .before .before .before .before .before .before .if1 .taken), omega (arith, z .good), w .ready)
 
 same-length : tie.Need-same-length
 same-length c = search needs

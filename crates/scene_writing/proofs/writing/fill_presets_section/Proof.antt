@@ -9,8 +9,8 @@ use Rattle.wire.proofs.Plain.{ready-part, fill-part}
 use Rattle.conditions.specs.Layout.{condition}
 use Rattle.presets.specs.Layout.{preset}
 use Rattle.scene_writing.specs.Write.{sectionActs, presetsActs}
-use Rattle.wire.proofs.Parts.{part-empty}
-use Rattle.scene_writing.proofs.Writes.{rows-there, section-begins}
+use Rattle.wire.proofs.Parts.{part-empty, rows-there}
+use Rattle.scene_writing.proofs.Writes.{section-begins}
 use borrow.Author.Needs.{needs}
 use Rattle.scene_writing.proofs.writing.fill_presets_section.Statement.{statement}
 use Rattle.scene_writing.proofs.writing.fill_presets_section.Tie as tie
@@ -40,7 +40,7 @@ fill-presets-requires : tie.Need-fill-presets-requires
 fill-presets-requires c κs =
     let w = behind (c .before .before .before) in
     let z = start (c .before .before .before) in
-    (rows-there (z .args .m .presets) 7 _ (omega arith) (z .pre .0) (c .before .before .before .before .before .before .before .if1 .taken), omega (arith, z .good), w .ready)
+    (rows-there _ _ 7 _ (omega arith) (z .pre .0) (c .before .before .before .before .before .before .before .if1 .taken), omega (arith, z .good), w .ready)
 
 same-length : tie.Need-same-length
 same-length c = search needs

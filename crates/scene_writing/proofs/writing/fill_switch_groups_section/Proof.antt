@@ -8,8 +8,8 @@ use Rattle.wire.proofs.Passes.{Filling, fill-last}
 use Rattle.wire.proofs.Plain.{ready-part, fill-part}
 use Rattle.switch_groups.specs.Layout.{member, switchGroup}
 use Rattle.scene_writing.specs.Write.{sectionActs, switchGroupsActs}
-use Rattle.wire.proofs.Parts.{part-empty}
-use Rattle.scene_writing.proofs.Writes.{rows-there, section-begins}
+use Rattle.wire.proofs.Parts.{part-empty, rows-there}
+use Rattle.scene_writing.proofs.Writes.{section-begins}
 use borrow.Author.Needs.{needs}
 use Rattle.scene_writing.proofs.writing.fill_switch_groups_section.Statement.{statement}
 use Rattle.scene_writing.proofs.writing.fill_switch_groups_section.Tie as tie
@@ -39,7 +39,7 @@ fill-switch-groups-requires : tie.Need-fill-switch-groups-requires
 fill-switch-groups-requires c κs =
     let w = behind (c .before .before .before) in
     let z = start (c .before .before .before) in
-    (rows-there (z .args .m .«switch_groups») 9 _ (omega arith) (z .pre .0) (c .before .before .before .before .before .before .before .if1 .taken), omega (arith, z .good), w .ready)
+    (rows-there _ _ 9 _ (omega arith) (z .pre .0) (c .before .before .before .before .before .before .before .if1 .taken), omega (arith, z .good), w .ready)
 
 same-length : tie.Need-same-length
 same-length c = search needs

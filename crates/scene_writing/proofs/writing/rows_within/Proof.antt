@@ -1,5 +1,5 @@
 -- `scene_writing::writing::rows_within` meets its contract.
-use Rattle.scene_writing.proofs.Writes.{within-there, within-absent}
+use Rattle.wire.proofs.Parts.{within-there, within-absent}
 use borrow.Author.Needs.{needs}
 use Rattle.scene_writing.proofs.writing.rows_within.Statement.{statement}
 use Rattle.scene_writing.proofs.writing.rows_within.Tie as tie
@@ -12,11 +12,11 @@ has-rows-requires c κs = search needs
 
 returns : tie.Need-returns
 returns c =
-    within-there _ _ _ (c .before .if1 .taken) (c .has-rows .ensures)
+    within-there _ _ _ _ (c .before .if1 .taken) (c .has-rows .ensures)
 
 returns-2 : tie.Need-returns-2
 returns-2 c =
-    within-absent _ _ _ (c .if1 .left)
+    within-absent _ _ _ _ (c .if1 .left)
 
 pub rows-within-spec : {M : Type 1} → statement M
 rows-within-spec = tie.close (tie.spec cast-has-rows has-rows-requires returns returns-2)
