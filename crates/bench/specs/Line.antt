@@ -9,7 +9,7 @@ use Rattle.frame.specs.Kind.{Kind}
 use Rattle.frame.specs.Entry.{Sizes, measuring, tallying}
 use Rattle.base.specs.Kind as Base
 use Rattle.scene_kind.specs.Kind as Scene
-use Rattle.text_label.specs.Write as TextLabel
+use Rattle.text_label.specs.Kind as TextLabel
 use Rattle.multi_stream.specs.Kind as MultiStream
 use Rattle.drc_kind.specs.Kind as DrcLoudness
 use Rattle.bench.specs.declared.line.Line.{Line}

@@ -16,21 +16,22 @@ use Rattle.wire.specs.Act.{Act, demand, byte, copy, pick, rows}
 use Rattle.wire.specs.declared.pen.Fault.the-variants as F
 use Rattle.wire.specs.declared.rows.Payload.{Payload}
 use Rattle.wire.specs.Pen.{clean, bytes}
-use Rattle.wire.specs.Layout.{Cell, Columns, of, row, set, cells, matched, every, flagged, counted, columns, has, mix, kept, blank, demands}
+use Rattle.wire.specs.Layout.{Cell, Columns, of, row, set, cells, every, flagged, columns, has, kept, blank, demands}
 use Rattle.wire.proofs.Lists.{every-right}
-use Rattle.wire.proofs.Acts.{and-both, both-and, clean-append, clean-both}
+use Rattle.wire.proofs.Acts.{and-both}
 use Rattle.wire.proofs.Takes.{Takes, map-takes}
 use Rattle.wire.proofs.Codec.{Codec, Spells}
-use Rattle.wire.proofs.Cells.{On, sound, clash, mix-in, mix-all, every-same, both-sound, sound-both}
-use Rattle.wire.proofs.Forms.{Form, form-read, form-goes, form-means, form-shown, form-all, form-proper, form-in-bytes, form-shown-in, below, row-of, rows-of, Row-fits, means-as, means-same, alike, row-spells, row-ready, row-bytes, woven, Holes, Faultless}
-use Rattle.wire.proofs.Rowed.{row-on, on-all, after-demands}
+use Rattle.wire.proofs.Cells.{On, sound, clash, mix-in, mix-all}
+use Rattle.wire.proofs.Forms.{Form, form-read, form-goes, form-means, form-shown, form-all, form-proper, form-in-bytes, form-shown-in, below, row-of, rows-of, Row-fits, means-as, means-same, alike, row-ready, row-bytes, Faultless}
+use Rattle.wire.proofs.Rowed.{row-on, on-all}
 use Rattle.frame.specs.Kind.{Lent, Rows, Held}
 use Rattle.frame.specs.Claims.{Agree}
 use Rattle.frame.specs.Entry.{needs, total, first, filled}
 use Rattle.frame.specs.Body.{Pieces, last, carrying, list, layouts, offsetOf, lengthOf, given, placed, payloads, tables, heededRows, beyond, run, inside, pieced, means, heeds, Body, counts, actsOf, valueOf, heedsOf, kind}
 use Rattle.frame.proofs.Lawful.{Lawful}
 use Rattle.frame.proofs.RowTypes.{Took}
-use Rattle.frame.proofs.Pieces.{Lawful-pieces, form, cells-of, matched-of, parse-goes, spans-so, breaks, pieced-so, holes-so, same-tables, all-there, took, Stood, Was, means-so, inside-so, ready-so, columns-so}
+use Rattle.frame.proofs.Records.{kept-so, record-spells, sound-at, record-ready, record-alike}
+use Rattle.frame.proofs.Pieces.{Lawful-pieces, form, cells-of, parse-goes, spans-so, breaks, pieced-so, holes-so, same-tables, all-there, took, Stood, Was, means-so, inside-so, ready-so, columns-so}
 
 -- ---- the place of a payload: two columns of the record that stand in no byte
 
@@ -231,26 +232,14 @@ module _ {T M Top : Type 0} (b : Body T M Top) (w : Lawful-body b) where
   unfolding format rows-of
   spans-are t = spans-so p (w .rows) (of (t .0)) (t .1)
 
-  counts-are : (g : Columns) → counts b g ≡ means-as (b .columns) x start (passing .proper) (passing .below) (passing .absent-out) g
-  counts-are g = ap (λ (cs : List Cell). mix (columns cs) g start) (cells-of p (w .rows) g)
-
   -- ---- actions without a fault are those of the meaning
 
   spells-of : (g : Columns) (lent : Lent) (store : List ℕ) → clean (actsOf b g lent store) ≡ true → Spells format (actsOf b g lent store) (valueOf b g lent store)
-  unfolding format rows-of clean bytes
-  spells-of g lent store e =
+  unfolding format
+  spells-of g lent store =
       let m = counts b g in
-      let q = breaks p (w .rows) g m lent store in
-      let (i, e₀) = and-both (inside p g m lent store) _ e in
-      let (d, e₁) = and-both (every flagged g (cells (layouts p) g)) _ e₀ in
-      let (f, e₂) = and-both (every counted g (cells (layouts p) g)) _ e₁ in
-      let (a, e₃) = clean-both (matched (layouts p) g) _ e₂ in
-      let fit-so : every sound g (form-shown x g) ≡ true = subst (λ (cs : List Cell). every sound g cs ≡ true) (cells-of p (w .rows) g) (both-sound (cells (layouts p) g) g d f) in
-      let h = subst (λ (m : Columns). Holes x m q (means p g (counts b g) lent store)) (counts-are g) (holes-so p (w .rows) g m lent store i e₃) in
-      let o = pieced-so p (w .rows) g m lent store in
-      let s = row-spells (b .columns) x start (passing .proper) (passing .below) (passing .absent-out) g q (means p g m lent store) (fit-so, ap clean (sym (matched-of p (w .rows) g)) ∙ a) (ap clean (sym o) ∙ e₃) h in
-      let z = after-demands (layouts p) g (pieced p g m lent store) ∙ ap bytes o in
-      subst (λ (h : Columns). Spells format (actsOf b g lent store) (row (b .columns) h, means p g m lent store)) (sym (counts-are g)) (record { fits = s .fits; sound = s .sound; same = z ∙ s .same })
+      record-spells p (w .rows) (b .columns) start (passing .proper) (passing .below) (passing .absent-out) (inside p g m lent store) g (breaks p (w .rows) g m lent store) (means p g m lent store) (pieced-so p (w .rows) g m lent store)
+      (holes-so p (w .rows) g m lent store)
 
   -- ---- what was read of the body s; writing sees its columns with the place of its payload
 
@@ -278,16 +267,12 @@ module _ {T M Top : Type 0} (b : Body T M Top) (w : Lawful-body b) where
     unfolding format rows-of
     faultless k o = row-ready (b .columns) x start (passing .proper) (passing .below) (passing .absent-out) (t .0, form-means x s h (t .1)) f e k (on-all x h k o)
 
-    -- flags and counts have no fault
-    sound-at : (k : Columns) → On (form-all x) h k → (every flagged k (cells (layouts p) k) ≡ true) × (every counted k (cells (layouts p) k) ≡ true)
-    sound-at k o = sound-both (cells (layouts p) k) k (ap (every sound k) (cells-of p (w .rows) k) ∙ faultless k o .fit .0)
-
     pub fields-are : (r : Payload) → b .fields (b .made (row (b .columns) full) r) ≡ row (b .columns) full
-    fields-are r = w .again full r (sound-at full full-on .0)
+    fields-are r = w .again full r (sound-at p (w .rows) (b .columns) start (passing .proper) (passing .below) (passing .absent-out) (faultless full full-on) .0)
 
     counts-were : counts b g ≡ h
     unfolding Row-fits
-    counts-were = counts-are g ∙ sym (means-same (b .columns) x start (passing .proper) (passing .below) (passing .absent-out) h g (on-all x h g g-on)) ∙ mix-all (columns (form-shown x h)) (fits .1)
+    counts-were = kept-so p (w .rows) (b .columns) start (passing .proper) (passing .below) (passing .absent-out) g ∙ sym (means-same (b .columns) x start (passing .proper) (passing .below) (passing .absent-out) h g (on-all x h g g-on)) ∙ mix-all (columns (form-shown x h)) (fits .1)
 
     was : Was p (w .rows) s g h (t .1)
     unfolding Row-fits format rows-of
@@ -300,15 +285,10 @@ module _ {T M Top : Type 0} (b : Body T M Top) (w : Lawful-body b) where
         (λ z. (row (b .columns) (counts-were z), means p g (counts-were z) l s)) ∙ (λ z. (row-of (b .columns) (t .0) (f .0) z, means-so p (w .rows) was lent z))
 
     pub ready : (lent : Lent) → clean (actsOf b g (filled (tables p (t .1)) lent) s) ≡ true
-    unfolding clean
     ready lent =
         let l = filled (tables p (t .1)) lent in
-        let (c, d) = sound-at g g-on in
-        let y = faultless g g-on in
-        let m = ap clean (matched-of p (w .rows) g) ∙ y .fit .1 in
-        let q = ap clean (pieced-so p (w .rows) g h l s) ∙ y .sound (breaks p (w .rows) g h l s) (ready-so p (w .rows) was lent) in
         ap (λ (m : Columns). clean (demand F.Range (inside p g m l s) ∷ demands (layouts p) g ++ pieced p g m l s)) counts-were
-        ∙ both-and (inside-so p (w .rows) was lent) (both-and c (both-and d (clean-append (matched (layouts p) g) (pieced p g h l s) ∙ both-and m q)))
+        ∙ record-ready p (w .rows) (b .columns) start (passing .proper) (passing .below) (passing .absent-out) (breaks p (w .rows) g h l s) (pieced-so p (w .rows) g h l s) (inside-so p (w .rows) was lent) (faultless g g-on) (ready-so p (w .rows) was lent)
 
     pub in-columns : length s < 65536 → total (needs (tables p (t .1))) < 65536 → Every (λ (q : Rows). Every (Every Column) (q .rows)) (tables p (t .1))
     in-columns = columns-so p (w .rows) was
@@ -321,8 +301,8 @@ module _ {T M Top : Type 0} (b : Body T M Top) (w : Lawful-body b) where
 
   -- ---- what writing reads decides the actions
 
-  kept-so : (g : Columns) → On (columns (form-shown x g)) g (of (heedsOf b g))
-  kept-so g j q = go (has j (form-all x)) refl
+  heeds-so : (g : Columns) → On (columns (form-shown x g)) g (of (heedsOf b g))
+  heeds-so g j q = go (has j (form-all x)) refl
     where
       k : Columns
       k = kept (layouts p) g blank
@@ -338,15 +318,13 @@ module _ {T M Top : Type 0} (b : Body T M Top) (w : Lawful-body b) where
   acts-kept g lent store =
       let m = counts b g in
       let h = of (heedsOf b g) in
-      let o = kept-so g in
-      let s = alike (b .columns) x start (passing .proper) (passing .below) (passing .absent-out) g h o in
-      let same : m ≡ counts b h = counts-are g ∙ means-same (b .columns) x start (passing .proper) (passing .below) (passing .absent-out) g h o ∙ sym (counts-are h) in
+      let o = heeds-so g in
+      let c : (g : Columns) → counts b g ≡ means-as (b .columns) x start (passing .proper) (passing .below) (passing .absent-out) g = kept-so p (w .rows) (b .columns) start (passing .proper) (passing .below) (passing .absent-out) in
+      let same : m ≡ counts b h = c g ∙ means-same (b .columns) x start (passing .proper) (passing .below) (passing .absent-out) g h o ∙ sym (c h) in
       let y = same-places p (w .rows) m g h lent store (heeds-place p (b .columns) (form-all x) (passing .apart) m g (kept (layouts p) g blank)) in
-      let test : (q : Cell → ℕ → Bool) → every q g (cells (layouts p) g) ≡ every q h (cells (layouts p) h) = λ q. ap (every q g) (cells-of p (w .rows) g) ∙ every-same q (form-shown x g) o ∙ ap (every q h) (s .cells ∙ sym (cells-of p (w .rows) h)) in
-      let a = y .inside ∙ ap (λ (m : Columns). inside p h m lent store) same in
-      let c = matched-of p (w .rows) g ∙ s .matched ∙ sym (matched-of p (w .rows) h) in
-      let d = pieced-so p (w .rows) g m lent store ∙ ap (woven x g) (y .breaks) ∙ s .acts (breaks p (w .rows) h m lent store) ∙ ap (λ (m : Columns). woven x h (breaks p (w .rows) h m lent store)) same ∙ sym (pieced-so p (w .rows) h (counts b h) lent store) in
-      λ i. demand F.Range (a i) ∷ demand F.Field (test flagged i) ∷ demand F.Empty (test counted i) ∷ (c i ++ d i)
+      record-alike p (w .rows) (b .columns) start (passing .proper) (passing .below) (passing .absent-out) g h o (y .inside ∙ ap (λ (m : Columns). inside p h m lent store) same)
+      (breaks p (w .rows) g m lent store) (breaks p (w .rows) h (counts b h) lent store) (y .breaks ∙ ap (λ (m : Columns). breaks p (w .rows) h m lent store) same)
+      (pieced-so p (w .rows) g m lent store) (pieced-so p (w .rows) h (counts b h) lent store)
 
   tables-heed : (g : Columns) (store : List ℕ) {lent lent′ : Lent} → Agree (heededRows p) lent lent′ → actsOf b g lent store ≡ actsOf b g lent′ store
   tables-heed g store a = let s = same-tables p (w .rows) g (counts b g) store a in λ i. demand F.Range (s .inside i) ∷ demands (layouts p) g ++ s .acts i

@@ -24,11 +24,12 @@ use Rattle.wire.proofs.Codec.{Spells, seen-as, sized, sized-read, sized-acts, s
 use Rattle.wire.proofs.Codec as C
 use Rattle.wire.proofs.Forms as W
 use Rattle.wire.proofs.Forms.{Form, hole, form-read, form-go, form-means, form-acts, Form-fits, form-shown, form-matches, form-spans, Breaks, woven, Holes, Cleans}
-use Rattle.wire.proofs.Rowed.{Good, good-list}
+use Rattle.wire.proofs.Rowed.{Good, good-list, weight, weighs}
 use Rattle.frame.specs.Kind.{Lent, Rows, Heeded}
 use Rattle.frame.specs.Claims.{Agree, rows-agree}
 use Rattle.frame.specs.Entry.{needs, total, first, others, filled}
 use Rattle.frame.specs.Body.{RowType, Pieces, last, carrying, list, layouts, carried, parse, offsetOf, lengthOf, given, payloads, tables, heededRows, beyond, run, inside, pieced, means}
+use Rattle.frame.proofs.Lawful.{Shaped}
 use Rattle.frame.proofs.RowTypes.{Had, Took, Lawful-rows}
 
 abbrev pub Lawful-pieces : {T M : Type 0} → Pieces T M → Type 1
@@ -167,21 +168,40 @@ unfolding needs total
 total-both [] more = omega arith
 total-both (t ∷ ts) more = omega (arith, total-both ts more)
 
-pub took : {T M : Type 0} (p : Pieces T M) (w : Lawful-pieces p) (f : Columns) (at : ℕ) (z : Columns × T) (bs : List ℕ) → Takes (form-read (form p w) f) at z bs → Took (tables p (z .1)) bs
-unfolding form form-read tables C.list needs total
-took (last l) w f at z bs t = record { shaped = all-nil; few = omega arith }
-took (carrying l j o n) w f at z bs t = record { shaped = all-nil; few = omega arith }
-took (list {A} {T = S} l k r p) w f at z bs t =
+-- the bytes that its layouts have at least
+unfoldable pub weights : {T M : Type 0} → Pieces T M → ℕ
+weights (last l) = weight l
+weights (carrying l j o n) = weight l
+weights (list l k r p) = weight l + weights p
+
+-- the tables of what a program took, and that its rows and its layouts are no more than its bytes
+pub record Grown {T M : Type 0} (p : Pieces T M) (x : T) (bs : List ℕ) : Type 0 where
+  pub shaped : Every Shaped (tables p x)
+  pub heavy : weights p + total (needs (tables p x)) ≤ length bs
+
+pub grown : {T M : Type 0} (p : Pieces T M) (w : Lawful-pieces p) (f : Columns) (at : ℕ) (z : Columns × T) (bs : List ℕ) → Takes (form-read (form p w) f) at z bs → Grown p (z .1) bs
+unfolding form form-read tables C.list needs total weights
+grown (last l) w f at z bs t = let (g, e, u) = map-takes (reads l f) (λ g. (g, tt)) t in record { shaped = all-nil; heavy = omega (arith, weighs l f g at bs u) }
+grown (carrying l j o n) w f at z bs t =
+    let u = takes-split {B = Columns × (Option Payload × Unit {0})} (reads l f) _ t in
+    record { shaped = all-nil; heavy = omega (arith, weighs l f (u .value) at (u .front) (u .first), ap length (u .joined) ∙ length-append (u .front) (u .back)) }
+grown (list {A} {T = S} l k r p) w f at z bs t =
     let B : Type 0 = Columns × (List A × S) in
     let u = takes-split {B = B} (reads l f) _ t in
     let v = takes-split {B = B} (many (u .value k) (w .0 .codec .read)) _ (u .second) in
     let (y, e, d) = map-takes {B = B} (form-read (form p (w .1)) (u .value)) (λ y. (y .0, (v .value, y .1))) (v .second) in
     let a = w .0 .grows (subst (λ (q : Prog A). Listed q (u .value k) (at + length (u .front)) (v .value) (v .front)) (w .0 .reads) (many-takes (w .0 .codec .read) (u .value k) (v .first))) in
-    let b = took p (w .1) (u .value) _ y (v .back) d in
-    subst (λ (z : B). Took (tables (list l k r p) (z .1)) bs) e (record {
+    let b = grown p (w .1) (u .value) _ y (v .back) d in
+    let n₀ = weighs l f (u .value) at (u .front) (u .first) in
+    let n₁ = ap length (u .joined) ∙ length-append (u .front) (u .back) in
+    let n₂ = ap length (v .joined) ∙ length-append (v .front) (v .back) in
+    subst (λ (z : B). Grown (list l k r p) (z .1) bs) e (record {
       shaped = every-both _ (a .shaped) (b .shaped);
-      few = omega (arith, total-both (r .tables (v .value)) (tables p (y .1)), a .few, b .few, ap length (u .joined) ∙ length-append (u .front) (u .back), ap length (v .joined) ∙ length-append (v .front) (v .back));
+      heavy = omega (arith, total-both (r .tables (v .value)) (tables p (y .1)), a .few, b .heavy, n₀, n₁, n₂);
     })
+
+pub took : {T M : Type 0} (p : Pieces T M) (w : Lawful-pieces p) (f : Columns) (at : ℕ) (z : Columns × T) (bs : List ℕ) → Takes (form-read (form p w) f) at z bs → Took (tables p (z .1)) bs
+took p w f at z bs t = let g = grown p w f at z bs t in record { shaped = g .shaped; few = omega (arith, g .heavy) }
 
 -- ---- a record that was read of the body s, its columns h; g are those that writing reads, with the place of its payload
 
@@ -196,19 +216,19 @@ pub record Was {T M : Type 0} (p : Pieces T M) (w : Lawful-pieces p) (s : List �
   pub sound : clean (form-acts (form p w) h (form-means (form p w) s h x)) ≡ true
   pub within : Every (Within s) (payloads p x)
 
-record Listed-so {A C : Type 0} (r : RowType A C) (w : Lawful-rows r) (s : List ℕ) (k : ℕ) (l : List A) : Type 0 where
-  counted : k ≡ length l
-  had : Had r (w .codec) s l
+pub record Listed-so {A C : Type 0} (r : RowType A C) (w : Lawful-rows r) (s : List ℕ) (k : ℕ) (l : List A) : Type 0 where
+  pub counted : k ≡ length l
+  pub had : Had r (w .codec) s l
 
 module _ {A D T M : Type 0} (l : Layout) (k : ℕ) (r : RowType A D) (p : Pieces T M) (w : Lawful-pieces (list l k r p)) {s : List ℕ} {g h : Columns} {x : List A × T} (d : Was (list l k r p) w s g h x) where
-  rest-was : Was p (w .1) s g h (x .1)
+  pub rest-was : Was p (w .1) s g h (x .1)
   unfolding form form-means Form-fits form-acts payloads C.list
   rest-was =
       let (_, e₀) = clean-both (writes l h) _ (d .sound) in
       let (_, e₁) = clean-both (C.list (w .0 .codec) (h k) .acts (map (w .0 .codec .means s) (x .0))) _ e₀ in
       record { stood = d .stood; fits = d .fits .1 .1; sound = e₁; within = every-right (Within s) (flatMap (r .payloads) (x .0)) _ (d .within) }
 
-  list-was : Listed-so r (w .0) s (h k) (x .0)
+  pub list-was : Listed-so r (w .0) s (h k) (x .0)
   unfolding form form-means Form-fits form-acts payloads C.list Counted
   list-was =
       let m = w .0 .codec in

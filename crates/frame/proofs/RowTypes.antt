@@ -9,20 +9,20 @@ use Rattle.wire.specs.Lists.{Every, all-nil, all-cons, each, firsts, Column}
 use Rattle.wire.specs.Prog.{Within}
 use Rattle.wire.specs.Act.{Act, rows}
 use Rattle.wire.specs.Pen.{clean}
-use Rattle.wire.specs.Layout.{Layout, Columns, of, at, row, flat, flatActs, Broken, broken, brokenRow, brokenActs, Family, parents, Bearing, Borne, bearing, borneRow}
+use Rattle.wire.specs.Layout.{Layout, Columns, of, at, row, flat, flatActs, Broken, broken, brokenRow, brokenActs, Family, parents, Bearing, Borne, bearing, bearingActs, bearingMeans, bearingHeeds, borneRow}
 use Rattle.wire.proofs.Lists.{every-as, every-flat, every-and, every-map, every-firsts}
 use Rattle.wire.proofs.Takes.{Listed, listed-every, listed-bound}
 use Rattle.wire.proofs.Nest.{flat-length, sum-suc}
 use Rattle.wire.proofs.Codec.{Codec, Spells, seen-as}
 use Rattle.wire.proofs.Cells.{On}
 use Rattle.wire.proofs.Forms.{form-all}
-use Rattle.wire.proofs.Rowed.{Flat, flats, flat-wide, flat-spells, flat-columns, flat-positive, Wide, Good, found, room-for, each-as, rows-again, rows-ready, flat-weighs, flat-grows, listed-sum, Nest, broken-form, breaks, broken-on, broken-spells, nest-tests, families, family-grows, parents-long, parents-wide, parents-columns, kids-columns, parents-found, parents-room, families-mean, families-sound}
+use Rattle.wire.proofs.Rowed.{Flat, flats, flat-wide, flat-spells, flat-columns, flat-positive, Wide, Good, found, room-for, each-as, each-clean, rows-again, rows-ready, flat-weighs, flat-grows, listed-sum, Nest, broken-form, breaks, broken-on, broken-spells, nest-tests, families, family-grows, parents-long, parents-wide, parents-columns, kids-columns, parents-found, parents-room, families-mean, families-sound}
 use Rattle.wire.proofs.Heeds.{flat-heeds, broken-heeds}
-use Rattle.wire.proofs.Borne.{Bear, bear-form, bears, meant, bear-spells, bear-columns, bear-grows, bear-heeds, stands, borne-wide, borne-again, borne-ready, borne-found, borne-room}
+use Rattle.wire.proofs.Borne.{Bear, bear-form, bears, meant, bear-spells, bear-again, bear-ready, bear-columns, bear-grows, bear-heeds, stands, borne-wide, borne-found, borne-room}
 use Rattle.frame.specs.Kind.{Lent, Rows, Heeded}
 use Rattle.frame.specs.Claims.{Agree}
 use Rattle.frame.specs.Entry.{needs, total, first, others, filled}
-use Rattle.frame.specs.Body.{RowType, flatRows, familyRows, bearerRows}
+use Rattle.frame.specs.Body.{RowType, tabled, heeding, flatRows, familyRows, bearerRows}
 use Rattle.frame.proofs.Lawful.{Shaped, agrees}
 
 -- rows that were read of the body s
@@ -55,6 +55,18 @@ pub record Lawful-rows {A C : Type 0} (r : RowType A C) : Type 1 where
   pub ready : (s : List ℕ) (l : List A) → Had r codec s l → (more : List Rows) (lent : Lent) → clean (rows (r .acts (filled (r .tables l ++ more) lent) s) 0 (length l)) ≡ true
   pub room : (s : List ℕ) (l : List A) → Had r codec s l → (more : List Rows) (lent : Lent) → length l ≤ length (first (filled (r .tables l ++ more) lent)) / r .columns
   pub columns-so : (s : List ℕ) (l : List A) → Had r codec s l → length s < 65536 → total (needs (r .tables l)) < 65536 → Every (λ (q : Rows). Every (Every Column) (q .rows)) (r .tables l)
+
+-- rows of one table, which may stand in it from any row on; kid is what writing reads of a row
+pub record Leaf {A C : Type 0} (r : RowType A C) (kid : Heeded) : Type 1 where
+  pub lawful : Lawful-rows r
+  pub number : ℕ
+  pub stored : A → List ℕ
+  pub heeded : r .heeded ≡ kid ∷ []
+  pub table : (l : List A) → r .tables l ≡ tabled number (kid .columns) (map stored l) ∷ []
+  pub wide : (s : List ℕ) (l : List A) → Had r (lawful .codec) s l → Every (Wide (kid .columns)) (map stored l)
+  -- a list that was read, in a table that has it from row i on
+  pub laid-at : (s : List ℕ) (l : List A) → Had r (lawful .codec) s l → (lent : Lent) (i : ℕ) → each (λ j. row (kid .columns) (at (kid .columns) (first lent) j)) i (length l) ≡ map stored l → each (r .means lent s) i (length l) ≡ map (lawful .codec .means s) l
+  pub ready-at : (s : List ℕ) (l : List A) → Had r (lawful .codec) s l → (lent : Lent) (i : ℕ) → each (λ j. row (kid .columns) (at (kid .columns) (first lent) j)) i (length l) ≡ map stored l → clean (rows (r .acts lent s) i (length l)) ≡ true
 
 -- ---- plain rows
 
@@ -100,9 +112,6 @@ module _ (t u : ℕ) (nest : Nest) (seen : Columns → Columns) (kept : (x : Fam
 
   abbrev q : RowType Family Family
   q = familyRows t u seen b n l
-
-  abbrev width-positive : Type 0
-  width-positive = 0 < b .width
 
   family-meant : (s : List ℕ) (x : Family) → families nest .means s x ≡ x
   unfolding breaks seen-as flats
@@ -191,13 +200,23 @@ module _ (t : ℕ) (bear : Bear) (seen : Columns → Columns) (kept : (s : List 
       single [] all-nil = all-nil
       single (x ∷ xs) (all-cons a i) = all-cons a (single xs i)
 
-  bears-stand : (s : List ℕ) (xs : List Borne) (behind : List ℕ) → Every (Stood s) xs → each (λ i. row (w .width) (seen (at (w .width) (flatten (map (borneRow w) xs) ++ behind) i))) 0 (length xs) ≡ map (borneRow w) xs
-  bears-stand s xs behind h =
-      each-as (Stood s) (borneRow w) (λ i. row (w .width) (at (w .width) table i)) (λ i. row (w .width) (seen (at (w .width) table i))) (borneRow w)
-      (λ i x e g. ap (row (w .width)) (kept s x (g .0) (at (w .width) table i) (stands bear x (at (w .width) table i) e .on)) ∙ e) 0 (length xs) xs (borne-found bear xs behind) h
-    where
-      table : List ℕ
-      table = flatten (map (borneRow w) xs) ++ behind
+  -- rows in a table that has them from row i on
+  module _ (s : List ℕ) (xs : List Borne) (h : Had v (bears bear) s xs) (table : List ℕ) (i : ℕ) (e : each (λ j. row (w .width) (at (w .width) table j)) i (length xs) ≡ map (borneRow w) xs) where
+    abbrev cols : ℕ → Columns
+    cols j = at (w .width) table j
+
+    as-read : (j : ℕ) (x : Borne) → row (w .width) (cols j) ≡ borneRow w x → Stood s x → seen (cols j) ≡ cols j
+    as-read j x q g = kept s x (g .0) (cols j) (stands bear x (cols j) q .on)
+
+    bears-laid : each (λ j. bearingMeans w s (seen (cols j))) i (length xs) ≡ map (meant bear s) xs
+    bears-laid =
+        each-as (Stood s) (borneRow w) (λ j. row (w .width) (cols j)) (λ j. bearingMeans w s (seen (cols j))) (meant bear s)
+        (λ j x q g. ap (bearingMeans w s) (as-read j x q g) ∙ bear-again bear s x (g .0) (cols j) q) i (length xs) xs e (bears-good h)
+
+    bears-ready : clean (rows (λ j. bearingActs w s (seen (cols j))) i (length xs)) ≡ true
+    bears-ready =
+        each-clean (λ x. Stood s x × Within s (x .1)) (borneRow w) (λ j. row (w .width) (cols j)) (λ j. bearingActs w s (seen (cols j)))
+        (λ j x q g. ap (λ (k : Columns). clean (bearingActs w s k)) (as-read j x q (g .0)) ∙ bear-ready bear s x (g .0) (g .1) (cols j) q) i (length xs) xs e (bears-within h)
 
   pub bearer-lawful : Lawful-rows v
   unfolding bears seen-as filled first others needs total
@@ -209,8 +228,21 @@ module _ (t : ℕ) (bear : Bear) (seen : Columns → Columns) (kept : (s : List 
     heeds = λ hs {lent} {lent′} a. let e = agrees a in record { long = e .long; acts = λ store z i. bear-heeds bear store (seen (at (w .width) (first lent) i)) (seen (at (w .width) (first lent′) i)) (e .same i) z };
     all-there = λ xs. refl;
     grows = λ {k} {at} {l = xs} {bs} k₀. record { shaped = all-cons (borne-wide bear xs) all-nil; few = omega (arith, listed-bound (bearing w) (λ at x bs d. bear-grows bear at x bs d .1) k₀, length-map xs (borneRow w)) };
-    laid = λ s xs h more lent. borne-again bear s xs _ (bears-stand s xs _ (bears-good h)) (every-as (Stood s) (λ x. bears bear .Fits (meant bear s x)) (λ x g. g .0) (bears-good h));
-    ready = λ s xs h more lent. borne-ready bear s xs _ (bears-stand s xs _ (bears-good h)) (bears-within h);
+    laid = λ s xs h more lent. let rs = flatten (map (borneRow w) xs) in let u = drop (length rs) (first lent) in bears-laid s xs h (rs ++ u) 0 (borne-found bear xs u);
+    ready = λ s xs h more lent. let rs = flatten (map (borneRow w) xs) in let u = drop (length rs) (first lent) in bears-ready s xs h (rs ++ u) 0 (borne-found bear xs u);
     room = λ s xs h more lent. borne-room bear xs _;
     columns-so = λ s xs h small few. all-cons (every-map (borneRow w) (Every Column) xs (every-as (λ x. Stood s x × Within s (x .1)) (λ x. Every Column (borneRow w x)) (λ x g. bear-columns bear s x (g .0) (omega (arith, g .1, small)) (omega (arith, g .1, small))) (bears-within h))) all-nil;
+  }
+
+  pub bearer-leaf : Leaf v (heeding (w .width) (λ g. bearingHeeds w (seen g)))
+  unfolding bears seen-as bearer-lawful
+  bearer-leaf = record {
+    lawful = bearer-lawful;
+    number = t;
+    stored = borneRow w;
+    heeded = refl;
+    table = λ xs. refl;
+    wide = λ s xs h. borne-wide bear xs;
+    laid-at = λ s xs h lent i e. bears-laid s xs h (first lent) i e;
+    ready-at = λ s xs h lent i e. bears-ready s xs h (first lent) i e;
   }

@@ -91,8 +91,8 @@ pub data Pieces : Type 0 → Type 0 → Type 1 where
 
 -- one list after the other, as they stand on the page
 infixr 5 _▸_
-abbrev pub _▸_ : {T M U N : Type 0} → (Pieces T M → Pieces U N) → Pieces T M → Pieces U N
-f ▸ p = f p
+abbrev pub _▸_ : {A B : Type 1} → (A → B) → A → B
+f ▸ x = f x
 
 unfoldable pub layouts : {T M : Type 0} → Pieces T M → List Layout
 layouts (last l) = l ∷ []

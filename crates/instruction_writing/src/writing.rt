@@ -27,7 +27,6 @@ use target_loudness::writing::fill_target;
 use target_loudness::writing::flags_hold;
 use target_loudness::writing::target_fits;
 use target_loudness::writing::target_long;
-use wire::bits::fits2;
 use wire::bits::is_flag;
 use wire::pen;
 use wire::pen::Fault;
@@ -170,7 +169,7 @@ fn bare_bytes(t: &[u16], b: usize, additional: &[u16]) -> usize
 {
     let d = DrcInstructions::of_columns(t, b);
     let inside = in_table(d.additional_downmix_ids, additional, ADDITIONAL_COLUMNS);
-    let typed = fits2(t[b], 6, t[b + 2], 1);
+    let typed = two(t[b], 6, t[b + 2], 1) < 65536;
     if inside & typed & fits_all(&settings_bytes(d)) {
         6
     } else {

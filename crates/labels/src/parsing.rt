@@ -1,15 +1,17 @@
-// Reading a list of labels: the reads of the Rust's `parse_entries`, after the byte with the count. One pass measures and touches nothing, one fills table 7.
+// Reading a list of labels: the reads of the Rust's `parse_entries`, after the byte with the count. One pass measures and touches nothing, one takes what was measured and tests nothing.
 ghost use mathlib.Core.Path.{_≡_};
 ghost use mathlib.Core.Bool.{true};
 ghost use mathlib.Core.List.{flatMap};
-ghost use Prim.Native.Nat.{_+_, _*_, _<_, _≤_, _^_};
+ghost use Prim.Native.Nat.{_+_, _*_, _<_, _≤_};
 ghost use lib.ListN.{length};
 ghost use lib.Seq.{sets};
 ghost use Rattle.wire.specs.Prog.{done, run, many};
-ghost use Rattle.wire.specs.Reads.{isDone, posOf, rowsOf, Summed};
+ghost use Rattle.wire.specs.Reads.{mapOut, isDone, posOf, rowsOf, Summed};
+ghost use Rattle.wire.specs.Layout.{bearing, borneRow};
 ghost use Rattle.wire.specs.Nest.{Fillable, Nested};
-ghost use Rattle.labels.specs.Rows.{entryColumns, entryRow, placed};
-ghost use Rattle.labels.specs.Read.{entry, labels};
+ghost use Rattle.labels.specs.Layout.{label};
+ghost use Rattle.labels.specs.Read.{labels};
+ghost use Rattle.labels.specs.Rows.{entryRow, listFrom};
 ghost use Rattle.labels.specs.Contract.{AnyWidth};
 use super::rows::Descriptions;
 use super::rows::ENTRY_COLUMNS;
@@ -18,51 +20,32 @@ use wire::bits::part;
 use wire::bits::wide;
 use wire::reads::Byte;
 use wire::reads::Ends;
-use wire::reads::Run;
 use wire::reads::Sum;
 use wire::reads::byte_at;
-use wire::reads::run_at;
+use wire::reads::bytes_end;
+use wire::reads::head;
 use wire::rows::Range;
 use wire::rows::payload_at;
 use wire::rows::put_row;
 
-// What is known to be there, and the next position.
-struct PlacedEntry {
-    entry: TextLabelEntry,
-    next: usize,
-}
-
-pub struct PlacedList {
-    pub list: Descriptions,
-    pub next: usize,
-}
-
-// ---- measuring
+// ---- measured
 
 // Where an entry ends, whatever the width of its ID.
 fn entry_end(body: &[u8], at: usize) -> Ends
     requires { ⌜ at ≤ length (now body) ⌝ }
-    ensures { λ r. ⌜ AnyWidth entry (now (body .entry)) at r ⌝ }
+    ensures { λ r. ⌜ AnyWidth (λ w. bearing (label w)) (now (body .entry)) at r ⌝ }
 {
-    let a = byte_at(body, at);
-    let Byte::Got(_, n1) = a else {
-        return Ends::Short(a.short());
+    let a = head(body, at, 2);
+    let Ends::At(n) = a else {
+        return a;
     };
-    let b = byte_at(body, n1);
-    let Byte::Got(count, n2) = b else {
-        return Ends::Short(b.short());
-    };
-    let c = run_at(body, n2, count as usize);
-    let Run::Got(_, next) = c else {
-        return Ends::Short(c.short());
-    };
-    Ends::At(next)
+    bytes_end(body, n, wide(body[at + 1]) as usize)
 }
 
 // Where `count` entries end.
-fn entries_end(body: &[u8], at: usize, count: usize) -> Ends
+fn measure_entries(body: &[u8], at: usize, count: usize) -> Ends
     requires { ⌜ at ≤ length (now body) ⌝ }
-    ensures { λ r. ⌜ AnyWidth (λ w. many count (entry w)) (now (body .entry)) at r ⌝ }
+    ensures { λ r. ⌜ AnyWidth (λ w. many count (bearing (label w))) (now (body .entry)) at r ⌝ }
 {
     let mut pos = at;
     let mut left = count;
@@ -87,30 +70,35 @@ pub fn list_rows(body: &[u8], at: usize, w: u32) -> Sum
         return Sum::Short(a.short());
     };
     let count = part(b, 0, w) as usize;
-    let c = entries_end(body, n1, count);
+    let c = measure_entries(body, n1, count);
     let Ends::At(next) = c else {
         return Sum::Short(c.short());
     };
     Sum::Got(count, next)
 }
 
-// ---- filling: nothing is left to test
+// ---- taken, once measured
 
-// An entry that was measured.
-fn entry_at(body: &[u8], at: usize, w: u32) -> PlacedEntry
-    requires { ⌜ (isDone (run (entry w) (now body) at) ≡ true) × (length (now body) < 2 ^ 16) × (w < 8) ⌝ }
-    ensures { λ r. ⌜ done (r .entry) (r .next) ≡ run (entry w) (now (body .entry)) at ⌝ }
+// An entry, and the next position.
+pub struct Placed {
+    pub row: TextLabelEntry,
+    pub next: usize,
+}
+
+pub fn entry_at(body: &[u8], at: usize, w: u32) -> Placed
+    requires { ⌜ (at ≤ length (now body)) × (length (now body) < 65536) × (isDone (run (bearing (label w)) (now body) at) ≡ true) × (w < 8) ⌝ }
+    ensures { λ r. ⌜ done (entryRow (r .row)) (r .next) ≡ mapOut (borneRow (label w)) (run (bearing (label w)) (now (body .entry)) at) ⌝ }
 {
     let b = wide(body[at]);
-    let length = wide(body[at + 1]);
+    let size = wide(body[at + 1]);
     let begins = at + 2;
-    PlacedEntry {
-        entry: TextLabelEntry {
+    Placed {
+        row: TextLabelEntry {
             reserved: part(b, w, 8 - w),
             id: part(b, 0, w),
-            data: payload_at(begins, length),
+            data: payload_at(begins, size),
         },
-        next: begins + (length as usize),
+        next: begins + (size as usize),
     }
 }
 
@@ -123,15 +111,15 @@ fn fill_entries(
     entries: &mut [u16],
     column: usize,
 ) -> usize
-    requires { ⌜ (at ≤ length (now body)) × (isDone (run (many count (entry w)) (now body) at) ≡ true) × (length (now body) < 2 ^ 16) × (w < 8) × (column + entryColumns * count ≤ length (now entries)) ⌝ }
-    ensures { λ r. ⌜ (r ≡ posOf (run (many count (entry w)) (now (body .entry)) at)) × (now (entries .exit) ≡ sets (now (entries .entry)) column (flatMap entryRow (rowsOf (run (many count (entry w)) (now (body .entry)) at)))) ⌝ }
+    requires { ⌜ (at ≤ length (now body)) × (isDone (run (many count (bearing (label w))) (now body) at) ≡ true) × (length (now body) < 65536) × (w < 8) × (column + 4 * count ≤ length (now entries)) ⌝ }
+    ensures { λ r. ⌜ (r ≡ posOf (run (many count (bearing (label w))) (now (body .entry)) at)) × (now (entries .exit) ≡ sets (now (entries .entry)) column (flatMap (borneRow (label w)) (rowsOf (run (many count (bearing (label w))) (now (body .entry)) at)))) ⌝ }
 {
     let mut pos = at;
     let mut left = count;
     let mut to = column;
     while 0 < left {
         let p = entry_at(body, pos, w);
-        let row = p.entry.columns();
+        let row = p.row.columns();
         put_row(entries, to, &row);
         pos = p.next;
         left -= 1;
@@ -140,10 +128,16 @@ fn fill_entries(
     pos
 }
 
+// A list, and the next position.
+pub struct PlacedList {
+    pub list: Descriptions,
+    pub next: usize,
+}
+
 // Stores the entries of a list from row `first` on.
 pub fn fill_list(body: &[u8], at: usize, w: u32, entries: &mut [u16], first: usize) -> PlacedList
-    requires { ⌜ Fillable (labels w) entryColumns (λ d. length (d .entries)) (now body) at first (now entries) × (w < 8) ⌝ }
-    ensures { λ r. ⌜ Nested (labels w) entryColumns placed (λ d. flatMap entryRow (d .entries)) (now (body .entry)) at first (now (entries .entry)) (r .list) (r .next) (now (entries .exit)) ⌝ }
+    requires { ⌜ Fillable (labels w) 4 (λ d. length (d .entries)) (now body) at first (now entries) × (w < 8) ⌝ }
+    ensures { λ r. ⌜ Nested (labels w) 4 listFrom (λ d. flatMap (borneRow (label w)) (d .entries)) (now (body .entry)) at first (now (entries .entry)) (r .list) (r .next) (now (entries .exit)) ⌝ }
 {
     let b = wide(body[at]);
     let count = part(b, 0, w);

@@ -2,7 +2,7 @@
 ghost use mathlib.Core.Path.{_≡_};
 ghost use Prim.Native.Nat.{_+_, _≤_};
 ghost use lib.ListN.{length};
-ghost use Rattle.labels.specs.Rows.{entryColumns, entryRow, entryOf, descriptions, descriptionsOf};
+ghost use Rattle.labels.specs.Rows.{entryRow, entryOf, descriptions, descriptionsOf};
 use wire::bits::ones;
 use wire::bits::wide;
 use wire::ids::GroupId;
@@ -63,7 +63,7 @@ impl TextLabelEntry {
 
     // The row whose first column is `at`.
     pub fn of_columns(table: &[u16], at: usize) -> Self
-        requires { ⌜ at + entryColumns ≤ length (now table) ⌝ }
+        requires { ⌜ at + 4 ≤ length (now table) ⌝ }
         ensures { λ r. ⌜ r ≡ entryOf (now (table .entry)) at ⌝ }
     {
         Self {

@@ -1,82 +1,54 @@
-// Tallying a list of labels: the reads of `parsing` in the same order, the reserved bits at 0 summed on the way.
+// The reserved bits at 0 of a list of labels that was measured: before its count, and before the ID of each entry.
 ghost use mathlib.Core.Path.{_≡_};
-ghost use Prim.Native.Nat.{_*_, _-_, _<_, _≤_};
+ghost use mathlib.Core.Bool.{true};
+ghost use Prim.Native.Nat.{_*_, _<_, _≤_};
 ghost use lib.ListN.{length};
 ghost use Rattle.wire.specs.Lists.{sum};
-ghost use Rattle.wire.specs.Bits.{part, zeros};
-ghost use Rattle.wire.specs.Prog.{many};
-ghost use Rattle.wire.specs.Reads.{Summed};
-ghost use Rattle.labels.specs.Read.{entry, labels};
-ghost use Rattle.labels.specs.Tally.{entryTally, labelsTally};
+ghost use Rattle.wire.specs.Prog.{done, run, many};
+ghost use Rattle.wire.specs.Reads.{mapOut, isDone};
+ghost use Rattle.wire.specs.Layout.{bearing, borneTally};
+ghost use Rattle.labels.specs.Layout.{label};
+ghost use Rattle.labels.specs.Read.{labels};
+ghost use Rattle.labels.specs.Contract.{labelsTally};
+use super::parsing::entry_at;
+use wire::bits::idle_bits;
 use wire::bits::part;
-use wire::bits::zero_bits;
-use wire::reads::Byte;
-use wire::reads::Run;
-use wire::reads::Sum;
-use wire::reads::byte_at;
-use wire::reads::run_at;
+use wire::bits::wide;
 
-// Of the bits above the lowest `w` of a byte.
-pub fn zeros_above(b: u16, w: u32) -> usize
-    requires { ⌜ w < 8 ⌝ }
-    ensures { λ r. ⌜ (r ≡ zeros (8 - w) (part w (8 - w) b)) × (r ≤ 8) ⌝ }
-{
-    zero_bits(part(b, w, 8 - w), 8 - w) as usize
+// What was summed, and the next position.
+pub struct Tally {
+    pub zeros: u32,
+    pub next: usize,
 }
 
-// Of an entry whose ID has `w` bits.
-fn entry_zeros(body: &[u8], at: usize, w: u32) -> Sum
-    requires { ⌜ (at ≤ length (now body)) × (w < 8) ⌝ }
-    ensures { λ r. ⌜ Summed (entry w) (entryTally w) 8 (now (body .entry)) at r ⌝ }
-{
-    let a = byte_at(body, at);
-    let Byte::Got(x, n1) = a else {
-        return Sum::Short(a.short());
-    };
-    let b = byte_at(body, n1);
-    let Byte::Got(count, n2) = b else {
-        return Sum::Short(b.short());
-    };
-    let c = run_at(body, n2, count as usize);
-    let Run::Got(_, next) = c else {
-        return Sum::Short(c.short());
-    };
-    Sum::Got(zeros_above(x, w), next)
-}
-
-// Of `count` entries.
-fn entries_zeros(body: &[u8], at: usize, count: usize, w: u32) -> Sum
-    requires { ⌜ (at ≤ length (now body)) × (w < 8) × (count < 256) ⌝ }
-    ensures { λ r. ⌜ Summed (many count (entry w)) (sum (entryTally w)) (8 * count) (now (body .entry)) at r ⌝ }
+// Of `count` entries whose IDs have `w` bits.
+fn tally_entries(body: &[u8], at: usize, count: usize, w: u32) -> Tally
+    requires { ⌜ (at ≤ length (now body)) × (length (now body) < 65536) × (isDone (run (many count (bearing (label w))) (now body) at) ≡ true) × (w < 8) × (count < 128) ⌝ }
+    ensures { λ r. ⌜ (done (r .zeros) (r .next) ≡ mapOut (sum (borneTally (label w))) (run (many count (bearing (label w))) (now (body .entry)) at)) × (r .zeros ≤ 8 * count) ⌝ }
 {
     let mut pos = at;
     let mut left = count;
-    let mut zeros = 0;
+    let mut zeros: u32 = 0;
     while 0 < left {
-        let a = entry_zeros(body, pos, w);
-        let Sum::Got(n, next) = a else {
-            return a;
-        };
-        zeros += n;
-        pos = next;
+        let p = entry_at(body, pos, w);
+        zeros += idle_bits(p.row.reserved, 8 - w);
+        pos = p.next;
         left -= 1;
     }
-    Sum::Got(zeros, pos)
+    Tally { zeros, next: pos }
 }
 
 // Of a list whose IDs have `w` bits.
-pub fn list_zeros(body: &[u8], at: usize, w: u32) -> Sum
-    requires { ⌜ (at ≤ length (now body)) × (w < 8) ⌝ }
-    ensures { λ r. ⌜ Summed (labels w) (labelsTally w) 1024 (now (body .entry)) at r ⌝ }
+pub fn tally_list(body: &[u8], at: usize, w: u32) -> Tally
+    requires { ⌜ (at ≤ length (now body)) × (length (now body) < 65536) × (isDone (run (labels w) (now body) at) ≡ true) × (w < 8) ⌝ }
+    ensures { λ r. ⌜ (done (r .zeros) (r .next) ≡ mapOut (labelsTally w) (run (labels w) (now (body .entry)) at)) × (r .zeros ≤ 1024) ⌝ }
 {
-    let a = byte_at(body, at);
-    let Byte::Got(b, n1) = a else {
-        return Sum::Short(a.short());
-    };
+    let b = wide(body[at]);
     let count = part(b, 0, w) as usize;
-    let c = entries_zeros(body, n1, count, w);
-    let Sum::Got(zeros, next) = c else {
-        return c;
-    };
-    Sum::Got(zeros_above(b, w) + zeros, next)
+    let t = tally_entries(body, at + 1, count, w);
+    let before = idle_bits(part(b, w, 8 - w), 8 - w);
+    Tally {
+        zeros: before + t.zeros,
+        next: t.next,
+    }
 }

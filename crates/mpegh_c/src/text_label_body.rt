@@ -3,7 +3,7 @@ ghost use mathlib.Core.Path.{_≡_};
 ghost use mathlib.Core.List.{[], _∷_};
 ghost use Rattle.wire.specs.Prog.{span};
 ghost use Rattle.text_label.specs.Rows.{topColumns, topRow};
-ghost use Rattle.text_label.specs.Write.{kind};
+ghost use Rattle.text_label.specs.Kind.{kind};
 ghost use Rattle.mpegh_c.specs.Code.{answerCode};
 ghost use Rattle.mpegh_c.specs.Host.{unread, HostReads, HostMeasures, HostTallies, HostWrites};
 use super::codes;

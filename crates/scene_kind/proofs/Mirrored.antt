@@ -3,13 +3,14 @@ use Prim.Native.Nat.{ℕ}
 use mathlib.Core.Path.{_≡_, refl, sym, _∙_}
 use mathlib.Core.List.{List, [], _∷_, _++_}
 use mathlib.Core.Bool.{Bool, true, false}
-use lib.ListN.{getD, drop}
+use lib.ListN.{getD}
 use lib.Dec.{eqb}
 use Rattle.wire.specs.Lists.{each}
 use Rattle.wire.specs.Bits.{part, total, split}
 use Rattle.wire.specs.Prog.{Prog, ret, look, u8, bytes, many, _>>=_}
 use Rattle.wire.specs.Act.{pick}
 use Rattle.wire.specs.Layout.{end, one, optional, num, reserved, flag, Columns, of, blank, put, puts, reads, row, flat, broken, Family}
+use Rattle.wire.proofs.Lists.{second, third}
 use Rattle.wire.proofs.Runs.{bind-assoc}
 use Rattle.frame.specs.Body.{parse}
 use Rattle.scene_groups.specs.Layout as G
@@ -30,14 +31,6 @@ none n = each blank 0 n
 
 abbrev row27 : Columns → Prog (List ℕ)
 row27 g = ret (row 27 g)
-
-second : (l : List ℕ) → getD (drop 1 l) 0 0 ≡ getD l 1 0
-second [] = refl
-second (x ∷ l) = refl
-
-third : (l : List ℕ) → getD (drop 1 (drop 1 l)) 0 0 ≡ getD l 2 0
-third [] = refl
-third (x ∷ l) = second l
 
 language-so : (F : Columns) → each F 24 3 ≡ none 3 → reads (optional 23 G.language end) F >>= row27 ≡ given (F 23) 3 R.language >>= λ l. ret (each F 0 24 ++ l)
 unfolding reads puts put split total R.language bytes _>>=_ each

@@ -6,17 +6,16 @@ use Rattle.wire.proofs.Lists.{every-each}
 use Rattle.wire.specs.Bits.{split, total}
 use Rattle.wire.specs.Layout.{put, puts, reads, shown, cells, tally, has}
 use Rattle.wire.specs.Lists.{each, sum, firsts}
-use Rattle.wire.specs.Prog.{run, u8, bytes, pass, many, _>>=_}
+use Rattle.wire.specs.Prog.{run, u8, pass, many, _>>=_}
 use Rattle.frame.specs.Entry.{onto, into, needs, first, others, room, lacking, filled, judging, placing, reading, tallying}
 use Rattle.frame.specs.Body as Body
+use Rattle.frame.specs.Ranges.{ranged}
 use Rattle.base.specs.Layout as BaseLayout
 use Rattle.base.specs.Kind as Base
 use Rattle.scene_kind.specs.Layout as SceneLayout
 use Rattle.scene_kind.specs.Kind as Scene
-use Rattle.labels.specs.Read as LabelsRead
-use Rattle.text_label.specs.Rows as TextLabelRows
-use Rattle.text_label.specs.Read as TextLabelRead
-use Rattle.text_label.specs.Write as TextLabel
+use Rattle.text_label.specs.Layout as TextLabelLayout
+use Rattle.text_label.specs.Kind as TextLabel
 use Rattle.stream_groups.specs.Layout as StreamGroups
 use Rattle.multi_stream.specs.Layout as MultiStreamLayout
 use Rattle.multi_stream.specs.Kind as MultiStream
@@ -28,7 +27,7 @@ use Rattle.drc_kind.specs.Kind as Drc
 use Rattle.starred.specs.Starred.{Holds, starred as stars, Starred}
 
 pub starred : Starred
-unfolding reading tallying onto into judging placing run u8 bytes pass many _>>=_ needs first others room lacking filled flatten flatMap sum firsts ones onesIn Base.kind BaseLayout.head each split total put puts reads shown cells tally SceneLayout.groups SceneLayout.switchGroups SceneLayout.presets Body.layouts Body.carried Body.parse Body.placed Body.tables Body.zeros Scene.kind TextLabel.kind TextLabelRows.tables TextLabelRows.languageAs TextLabelRead.parse TextLabelRead.language LabelsRead.labels LabelsRead.entry MultiStream.kind MultiStreamLayout.head StreamGroups.group has Scopes.scope Pairs.pair Downmixes.downmix DrcLayout.head Drc.kind
+unfolding reading tallying onto into judging placing run u8 pass many _>>=_ needs first others room lacking filled flatten flatMap sum firsts ones onesIn Base.kind BaseLayout.head each split total put puts reads shown cells tally SceneLayout.groups SceneLayout.switchGroups SceneLayout.presets Body.layouts Body.carried Body.parse Body.placed Body.tables Body.zeros Scene.kind TextLabel.kind TextLabelLayout.head TextLabelLayout.groups TextLabelLayout.switchGroups TextLabelLayout.presets ranged MultiStream.kind MultiStreamLayout.head StreamGroups.group has Scopes.scope Pairs.pair Downmixes.downmix DrcLayout.head Drc.kind
 starred = record {
   all = every-each Holds stars (
     record { reads = refl; tallies = refl },

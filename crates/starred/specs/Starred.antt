@@ -15,7 +15,7 @@ use Rattle.scene.proofs.Bodies.{noSections, noGroups, oneMember, oneSwitchGroup
 use Rattle.scene_kind.specs.Kind as Scene
 use Rattle.text_label.specs.declared.rows.MpegH3dAudioTextLabel.{MpegH3dAudioTextLabel}
 use Rattle.text_label.proofs.Bodies.{onePreset, english, preset2}
-use Rattle.text_label.specs.Write as TextLabel
+use Rattle.text_label.specs.Kind as TextLabel
 use Rattle.multi_stream.specs.declared.rows.MpegH3dAudioMultiStream.{MpegH3dAudioMultiStream}
 use Rattle.multi_stream.proofs.Bodies.{twoGroups, twoRows}
 use Rattle.multi_stream.specs.Kind as MultiStream

@@ -1,6 +1,6 @@
 -- The declared row of table 8 as columns and from its table, the rows that its constructors make, and the bytes of its layout.
 use Prim.Native.Nat.{ℕ, _+_}
-use mathlib.Core.List.{List, [], _∷_, _++_}
+use mathlib.Core.List.{List, [], _∷_}
 use lib.ListN.{getD}
 use Rattle.wire.specs.Layout.{Cell, num, flag, Columns, of}
 use Rattle.wire.specs.declared.ids.GroupId.{GroupId}

@@ -1,26 +1,29 @@
 -- What is claimed of the text label body: every claim of every kind (frame, specs/Claims), and the few that matter most spelled out for its record and tables 6 and 7.
-use Prim.Native.Nat.{ℕ, _+_, _/_, _≤_, _<_}
+use Prim.Native.Nat.{ℕ, _+_, _*_, _/_, _≤_, _<_}
 use mathlib.Core.Path.{_≡_, refl, sym, ap, subst, _∙_}
 use mathlib.Core.List.{List, [], _∷_, _++_, map, flatten, flatMap}
 use mathlib.Core.Logic.{_↔_}
 use native.Mathlib.Omega.{arith}
 use native.Mathlib.Nat.{add-zero, zero-add}
-use lib.ListN.{length, getD, drop, length-append, length-map}
+use lib.ListN.{length, getD, drop, length-append}
 use lib.Dec.{lit<}
 use lib.Count.{ones, onesIn}
-use Rattle.wire.specs.Lists.{Every, each, sum, firsts, Byte}
+use Rattle.wire.specs.Lists.{Every, all-nil, all-cons, each, sum, firsts, Byte}
+use Rattle.wire.specs.Bits.{split, total}
+use Rattle.wire.specs.Prog.{run, u8, pass, many, _>>=_}
+use Rattle.wire.specs.Layout.{of, reads, put, puts, shown, cells, tally}
 use Rattle.wire.proofs.Lists.{every-each}
-use Rattle.wire.specs.Prog.{run, u8, bytes, pass, many, _>>=_}
 use Rattle.frame.specs.Kind.{Lent}
 use Rattle.frame.specs.Numbers.{accepted, refuses}
-use Rattle.frame.specs.Entry.{no-room, leaves, onto, into, Sizes, Need, needs, lacking, room, first, others, filled, judging, sizes, placing, reading, measuring, tallying, gives, trail, writing}
+use Rattle.frame.specs.Entry.{leaves, onto, into, Sizes, Need, needs, lacking, room, first, others, filled, judging, sizes, placing, reading, measuring, tallying, gives, trail, writing}
+use Rattle.frame.specs.Body.{layouts, parse, placed, tables, zeros}
+use Rattle.frame.specs.Ranges.{ranged, rangedRow}
 use Rattle.frame.specs.Claims.{Lowest, this, later, Claims, Fixed}
 use Rattle.frame.proofs.Numbers.{refused-back, answer-by, fixes}
-use Rattle.frame.proofs.Judged.{was, measured as was-measured}
+use Rattle.frame.proofs.Judged.{was, ran-well, measured as was-measured}
 use Rattle.frame.proofs.Lawful.{Samples}
 use Rattle.frame.proofs.Tables.{rowsAt}
 use Rattle.frame.proofs.Proofs as P
-use Rattle.labels.specs.declared.rows.TextLabelEntry.{TextLabelEntry}
 use Rattle.text_label.specs.declared.rows.TextLabelLanguage.{TextLabelLanguage}
 use Rattle.text_label.specs.declared.rows.MpegH3dAudioTextLabel.{MpegH3dAudioTextLabel}
 use Rattle.text_label.specs.declared.Sizes as Label
@@ -28,19 +31,17 @@ use Rattle.text_label.specs.declared.Reading.{Reading}
 use Rattle.text_label.specs.declared.Reading.the-variants as R
 use Rattle.text_label.specs.declared.Measured.{Measured}
 use Rattle.text_label.specs.declared.Measured.the-variants as M
-use Rattle.labels.specs.Rows.{entryColumns, entryRow}
-use Rattle.text_label.specs.Rows.{languageColumns, languageRow, Language, entriesOf, entriesIn, languageAs, languageRows, tables}
-use Rattle.labels.specs.Read.{entry, labels}
-use Rattle.text_label.specs.Read.{language, parse}
+use Rattle.text_label.specs.Layout.{head, groups, switchGroups, presets}
+use Rattle.text_label.specs.Rows.{languageOf, Language}
+use Rattle.text_label.specs.Kind.{lists, entriesOf, kind}
+use Rattle.text_label.specs.Contract.{needed, sized, read, measured, languageFrom}
 use Rattle.text_label.proofs.Bodies.{onePreset, english, preset2, noLanguages}
-use Rattle.text_label.specs.Write.{languageAt, value, kind}
-use Rattle.text_label.specs.Contract.{needed, sized, read, measured}
-use Rattle.text_label.proofs.Parsed.{entries-long}
-use Rattle.text_label.proofs.Found.{rows-counted, languages-found}
-use Rattle.text_label.proofs.Laws.{lawful}
+use Rattle.text_label.proofs.Lawful.{lawful}
+use Rattle.text_label.proofs.Parsed.{entries-long, body-run}
+use Rattle.text_label.proofs.Found.{Counted, all-counted, rowsFrom, rows-counted, languages-found}
 
 samples : Samples kind
-unfolding reading into judging placing run measuring onto sizes tallying kind parse language labels entry many u8 bytes pass _>>=_ tables languageAs firsts flatMap sum ones onesIn needs lacking room first others filled flatten
+unfolding reading into judging placing run measuring onto sizes tallying kind parse reads put puts split total _>>=_ many u8 pass head groups switchGroups presets tables zeros tally shown sum ones onesIn needs lacking room first others filled flatten flatMap firsts each cells placed layouts ranged
 samples = record {
   lent = (9 ∷ 9 ∷ 9 ∷ 9 ∷ 9 ∷ 9 ∷ 9 ∷ 9 ∷ 9 ∷ 9 ∷ 9 ∷ 9 ∷ 9 ∷ []) ∷ (9 ∷ 9 ∷ 9 ∷ 9 ∷ 9 ∷ []) ∷ [];
   one = 0x07 ∷ 0xF1 ∷ 0x65 ∷ 0x6E ∷ 0x67 ∷ 0x80 ∷ 0xE0 ∷ 0xE1 ∷ 0xE2 ∷ 0x02 ∷ 0x48 ∷ 0x69 ∷ [];
@@ -82,23 +83,23 @@ same-bytes body languages entries languages′ entries′ out m b e l = claims .
 -- two bodies that agree in the Rust's structs, labels by their bytes, and in the trailing bytes are one body
 pub one-body : (body body′ : List ℕ) (lent lent′ after after′ : Lent) (m m′ : MpegH3dAudioTextLabel) → Every Byte body → Every Byte body′
     → reading kind body lent ≡ leaves (accepted m) after → reading kind body′ lent′ ≡ leaves (accepted m′) after′
-    → value m after body ≡ value m′ after′ body′ → trail kind m body ≡ trail kind m′ body′ → body ≡ body′
+    → kind .value m after body ≡ kind .value m′ after′ body′ → trail kind m body ≡ trail kind m′ body′ → body ≡ body′
 unfolding kind
 one-body body body′ lent lent′ after after′ m m′ b b′ e e′ v t = claims .round .apart body body′ lent lent′ m m′ after after′ b b′ e e′ (λ i. record { value = v i; trailing = t i })
 
 -- 3 is given exactly if the body is otherwise accepted and a table has fewer rows than it needs; it names table 6 if that is short, else table 7, and the rows
 pub data Lacks (languages entries : List ℕ) (l n : ℕ) : ℕ → ℕ → Type 0 where
-  in-languages : length languages / languageColumns < l → Lacks languages entries l n 6 l
-  in-entries : l ≤ length languages / languageColumns → length entries / entryColumns < n → Lacks languages entries l n 7 n
+  in-languages : length languages / 12 < l → Lacks languages entries l n 6 l
+  in-entries : l ≤ length languages / 12 → length entries / 4 < n → Lacks languages entries l n 7 n
 
 nothing : {ns : List Need} {lent : Lent} {t r : ℕ} → Lowest ns lent t r → ns ≡ [] → ⊥
 nothing (this h) e = let z : _≡_ {A = ℕ} 0 1 = cc e in omega arith
 nothing (later h d) e = let z : _≡_ {A = ℕ} 0 1 = cc e in omega arith
 
 abbrev need7 : ℕ → Need
-need7 n = record { number = 7; columns = entryColumns; rows = n }
+need7 n = record { number = 7; columns = 4; rows = n }
 
-low-entries : (languages entries : List ℕ) (l n : ℕ) {t r : ℕ} → l ≤ length languages / languageColumns → Lowest (need7 n ∷ []) (entries ∷ []) t r → Lacks languages entries l n t r
+low-entries : (languages entries : List ℕ) (l n : ℕ) {t r : ℕ} → l ≤ length languages / 12 → Lowest (need7 n ∷ []) (entries ∷ []) t r → Lacks languages entries l n t r
 unfolding room first
 low-entries languages entries l n h (this k) = in-entries h k
 low-entries languages entries l n h (later k d) = absurd (nothing d refl)
@@ -117,8 +118,9 @@ sized-so : (body : List ℕ) (z : Sizes) → measuring kind body ≡ accepted z 
 unfolding sizes kind tables needs
 sized-so body z e =
     let (s, j, q) = was-measured kind body z e in
-    let l = length (map languageRow (languageRows (s .tree .languages))) in
-    let n = length (map entryRow (entriesIn (s .tree .languages))) in
+    let ls = s .tree .1 .0 in
+    let l = length (map (rangedRow 12 lists) (firsts (λ (l : Language). length (entriesOf l)) 0 ls)) in
+    let n = length (flatMap entriesOf ls) in
     (l, n, sym (subst (λ (z : Sizes). sized l n (z .before) ≡ z) q refl))
 
 pub lacks-room : (body languages entries : List ℕ) (t r : ℕ)
@@ -141,32 +143,38 @@ pub data RunsOn : ℕ → List TextLabelLanguage → ℕ → Type 0 where
       → l .presets .entries .first ≡ n + l .groups .entries .count + l .«switch_groups» .entries .count
       → RunsOn (n + l .groups .entries .count + l .«switch_groups» .entries .count + l .presets .entries .count) ls m → RunsOn n (l ∷ ls) m
 
-runs-on : (n : ℕ) (ls : List (Language TextLabelEntry)) → RunsOn n (map (λ (q : ℕ × Language TextLabelEntry). languageAs (q .0) (q .1)) (firsts (λ l. length (entriesOf l)) n ls)) (n + length (entriesIn ls))
-unfolding firsts flatMap languageAs
-runs-on n [] = rw add-zero ended
-runs-on n (l ∷ ls) =
-    let e : n + length (entriesOf l) ≡ n + length (l .groups .entries) + length (l .«switch_groups» .entries) + length (l .presets .entries) = omega (arith, entries-long l) in
-    let k : n + length (entriesOf l) + length (entriesIn ls) ≡ n + length (entriesOf l ++ entriesIn ls) = omega (arith, length-append (entriesOf l) (entriesIn ls)) in
-    one-more refl refl refl (subst (λ (i : ℕ). RunsOn i (map (λ (q : ℕ × Language TextLabelEntry). languageAs (q .0) (q .1)) (firsts (λ l. length (entriesOf l)) (n + length (entriesOf l)) ls)) (n + length (entriesOf l ++ entriesIn ls))) e
-    (subst (RunsOn (n + length (entriesOf l)) (map (λ (q : ℕ × Language TextLabelEntry). languageAs (q .0) (q .1)) (firsts (λ l. length (entriesOf l)) (n + length (entriesOf l)) ls))) k (runs-on (n + length (entriesOf l)) ls)))
+abbrev languagesFrom : ℕ → List Language → List TextLabelLanguage
+languagesFrom n ls = map (λ (q : ℕ × Language). languageFrom (q .0) (q .1)) (firsts (λ l. length (entriesOf l)) n ls)
+
+-- the counts of a language that was read are those of its lists
+runs-on : (n : ℕ) (ls : List Language) → Every Counted ls → RunsOn n (languagesFrom n ls) (n + length (flatMap entriesOf ls))
+unfolding firsts flatMap ranged each
+runs-on n [] all-nil = rw add-zero ended
+runs-on n (l ∷ ls) (all-cons c h) =
+    let e : n + length (entriesOf l) ≡ n + getD (l .0) 5 0 + getD (l .0) 8 0 + getD (l .0) 11 0 = omega (arith, entries-long l, c .groups, c .switch-groups, c .presets) in
+    let k : n + length (entriesOf l) + length (flatMap entriesOf ls) ≡ n + length (entriesOf l ++ flatMap entriesOf ls) = omega (arith, length-append (entriesOf l) (flatMap entriesOf ls)) in
+    let r = subst (RunsOn (n + length (entriesOf l)) (languagesFrom (n + length (entriesOf l)) ls)) k (runs-on (n + length (entriesOf l)) ls h) in
+    one-more {l = languageFrom n l} refl (omega (arith, c .groups)) (omega (arith, c .groups, c .switch-groups)) (subst (λ (i : ℕ). RunsOn i (languagesFrom (n + length (entriesOf l)) ls) (n + length (entriesOf l ++ flatMap entriesOf ls))) e r)
 
 -- of tables that were read: the rows of table 6 have their entries in table 7 from its front on, and none between; as many rows as measuring counts
 pub read-tables : (body languages entries languages′ entries′ : List ℕ) (m : MpegH3dAudioTextLabel) → reading kind body (languages ∷ entries ∷ []) ≡ leaves (accepted m) (languages′ ∷ entries′ ∷ [])
-    → (rows : ℕ) × (k : ℕ) × (measuring kind body ≡ accepted (sized (m .languages) rows k)) × RunsOn 0 (each (languageAt languages′) 0 (m .languages)) rows
-unfolding kind filled tables first others measuring onto sizes needs
+    → (rows : ℕ) × (k : ℕ) × (measuring kind body ≡ accepted (sized (m .languages) rows k)) × RunsOn 0 (each (λ i. languageOf languages′ (i * 12)) 0 (m .languages)) rows
+unfolding kind filled tables first others measuring onto sizes needs placed each
 read-tables body languages entries languages′ entries′ m e =
     let w = was kind body (languages ∷ entries ∷ []) m (languages′ ∷ entries′ ∷ []) e in
-    let ls = w .sound .tree .languages in
-    let n = ap (λ (m : MpegH3dAudioTextLabel). m .languages) (w .top-is) in
-    let x = flatten (map languageRow (languageRows ls)) in
+    let ls = w .sound .tree .1 .0 in
+    let b = body-run body (ran-well kind body (w .sound) (w .judges) .reads) in
+    let count = length (flatMap entriesOf ls) in
+    let x = flatten (rowsFrom ls) in
+    let n : length ls ≡ m .languages = b .counted ∙ sym (ap (λ (r : List ℕ). getD r 2 0) (b .is)) ∙ ap (λ (m : MpegH3dAudioTextLabel). m .languages) (w .top-is) in
     let a : x ++ drop (length x) languages ≡ languages′ = ap (λ (l : Lent). first l) (w .after-is) in
-    let r : RunsOn 0 (languageRows ls) (length (entriesIn ls)) = subst (RunsOn 0 (languageRows ls)) (zero-add (length (entriesIn ls))) (runs-on 0 ls) in
-    let q : languageRows ls ≡ each (languageAt languages′) 0 (length ls) = sym (languages-found ls (drop (length x) languages)) ∙ ap (λ (t : List ℕ). each (languageAt t) 0 (length ls)) a in
-    let z : measuring kind body ≡ accepted (sized (length ls) (length (entriesIn ls)) (w .sound .before)) = ap (onto (sizes kind)) (w .judges) ∙ λ i. accepted (sized (rows-counted ls i) (length-map (entriesIn ls) entryRow i) (w .sound .before)) in (
-      length (entriesIn ls),
+    let r : RunsOn 0 (languagesFrom 0 ls) count = subst (RunsOn 0 (languagesFrom 0 ls)) (zero-add count) (runs-on 0 ls (all-counted body b)) in
+    let q : languagesFrom 0 ls ≡ each (λ i. languageOf languages′ (i * 12)) 0 (length ls) = sym (languages-found ls (drop (length x) languages)) ∙ ap (λ (t : List ℕ). each (λ i. languageOf t (i * 12)) 0 (length ls)) a in
+    let z : measuring kind body ≡ accepted (sized (length ls) count (w .sound .before)) = ap (onto (sizes kind)) (w .judges) ∙ λ i. accepted (sized (rows-counted ls i) count (w .sound .before)) in (
+      count,
       w .sound .before,
-      subst (λ (c : ℕ). measuring kind body ≡ accepted (sized c (length (entriesIn ls)) (w .sound .before))) n z,
-      subst (λ (c : ℕ). RunsOn 0 (each (languageAt languages′) 0 c) (length (entriesIn ls))) n (subst (λ (l : List TextLabelLanguage). RunsOn 0 l (length (entriesIn ls))) q r),
+      subst (λ (c : ℕ). measuring kind body ≡ accepted (sized c count (w .sound .before))) n z,
+      subst (λ (c : ℕ). RunsOn 0 (each (λ i. languageOf languages′ (i * 12)) 0 c) count) n (subst (λ (l : List TextLabelLanguage). RunsOn 0 l count) q r),
     )
 
 -- ---- the promises fix the answers themselves

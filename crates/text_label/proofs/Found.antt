@@ -1,79 +1,72 @@
--- Rows of tables 6 and 7 that were stored are found again: as many as the languages, each with its own entries.
-use Prim.Native.Nat.{ℕ, _+_}
-use mathlib.Core.Path.{_≡_, refl, sym, ap, _∙_}
-use mathlib.Core.List.{List, _++_, map, map-map, flatten}
-use lib.ListN.{length, getD, drop, length-map}
-use lib.Seq.{getD-append-seam, getD-append-add}
-use Rattle.wire.specs.Lists.{Every, each, firsts}
-use Rattle.wire.proofs.Lists.{every-as}
-use Rattle.wire.proofs.Tables.{each-map, rows-found}
-use Rattle.wire.proofs.Nest.{firsts-length, map-firsts, stands-split, stand}
-use Rattle.labels.specs.declared.rows.TextLabelEntry.{TextLabelEntry}
-use Rattle.labels.proofs.Found.{entry-found, list-found, Standing, list-laid}
-use Rattle.text_label.specs.declared.rows.TextLabelLanguage.{TextLabelLanguage}
-use Rattle.labels.specs.Rows.{entryColumns, entryRow, entryOf}
-use Rattle.text_label.specs.Rows.{letters, languageColumns, languageRow, languageOf, Language, entriesOf, entriesIn, languageAs, languageRows}
-use Rattle.text_label.specs.Write.{languageAt, languageValue}
-use Rattle.text_label.proofs.Format.{languageMeant}
+-- The rows of tables 6 and 7 of a body that was read: how many there are, that the counts of a language are those of its lists, and that the declared rows are found again in their table.
+use Prim.Native.Nat.{ℕ, zero, suc, _*_, _-_}
+use mathlib.Core.Path.{_≡_, sym, ap, subst, _∙_}
+use mathlib.Core.List.{List, [], _∷_, _++_, map, flatten}
+use native.Mathlib.Omega.{arith}
+use lib.ListN.{length, getD, length-map}
+use Rattle.wire.specs.Lists.{Every, all-nil, all-cons, each, firsts}
+use Rattle.wire.specs.Prog.{done, run, many}
+use Rattle.wire.specs.Layout.{of, at, row}
+use Rattle.wire.proofs.Nest.{firsts-length}
+use Rattle.wire.proofs.Loops.{many-next, many-none}
+use Rattle.wire.proofs.Rowed.{Wide, each-as, each-wide, found}
+use Rattle.frame.specs.Ranges.{ranged, rangedRow}
+use Rattle.text_label.specs.Rows.{languageOf, Language, TextLabel}
+use Rattle.text_label.specs.Read.{language}
+use Rattle.text_label.specs.Kind.{lists, entriesOf}
+use Rattle.text_label.specs.Contract.{languageFrom}
+use Rattle.text_label.proofs.Mirrored.{languageAt, columns-so}
+use Rattle.text_label.proofs.Parsed.{list-run, language-run, BodyRun}
 
--- ---- a row
+-- ---- the counts of a language
 
-pub language-found : (l : TextLabelLanguage) (before behind : List ℕ) → languageOf (before ++ (languageRow l ++ behind)) (length before) ≡ l
-language-found l before behind =
-    let s : List ℕ = languageRow l ++ behind in
-    let c : letters (getD (before ++ s) (length before) 0) (getD (before ++ s) (length before + 1) 0) (getD (before ++ s) (length before + 2) 0) ≡ l .language =
-    rw (getD-append-seam before (l .language .0) (drop 1 s) 0, getD-append-add before s 1 0, getD-append-add before s 2 0) refl in
-    λ i. record { language = c i; groups = list-found before s 3 i; «switch_groups» = list-found before s 6 i; presets = list-found before s 9 i }
+pub record Counted (l : Language) : Type 0 where
+  pub groups : getD (l .0) 5 0 ≡ length (l .1 .0)
+  pub switch-groups : getD (l .0) 8 0 ≡ length (l .1 .1 .0)
+  pub presets : getD (l .0) 11 0 ≡ length (l .1 .1 .1 .0)
 
--- ---- all rows
+pub counted : (s : List ℕ) (at : ℕ) {l : Language} {m : ℕ} → run language s at ≡ done l m → Counted l
+counted s at e =
+    let r = language-run s at e in
+    subst Counted (sym (r .is)) (record { groups = list-run 7 s _ (r .groups-read) .counted; switch-groups = list-run 5 s _ (r .switch-groups-read) .counted; presets = list-run 5 s _ (r .presets-read) .counted })
 
-pub rows-counted : (ls : List (Language TextLabelEntry)) → length (map languageRow (languageRows ls)) ≡ length ls
-rows-counted ls = length-map (languageRows ls) languageRow ∙ length-map (firsts (λ l. length (entriesOf l)) 0 ls) (λ q. languageAs (q .0) (q .1)) ∙ firsts-length (λ l. length (entriesOf l)) 0 ls
+-- of all that a loop read
+many-counted : (s : List ℕ) (k at : ℕ) (ls : List Language) {m : ℕ} → run (many k language) s at ≡ done ls m → Every Counted ls
+many-counted s zero at ls e = subst (Every Counted) (sym (many-none language s 0 at (omega arith) e .0)) all-nil
+many-counted s (suc k) at ls e =
+    let n = many-next language s (suc k) at (omega arith) e in
+    let j : suc k - 1 ≡ k = omega arith in
+    subst (Every Counted) (sym (n .is)) (all-cons (counted s at (n .reads)) (many-counted s k (n .middle) (n .rest) (ap (λ (i : ℕ). run (many i language) s (n .middle)) (sym j) ∙ n .goes-on)))
+
+pub all-counted : (s : List ℕ) {t : TextLabel} {k : ℕ} → BodyRun s t k → Every Counted (t .1 .0)
+all-counted s {t} b = many-counted s _ 2 (t .1 .0) (b .reads)
+
+-- ---- the rows of table 6
+
+abbrev pub sizeOf : Language → ℕ
+sizeOf l = length (entriesOf l)
+
+abbrev pub rowsFrom : List Language → List (List ℕ)
+rowsFrom ls = map (rangedRow 12 lists) (firsts sizeOf 0 ls)
+
+pub rows-counted : (ls : List Language) → length (rowsFrom ls) ≡ length ls
+rows-counted ls = length-map (firsts sizeOf 0 ls) (rangedRow 12 lists) ∙ firsts-length sizeOf 0 ls
+
+pub rows-wide : (ls : List Language) → Every (Wide 12) (rowsFrom ls)
+rows-wide ls = each-wide 12 (λ (q : ℕ × Language). ranged lists (q .0) (q .1 .1) (of (q .1 .0))) (firsts sizeOf 0 ls)
+
+-- the declared row with the columns of a row
+row-is : (t : List ℕ) (i : ℕ) (r : List ℕ) → row 12 (at 12 t i) ≡ r → languageOf t (i * 12) ≡ languageOf r 0
+unfolding each
+row-is t i r e = sym (columns-so t (i * 12)) ∙ ap (λ (r : List ℕ). languageAt (of r)) e ∙ columns-so r 0
 
 -- table 6, whatever stands behind its rows
-pub languages-found : (ls : List (Language TextLabelEntry)) (behind : List ℕ) → each (languageAt (flatten (map languageRow (languageRows ls)) ++ behind)) 0 (length ls) ≡ languageRows ls
+pub languages-found : (ls : List Language) (behind : List ℕ) → each (λ i. languageOf (flatten (rowsFrom ls) ++ behind) (i * 12)) 0 (length ls) ≡ map (λ (q : ℕ × Language). languageFrom (q .0) (q .1)) (firsts sizeOf 0 ls)
 languages-found ls behind =
-    let t : List ℕ = flatten (map languageRow (languageRows ls)) ++ behind in
-    ap (each (languageAt t) 0) (sym (rows-counted ls) ∙ length-map (languageRows ls) languageRow) ∙ rows-found languageColumns languageOf languageRow (λ l. refl) language-found (languageRows ls) behind
-
--- a language whose entries stand in table 7 from its first row on
-pub record Standing-all (t : List ℕ) (n : ℕ) (l : Language TextLabelEntry) : Type 0 where
-  pub groups : Standing t n (l .groups .entries)
-  pub «switch_groups» : Standing t (n + length (l .groups .entries)) (l .«switch_groups» .entries)
-  pub presets : Standing t (n + length (l .groups .entries) + length (l .«switch_groups» .entries)) (l .presets .entries)
-
-all-standing : (t : List ℕ) (n : ℕ) (l : Language TextLabelEntry) → Standing t n (entriesOf l) → Standing-all t n l
-all-standing t n l s =
-    let (a, r) = stands-split entryColumns entryOf t n (l .groups .entries) (l .«switch_groups» .entries ++ l .presets .entries) s in
-    let (b, c) = stands-split entryColumns entryOf t (n + length (l .groups .entries)) (l .«switch_groups» .entries) (l .presets .entries) r in
-    record { groups = a; «switch_groups» = b; presets = c }
-
--- table 7: each language finds its entries
-pub entries-stand : (ls : List (Language TextLabelEntry)) (behind : List ℕ)
-    → Every (λ (q : ℕ × Language TextLabelEntry). Standing-all (flatten (map entryRow (entriesIn ls)) ++ behind) (q .0) (q .1)) (firsts (λ l. length (entriesOf l)) 0 ls)
-entries-stand ls behind =
-    let t : List ℕ = flatten (map entryRow (entriesIn ls)) ++ behind in
-    every-as (λ (q : ℕ × Language TextLabelEntry). Standing t (q .0) (entriesOf (q .1))) (λ (q : ℕ × Language TextLabelEntry). Standing-all t (q .0) (q .1)) (λ q. all-standing t (q .0) (q .1))
-    (stand entryColumns entryOf entryRow (λ e. refl) entry-found entriesOf ls behind)
-
--- ---- what they mean
-
-language-laid : (t store : List ℕ) (n : ℕ) (l : Language TextLabelEntry) → Standing-all t n l → languageValue t store (languageAs n l) ≡ languageMeant store l
-unfolding languageValue languageAs
-language-laid t store n l s = λ i. record {
-  language = l .language;
-  groups = list-laid t store n (l .groups) (s .groups) i;
-  «switch_groups» = list-laid t store (n + length (l .groups .entries)) (l .«switch_groups») (s .«switch_groups») i;
-  presets = list-laid t store (n + length (l .groups .entries) + length (l .«switch_groups» .entries)) (l .presets) (s .presets) i;
-}
-
-pub languages-laid : (ls : List (Language TextLabelEntry)) (behind behind′ store : List ℕ)
-    → each (λ i. languageValue (flatten (map entryRow (entriesIn ls)) ++ behind′) store (languageAt (flatten (map languageRow (languageRows ls)) ++ behind) i)) 0 (length ls) ≡ map (languageMeant store) ls
-languages-laid ls behind behind′ store =
-    let t : List ℕ = flatten (map entryRow (entriesIn ls)) ++ behind′ in
-    each-map (languageValue t store) (languageAt (flatten (map languageRow (languageRows ls)) ++ behind)) 0 (length ls)
-    ∙ ap (map (languageValue t store)) (languages-found ls behind)
-    ∙ map-map (languageValue t store) (λ (q : ℕ × Language TextLabelEntry). languageAs (q .0) (q .1)) (firsts (λ l. length (entriesOf l)) 0 ls)
-    ∙ map-firsts (λ l. length (entriesOf l)) (λ q. languageValue t store (languageAs (q .0) (q .1))) (languageMeant store) 0 ls
-    (every-as (λ (q : ℕ × Language TextLabelEntry). Standing-all t (q .0) (q .1)) (λ (q : ℕ × Language TextLabelEntry). languageValue t store (languageAs (q .0) (q .1)) ≡ languageMeant store (q .1)) (λ q. language-laid t store (q .0) (q .1))
-    (entries-stand ls behind′))
+    let t : List ℕ = flatten (rowsFrom ls) ++ behind in
+    let e = subst (λ (n : ℕ). each (λ i. row 12 (at 12 t i)) 0 n ≡ rowsFrom ls) (rows-counted ls) (found 12 (rowsFrom ls) (rows-wide ls) behind) in
+    each-as (λ (q : ℕ × Language). Unit {0}) (rangedRow 12 lists) (λ i. row 12 (at 12 t i)) (λ i. languageOf t (i * 12)) (λ q. languageFrom (q .0) (q .1)) (λ i q e u. row-is t i (rangedRow 12 lists q) e) 0 (length ls) (firsts sizeOf 0 ls) e (every-one (firsts sizeOf 0 ls))
+  where
+    every-one : {A : Type 0} (l : List A) → Every (λ (x : A). Unit {0}) l
+    every-one [] = all-nil
+    every-one (x ∷ l) = all-cons tt (every-one l)

@@ -1,10 +1,11 @@
 pub mod Bodies
+pub mod Lawful
+pub mod Mirrored
 pub mod Parsed
-pub mod Filled
-pub mod Format
 pub mod Found
+pub mod Filled
 pub mod Sighted
-pub mod Stored
-pub mod Laws
+pub mod Tallied
+pub mod Written
 pub mod Largest
 pub mod Claims

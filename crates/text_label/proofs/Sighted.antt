@@ -1,119 +1,86 @@
--- What code knows of a body whose languages were walked or that was measured, and that filling tables 6 and 7 gives the rows of the tree.
-use Prim.Native.Nat.{ℕ, _+_, _*_, _/_, _≤_}
+-- What is known of a body that was measured: its sizes, its record, its tally, and that filling tables 6 and 7 gives the rows of the tree.
+use Prim.Native.Nat.{ℕ, _+_, _*_, _≤_, _<_}
 use mathlib.Core.Path.{_≡_, refl, sym, ap, subst, _∙_}
 use mathlib.Core.List.{List, [], _∷_, _++_, map, flatten, flatMap}
-use mathlib.Core.Bool.{Bool, true, false}
-use mathlib.Core.Option.{none, some}
+use mathlib.Core.Bool.{true}
+use mathlib.Core.Option.{none}
 use native.Mathlib.Omega.{arith}
-use lib.ListN.{length, getD, drop, length-map}
-use lib.Dec.{leb}
+use lib.ListN.{length, getD, drop}
 use lib.Seq.{sets}
-use borrow.Author.Tests.{leb-true}
-use Rattle.wire.specs.Lists.{firsts}
-use Rattle.wire.specs.Bits.{part}
-use Rattle.wire.specs.Prog.{ret, done, run, many}
-use Rattle.wire.specs.Reads.{Summed}
+use Rattle.wire.specs.Lists.{Every, all-cons, each, sum, firsts}
+use Rattle.wire.specs.Bits.{part, zeros}
+use Rattle.wire.specs.Prog.{done, run, many}
+use Rattle.wire.specs.Reads.{sumOut, mapOut, isDone, Summed}
+use Rattle.wire.specs.Layout.{shown, cells, tally}
 use Rattle.wire.specs.Nest.{Fillable, Nests}
+use Rattle.wire.specs.declared.rows.Payload.{Payload}
 use Rattle.wire.specs.declared.reads.Short.{Short}
 use Rattle.wire.specs.declared.reads.Sum.{Sum}
 use Rattle.wire.specs.declared.reads.Sum.the-variants as S
-use Rattle.wire.proofs.Walk.{finished}
-use Rattle.wire.proofs.Loops.{many-long, sum-onward, sum-cut-off}
-use Rattle.wire.proofs.Tables.{flat-of-map, rows-stored}
-use Rattle.frame.specs.declared.Refusal.{Refusal}
-use Rattle.frame.specs.Numbers.{accepted, refused, refusal}
-use Rattle.frame.specs.Entry.{too-short, Sizes, needs, first, others, room, lacking, filled, tail, judging, sizes, measuring, Measures}
-use Rattle.frame.specs.Sight.{Tops, Roomy, Fills}
-use Rattle.frame.proofs.Judged.{refused-onto}
-use Rattle.frame.proofs.Entries.{firstRows, measures-short, measures-done, Known, known, tops-known, fills-known}
-use Rattle.labels.specs.declared.rows.TextLabelEntry.{TextLabelEntry}
-use Rattle.labels.specs.Rows.{entryColumns, entryRow, entryOf}
-use Rattle.text_label.specs.declared.parsing.Head.{Head}
-use Rattle.text_label.specs.declared.parsing.Head.the-variants as H
-use Rattle.text_label.specs.Rows.{languageColumns, languageRow, languageOf, Language, TextLabel, entriesOf, entriesIn, languageAs, languageRows, tables}
+use Rattle.wire.proofs.Tables.{flat-map}
+use Rattle.wire.proofs.Fields.{part-below}
+use Rattle.wire.proofs.Walk.{as-done}
+use Rattle.wire.proofs.Takes.{run-takes}
+use Rattle.wire.proofs.Loops.{sum-small}
+use Rattle.wire.proofs.Rowed.{Wide}
+use Rattle.wire.proofs.Lists.{flat-rows}
+use Rattle.wire.proofs.Fronts.{front}
+use Rattle.frame.specs.declared.Room.{Room}
+use Rattle.frame.specs.declared.Room.the-variants as M
+use Rattle.frame.specs.Numbers.{accepted}
+use Rattle.frame.specs.Entry.{too-short, onto, Sizes, needs, room, first, others, lacking, filled, sizes, tail, Measures, Tallies}
+use Rattle.frame.specs.Sight.{andTable, andTables, Tops, Roomy, Fills}
+use Rattle.frame.specs.Body as B
+use Rattle.frame.specs.Body.{layouts, placed, tables}
+use Rattle.frame.specs.Ranges.{rangedRow}
+use Rattle.frame.proofs.Lawful.{Shaped}
+use Rattle.frame.proofs.Tables.{rowsAt, enough}
+use Rattle.frame.proofs.MoreRoom.{none-fit, fit-head}
+use Rattle.frame.proofs.Entries.{measures-done, measures-cut, tallies, Known, known, tops-known, fills-known}
+use Rattle.text_label.specs.Layout.{head}
+use Rattle.text_label.specs.Rows.{Language, TextLabel}
 use Rattle.text_label.specs.Read.{language}
-use Rattle.text_label.specs.Write.{kind}
-use Rattle.text_label.specs.Contract.{needed, sized, Headed, Walked}
-use Rattle.text_label.proofs.Parsed.{bodyIs, count-four, head-there, BodyRun, body-run}
-use Rattle.labels.proofs.Filled.{rows-append}
-use Rattle.text_label.proofs.Filled.{sizeOf, rowOf, colsOf}
-use Rattle.labels.proofs.Found.{entry-found}
-use Rattle.text_label.proofs.Found.{rows-counted, language-found}
+use Rattle.text_label.specs.Kind.{lists, entriesOf, languageRows, pieces, kind}
+use Rattle.text_label.specs.Contract.{needed, sized, rowFrom}
+use Rattle.text_label.proofs.Lawful.{lawful}
+use Rattle.text_label.proofs.Parsed.{sizeOf, rowsIn, BodyRun, body-run}
+use Rattle.text_label.proofs.Filled.{cells as columnsIn}
+use Rattle.text_label.proofs.Found.{rowsFrom, rows-counted, rows-wide}
 
--- ---- the two bytes before the languages
-
-pub head-refused : {body : List ℕ} {x : Refusal} → refused (refusal x) ≡ judging kind body → Headed body (H.Refused x)
-head-refused {x = x} j = record {
-  there = λ e. absurd (let z : _≡_ {A = ℕ} 0 1 = cc e in omega arith);
-  not = λ y e. let z : x ≡ y = cc e in ap (λ (x : Refusal). refused (refusal x)) (sym z) ∙ j;
-}
-
-pub headed : {body : List ℕ} → 2 ≤ length body → length body ≤ 65535 → Headed body H.There
-headed h a = record { there = λ e. (h, a); not = λ x e. absurd (let z : _≡_ {A = ℕ} 0 1 = cc e in omega arith) }
-
-pub measures-unheaded : {body : List ℕ} {r : Head} → Headed body r → {x : Refusal} → r ≡ H.Refused x → Measures kind body (refused (refusal x))
-unfolding measuring
-measures-unheaded {body} w {x} e = record { promised = sym (refused-onto kind (sizes kind) body _ (sym (w .not x e))) }
-
--- ---- the languages were walked
-
-sizes-are : (t : TextLabel TextLabelEntry) (k : ℕ) → sizes kind (record { tree = t; before = k }) ≡ sized (length (t .languages)) (length (entriesIn (t .languages))) k
+sizes-are : (t : TextLabel) (k : ℕ) → sizes kind (record { tree = t; before = k }) ≡ sized (length (t .1 .0)) (rowsIn t) k
 unfolding sizes kind tables needs
-sizes-are t k = λ i. sized (rows-counted (t .languages) i) (length-map (entriesIn (t .languages)) entryRow i) k
+sizes-are t k = λ i. sized (rows-counted (t .1 .0) i) (rowsIn t) k
 
--- the bound of fifteen languages
-pub walked : {body : List ℕ} {count : ℕ} {r : Sum} → (2 ≤ length body) × (length body ≤ 65535) → count ≡ part 0 4 (getD body 1 0) → Summed (many count language) (λ l. length (entriesIn l)) (381 * count) body 2 r → Walked body r
-walked {body} {count} {r} h e w = record {
-  head = h .0;
-  all = h .1;
-  rows = subst (λ (n : ℕ). Summed (many n language) (λ l. length (entriesIn l)) 5715 body 2 r) e (record { is = w .is; small = omega (arith, w .small, count-four (getD body 1 0) e) });
-}
+-- ---- measured
 
-module _ {body : List ℕ} {r : Sum} (w : Walked body r) where
-  pub walked-short : {x : Short} → r ≡ S.Short x → Measures kind body (too-short x)
-  unfolding kind
-  walked-short e = measures-short kind body (w .all) (sym (sum-cut-off (many _ language) (λ l. ret (bodyIs _ _ l)) (head-there body (w .head)) (w .rows) e))
+module _ (body : List ℕ) (h : length body ≤ 65535) {r : Sum} (w : Summed (kind .program) rowsIn 5715 body 0 r) {n k : ℕ} (e : r ≡ S.Got n k) where
+  ran-done : (t : TextLabel) × (run (kind .program) body 0 ≡ done t k) × (rowsIn t ≡ n)
+  ran-done = as-done rowsIn (run (kind .program) body 0) (sym (w .is) ∙ ap sumOut e)
 
-  pub walked-done : {n k : ℕ} → r ≡ S.Got n k → Measures kind body (accepted (sized (part 0 4 (getD body 1 0)) n k))
-  unfolding kind
-  walked-done {n} {k} e =
-      let g = sum-onward (many _ language) (λ l. ret (bodyIs _ _ l)) (head-there body (w .head)) (w .rows) e in
-      let q = many-long language body _ 2 (g .value) k (g .reads) in
-      let z = sizes-are (bodyIs (getD body 0 0) (getD body 1 0) (g .value)) k ∙ (λ i. sized (q i) (g .is i) k) in
-      subst (λ (z : Sizes). Measures kind body (accepted z)) z (measures-done kind body (w .all) (sym (finished (g .place) refl)))
+  pub head-there : 2 ≤ length body
+  head-there = body-run body (ran-done .1) .inside
 
--- ---- the rows of both tables
+  pub rows-few : n < 65536
+  rows-few = omega (arith, sum-small w e)
 
--- tables 6 and 7 have the rows that they need, or the first that has not
-module _ (t u : List ℕ) (l n : ℕ) where
-  pub has-room : leb l (length t / languageColumns) ≡ true → leb n (length u / entryColumns) ≡ true → lacking (needed l n) (t ∷ u ∷ []) ≡ none
-  unfolding lacking room first others
-  has-room e f = rw (e, lacking, f, lacking) refl
+  pub measured-so : {count : ℕ} → count ≡ part 0 4 (getD body 1 0) → Measures kind body (accepted (sized count n k))
+  measured-so c =
+      let (t, d, q) = ran-done in
+      let z = sizes-are t k ∙ (λ i. sized ((body-run body d .counted ∙ sym c) i) (q i) k) in
+      subst (λ (z : Sizes). Measures kind body (accepted z)) z (measures-done kind body h d)
 
-  pub lacks-languages : leb l (length t / languageColumns) ≡ false → lacking (needed l n) (t ∷ u ∷ []) ≡ some (record { number = 6; columns = languageColumns; rows = l })
-  unfolding lacking room first others
-  lacks-languages e = rw (e, lacking) refl
+pub measured-short : (body : List ℕ) → length body ≤ 65535 → {r : Sum} → Summed (kind .program) rowsIn 5715 body 0 r → {x : Short} → r ≡ S.Short x → Measures kind body (too-short x)
+measured-short body h w e = measures-cut kind rowsIn body h (sym (ap sumOut e) ∙ w .is)
 
-  pub lacks-entries : leb l (length t / languageColumns) ≡ true → leb n (length u / entryColumns) ≡ false → lacking (needed l n) (t ∷ u ∷ []) ≡ some (record { number = 7; columns = entryColumns; rows = n })
-  unfolding lacking room first others
-  lacks-entries e f = rw (e, lacking, f, lacking) refl
+-- ---- the room of both tables
 
-  pub room-so : lacking (needed l n) (t ∷ u ∷ []) ≡ none → (l * languageColumns ≤ length t) × (n * entryColumns ≤ length u)
-  unfolding lacking room first others
-  room-so e = go (leb l (length t / languageColumns)) refl (leb n (length u / entryColumns)) refl
-    where
-      go : (a : Bool) → leb l (length t / languageColumns) ≡ a → (b : Bool) → leb n (length u / entryColumns) ≡ b → (l * languageColumns ≤ length t) × (n * entryColumns ≤ length u)
-      go true p true q = (omega (arith, leb-true l (length t / languageColumns) p), omega (arith, leb-true n (length u / entryColumns) q))
-      go true p false q = absurd (let z = sym (lacks-entries p q) ∙ e in let w : _≡_ {A = ℕ} 0 1 = cc z in omega arith)
-      go false p b q = absurd (let z = sym (lacks-languages p) ∙ e in let w : _≡_ {A = ℕ} 0 1 = cc z in omega arith)
+module _ (l n : ℕ) (t u : List ℕ) {a r : Room} (d : a ≡ andTable M.Enough (record { number = 6; columns = 12; rows = l }) t) (e : r ≡ andTable a (record { number = 7; columns = 4; rows = n }) u) where
+  pub room-so : r ≡ andTables M.Enough (needed l n) (t ∷ u ∷ [])
+  unfolding andTables first others
+  room-so = e ∙ ap (λ (a : Room). andTable a (record { number = 7; columns = 4; rows = n }) u) d
 
--- ---- filling the tables
-
--- the columns of the entries of all languages
-flat-in : (ls : List (Language TextLabelEntry)) → flatMap colsOf ls ≡ flatMap entryRow (entriesIn ls)
-unfolding flatMap
-flat-in [] = refl
-flat-in (l ∷ ls) = ap (λ (x : List ℕ). colsOf l ++ x) (flat-in ls) ∙ sym (rows-append (entriesOf l) (entriesIn ls))
+  pub has-room : r ≡ M.Enough → lacking (needed l n) (t ∷ u ∷ []) ≡ none
+  has-room f = enough (needed l n) (t ∷ u ∷ []) (sym room-so ∙ f)
 
 -- ---- a body that was measured: its languages stand behind the second byte
 
@@ -122,54 +89,87 @@ module _ (body : List ℕ) {l n k : ℕ} (m : Measures kind body (accepted (size
   knows = known kind body m
 
   runs : BodyRun body (knows .sound .tree) (knows .sound .before)
-  unfolding kind
   runs = body-run body (knows .ran .reads)
 
-  count-is : length (knows .sound .tree .languages) ≡ l
-  unfolding kind
-  count-is = ap firstRows (sym (sizes-are (knows .sound .tree) (knows .sound .before)) ∙ knows .sized)
+  abbrev ls : List Language
+  ls = knows .sound .tree .1 .0
 
-  pub head-measured : 2 ≤ length body
-  head-measured = runs .inside
+  sized-so : sized (length ls) (rowsIn (knows .sound .tree)) (knows .sound .before) ≡ sized l n k
+  sized-so = sym (sizes-are (knows .sound .tree) (knows .sound .before)) ∙ knows .sized
 
-  pub top-measured : Tops kind body (record { «scene_info_id» = getD body 0 0; reserved = part 4 4 (getD body 1 0); languages = l; trailing = tail k body })
-  unfolding kind
-  top-measured = tops-known kind knows (λ i. record { «scene_info_id» = runs .scene i; reserved = runs .bits i; languages = sym count-is i; trailing = tail k body })
+  count-is : length ls ≡ l
+  count-is = ap (λ (z : Sizes). rowsAt 0 (z .tables)) sized-so
 
-  languages-read : run (many l language) body 2 ≡ done (knows .sound .tree .languages) (knows .sound .before)
+  rows-are : length (flatMap entriesOf ls) ≡ n
+  rows-are = ap (λ (z : Sizes). rowsAt 1 (z .tables)) sized-so
+
+  languages-read : run (many l language) body 2 ≡ done ls (knows .sound .before)
   languages-read = ap (λ (n : ℕ). run (many n language) body 2) (sym count-is) ∙ runs .reads
 
+  pub two-measured : 2 ≤ length body
+  two-measured = runs .inside
+
+  tops-are : {a b : ℕ} {p : Payload} → a ≡ part 0 8 (getD body 0 0) → b ≡ part 4 4 (getD body 1 0) → p ≡ tail k body → Tops kind body (record { «scene_info_id» = a; reserved = b; languages = l; trailing = p })
+  unfolding kind placed each
+  tops-are e f g =
+      let q : (j : ℕ) → getD (part 0 8 (getD body 0 0) ∷ part 4 4 (getD body 1 0) ∷ part 0 4 (getD body 1 0) ∷ []) j 0 ≡ getD (knows .sound .tree .0) j 0 = λ j. ap (λ (r : List ℕ). getD r j 0) (sym (runs .is)) in
+      tops-known kind knows (λ i. record { «scene_info_id» = (e ∙ q 0) i; reserved = (f ∙ q 1) i; languages = (sym count-is ∙ runs .counted ∙ q 2) i; trailing = g i })
+
+  pub top-of-two : {a b x y : ℕ} {p : Payload} → y ≡ getD body 1 0 → x ≡ getD body 0 0 → a ≡ part 0 8 x → b ≡ part 4 4 y → p ≡ tail k body → Tops kind body (record { «scene_info_id» = a; reserved = b; languages = l; trailing = p })
+  top-of-two d e f g h = tops-are (f ∙ ap (part 0 8) e) (g ∙ ap (part 4 4) d) h
+
+  -- ---- its tally
+
+  pub whole-body : length body < 65536
+  whole-body = let b = knows .ran .within in omega (arith, b)
+
+  pub languages-done : isDone (run (many l language) body 2) ≡ true
+  languages-done = ap isDone languages-read
+
+  pub count-few : l < 16
+  count-few = omega (arith, count-is, runs .counted, part-below 0 4 (getD body 1 0))
+
+  pub tallies-are : {y b before z : ℕ} → y ≡ getD body 1 0 → b ≡ part 4 4 y → before ≡ zeros 4 b → {next : ℕ} → done z next ≡ mapOut (sum (languageRows .zeros)) (run (many l language) body 2) → Tallies kind body (accepted (before + z))
+  unfolding kind B.zeros layouts tally cells shown head sum flatten onto
+  tallies-are {z = z} w b e {next} f =
+      let v : getD (knows .sound .tree .0) 1 0 ≡ part 4 4 (getD body 1 0) = ap (λ (r : List ℕ). getD r 1 0) (runs .is) in
+      let y = e ∙ ap (zeros 4) (b ∙ ap (part 4 4) w ∙ sym v) in
+      let d : done z next ≡ done (sum (languageRows .zeros) ls) (knows .sound .before) = f ∙ ap (mapOut (sum (languageRows .zeros))) languages-read in
+      let x : z ≡ sum (languageRows .zeros) ls = cc d in
+      subst (λ (n : ℕ). Tallies kind body (accepted n)) (omega (arith, x, y)) (tallies kind body {j = accepted (knows .sound)} (sym (knows .judges)))
+
+  -- ---- its rows in both tables
+
   module _ (t u : List ℕ) (r : Roomy kind body (t ∷ u ∷ [])) where
-    roomy-so : (length (knows .sound .tree .languages) * languageColumns ≤ length t) × (length (entriesIn (knows .sound .tree .languages)) * entryColumns ≤ length u)
-    unfolding kind tables needs
-    roomy-so =
-        let e = r .room (knows .sound) (knows .judges) in
-        room-so t u _ _ (subst (λ (n : ℕ). lacking (needed n (length (entriesIn (knows .sound .tree .languages)))) (t ∷ u ∷ []) ≡ none) (rows-counted (knows .sound .tree .languages))
-        (subst (λ (n : ℕ). lacking (needed (length (map languageRow (languageRows (knows .sound .tree .languages)))) n) (t ∷ u ∷ []) ≡ none) (length-map (entriesIn (knows .sound .tree .languages)) entryRow) e))
+    both-fit : (l * 12 ≤ length t) × (n * 4 ≤ length u)
+    unfolding kind sizes room first others
+    both-fit =
+        let e : lacking (needed l n) (t ∷ u ∷ []) ≡ none = ap (λ (z : Sizes). lacking (z .tables) (t ∷ u ∷ [])) (sym (knows .sized)) ∙ r .room (knows .sound) (knows .judges) in
+        let (a, f) = fit-head (none-fit (needed l n) (t ∷ u ∷ []) e) in
+        let (b, _) = fit-head f in
+        (omega (arith, a), omega (arith, b))
 
-    pub languages-ask : Fillable (many l language) entryColumns (λ l. length (entriesIn l)) body 2 0 u × (languageColumns * l ≤ length t)
-    languages-ask = (
-      record {
-        value = knows .sound .tree .languages;
-        end = knows .sound .before;
-        reads = languages-read;
-        begun = head-measured;
-        all = let b = knows .ran .within in omega (arith, b);
-        before = omega arith;
-        room = omega (arith, roomy-so .1);
-      },
-      omega (arith, roomy-so .0, count-is),
-    )
+    pub languages-ask : Fillable (many l language) 4 (λ l. length (flatMap entriesOf l)) body 2 0 u
+    languages-ask = record { value = ls; end = knows .sound .before; reads = languages-read; begun = two-measured; all = whole-body; before = omega arith; room = omega (arith, both-fit .1, rows-are) }
 
-    pub languages-filled : {t′ u′ : List ℕ} → Nests language sizeOf rowOf colsOf body 2 l t u t′ u′ → Fills kind body (t ∷ u ∷ []) (t′ ∷ u′ ∷ [])
+    pub languages-room : 12 * l ≤ length t
+    languages-room = omega (arith, both-fit .0)
+
+    entries-wide : Every (Wide 4) (flatMap entriesOf ls)
+    unfolding kind tables
+    entries-wide = go (lawful .shaped (knows .sound .tree) _ (run-takes (kind .program) body 0 (knows .ran .reads) (omega arith)))
+      where
+        go : Every Shaped (tables pieces (knows .sound .tree .1)) → Every (Wide 4) (flatMap entriesOf ls)
+        go (all-cons a (all-cons b c)) = b
+
+    pub languages-filled : {t′ u′ : List ℕ} → Nests language sizeOf rowFrom columnsIn body 2 l t u t′ u′ → Fills kind body (t ∷ u ∷ []) (t′ ∷ u′ ∷ [])
     unfolding kind tables filled first others
-    languages-filled {t′} {u′} n =
-        let ls = knows .sound .tree .languages in
-        let z : done (n .value) (n .end) ≡ done ls (knows .sound .before) = sym (n .reads) ∙ languages-read in
-        let e : n .value ≡ ls = cc z in
-        let a : t′ ≡ flatten (map languageRow (languageRows ls)) ++ drop (length (flatten (map languageRow (languageRows ls)))) t =
-        n .outer ∙ ap (λ (l : List (Language TextLabelEntry)). sets t 0 (flatMap (λ q. rowOf (q .0) (q .1)) (firsts sizeOf 0 l))) e ∙ ap (sets t 0) (sym (flat-of-map languageRow (λ q. languageAs (q .0) (q .1)) (firsts sizeOf 0 ls)))
-        ∙ rows-stored languageColumns languageOf languageRow (λ l. refl) language-found (languageRows ls) t (omega (arith, roomy-so .0, sym (length-map (languageRows ls) languageRow) ∙ rows-counted ls)) in
-        let b : u′ ≡ flatten (map entryRow (entriesIn ls)) ++ drop (length (flatten (map entryRow (entriesIn ls)))) u =
-        n .inner ∙ ap (λ (l : List (Language TextLabelEntry)). sets u 0 (flatMap colsOf l)) e ∙ ap (sets u 0) (flat-in ls) ∙ rows-stored entryColumns entryOf entryRow (λ l. refl) entry-found (entriesIn ls) u (roomy-so .1) in
+    languages-filled {t′} {u′} v =
+        let z : done (v .value) (v .end) ≡ done ls (knows .sound .before) = sym (v .reads) ∙ languages-read in
+        let e : v .value ≡ ls = cc z in
+        let es = flatMap entriesOf ls in
+        let a : t′ ≡ flatten (rowsFrom ls) ++ drop (length (flatten (rowsFrom ls))) t =
+        v .outer ∙ ap (λ (l : List Language). sets t 0 (flatMap (rangedRow 12 lists) (firsts sizeOf 0 l))) e ∙ ap (sets t 0) (flat-map (rangedRow 12 lists) (firsts sizeOf 0 ls)) ∙ front 12 (rowsFrom ls) t (rows-wide ls) (omega (arith, both-fit .0, rows-counted ls, count-is))
+        in
+        let b : u′ ≡ flatten es ++ drop (length (flatten es)) u = v .inner ∙ ap (λ (l : List Language). sets u 0 (flatMap columnsIn l)) e ∙ ap (sets u 0) (flat-rows entriesOf ls) ∙ front 4 es u entries-wide (omega (arith, both-fit .1, rows-are)) in
         fills-known kind knows (λ i. a i ∷ b i ∷ [])

@@ -1,12 +1,11 @@
--- The rows of table 6, the top record of the text label body, the Rust's structs, their entries as rows or as what these mean, and both tables.
+-- The declared row of table 6 and the top record of the text label body as columns, and what was read of a body: rows as their columns.
 use Prim.Native.Nat.{ℕ, _+_}
-use mathlib.Core.List.{List, [], _∷_, _++_, map, flatMap}
-use lib.ListN.{length, getD}
-use Rattle.wire.specs.Lists.{firsts}
+use mathlib.Core.List.{List, [], _∷_, _++_}
+use lib.ListN.{getD}
 use Rattle.wire.specs.declared.rows.Payload.{Payload}
-use Rattle.labels.specs.declared.rows.TextLabelEntry.{TextLabelEntry}
-use Rattle.labels.specs.Rows.{entryColumns, entryRow, descriptionsOf, Labels, placed}
-use Rattle.frame.specs.Kind.{Rows, Bound, bounded}
+use Rattle.wire.specs.Layout.{Borne}
+use Rattle.labels.specs.Rows.{descriptionsOf}
+use Rattle.frame.specs.Kind.{Bound, bounded}
 use Rattle.text_label.specs.declared.rows.DescriptionLanguage.{DescriptionLanguage}
 use Rattle.text_label.specs.declared.rows.TextLabelLanguage.{TextLabelLanguage}
 use Rattle.text_label.specs.declared.rows.MpegH3dAudioTextLabel.{MpegH3dAudioTextLabel}
@@ -15,9 +14,6 @@ use Rattle.text_label.specs.declared.rows.MpegH3dAudioTextLabel.{MpegH3d
 
 abbrev pub letters : ℕ → ℕ → ℕ → DescriptionLanguage
 letters a b c = record { 0 = a; 1 = b; 2 = c }
-
-abbrev pub languageColumns : ℕ
-languageColumns = 12
 
 abbrev pub languageRow : TextLabelLanguage → List ℕ
 languageRow l =
@@ -35,6 +31,7 @@ languageRow l =
     ∷ l .presets .entries .count
     ∷ []
 
+-- the row whose first column is b
 abbrev pub languageOf : List ℕ → ℕ → TextLabelLanguage
 languageOf t b = record {
   language = letters (getD t b 0) (getD t (b + 1) 0) (getD t (b + 2) 0);
@@ -45,58 +42,41 @@ languageOf t b = record {
 
 -- ---- the top record
 
+-- its columns in the Rust's order, the trailing run apart
+abbrev pub fields : MpegH3dAudioTextLabel → List ℕ
+fields m = m .«scene_info_id» ∷ m .reserved ∷ m .languages ∷ []
+
+abbrev pub textLabelOf : List ℕ → Payload → MpegH3dAudioTextLabel
+textLabelOf r run = record { «scene_info_id» = getD r 0 0; reserved = getD r 1 0; languages = getD r 2 0; trailing = run }
+
+abbrev pub topColumns : ℕ
+topColumns = 5
+
+abbrev pub topRow : MpegH3dAudioTextLabel → List ℕ
+topRow m = fields m ++ (m .trailing .offset ∷ m .trailing .length ∷ [])
+
 abbrev pub retrail : MpegH3dAudioTextLabel → Payload → MpegH3dAudioTextLabel
-retrail m r = record { «scene_info_id» = m .«scene_info_id»; reserved = m .reserved; languages = m .languages; trailing = r }
+retrail m run = record { «scene_info_id» = m .«scene_info_id»; reserved = m .reserved; languages = m .languages; trailing = run }
 
 unfoldable pub bounds : MpegH3dAudioTextLabel → List Bound
 bounds m =
     bounded 256 (m .«scene_info_id») ∷ bounded 256 (m .reserved) ∷ bounded 65536 (m .languages) ∷ bounded 65536 (m .trailing .offset) ∷ bounded 65536 (m .trailing .length) ∷ []
 
--- the record as columns, in the Rust's order
-abbrev pub topColumns : ℕ
-topColumns = 5
+-- ---- what is read: of a language its 12 columns and its three lists, of the body 3 columns and its languages
 
-abbrev pub topRow : MpegH3dAudioTextLabel → List ℕ
-topRow m = m .«scene_info_id» ∷ m .reserved ∷ m .languages ∷ m .trailing .offset ∷ m .trailing .length ∷ []
+abbrev pub Language : Type 0
+Language = List ℕ × (List Borne × (List Borne × (List Borne × Unit {0})))
 
--- ---- the Rust's structs; Entry is a row of table 7, or what it means
+abbrev pub TextLabel : Type 0
+TextLabel = List ℕ × (List Language × Unit {0})
 
-pub record Language (Entry : Type 0) : Type 0 where
-  pub language : DescriptionLanguage
-  pub groups : Labels Entry
-  pub «switch_groups» : Labels Entry
-  pub presets : Labels Entry
+-- ---- and what it means: labels by their bytes
 
-pub record TextLabel (Entry : Type 0) : Type 0 where
-  pub «scene_info_id» : ℕ
-  pub reserved : ℕ
-  pub languages : List (Language Entry)
+abbrev pub Label : Type 0
+Label = List ℕ × List ℕ
 
--- in the top record a list is its count
-abbrev pub top : TextLabel TextLabelEntry → Payload → MpegH3dAudioTextLabel
-top t r = record { «scene_info_id» = t .«scene_info_id»; reserved = t .reserved; languages = length (t .languages); trailing = r }
+abbrev pub LanguageValue : Type 0
+LanguageValue = List ℕ × (List Label × (List Label × (List Label × Unit {0})))
 
--- the three lists of a language stand in table 7 one after the other
-abbrev pub entriesOf : {Entry : Type 0} → Language Entry → List Entry
-entriesOf l = l .groups .entries ++ (l .«switch_groups» .entries ++ l .presets .entries)
-
-abbrev pub entriesIn : {Entry : Type 0} → List (Language Entry) → List Entry
-entriesIn ls = flatMap entriesOf ls
-
--- a language whose entries begin at row n
-unfoldable pub languageAs : ℕ → Language TextLabelEntry → TextLabelLanguage
-languageAs n l = record {
-  language = l .language;
-  groups = placed n (l .groups);
-  «switch_groups» = placed (n + length (l .groups .entries)) (l .«switch_groups»);
-  presets = placed (n + length (l .groups .entries) + length (l .«switch_groups» .entries)) (l .presets);
-}
-
-abbrev pub languageRows : List (Language TextLabelEntry) → List TextLabelLanguage
-languageRows ls = map (λ p. languageAs (p .0) (p .1)) (firsts (λ l. length (entriesOf l)) 0 ls)
-
-unfoldable pub tables : TextLabel TextLabelEntry → List Rows
-tables t =
-    record { number = 6; columns = languageColumns; rows = map languageRow (languageRows (t .languages)) }
-    ∷ record { number = 7; columns = entryColumns; rows = map entryRow (entriesIn (t .languages)) }
-    ∷ []
+abbrev pub TextLabelValue : Type 0
+TextLabelValue = List ℕ × (List LanguageValue × Unit {0})

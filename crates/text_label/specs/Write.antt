@@ -1,99 +1,47 @@
--- Writing the text label body, line by line as `MpegH3dAudioTextLabel::write`; what a value means; and the kind itself.
+-- Writing the text label body as `MpegH3dAudioTextLabel::write` has it: what the functions of both passes promise. The actions of the kind are these (proofs/Mirrored).
 use Prim.Native.Nat.{ℕ, _*_, _/_}
 use mathlib.Core.List.{List, [], _∷_, _++_, map}
-use mathlib.Core.Bool.{Bool, _&&_}
+use mathlib.Core.Bool.{Bool, true, _&&_}
 use lib.ListN.{length}
 use lib.Dec.{leb}
-use Rattle.wire.specs.Lists.{each}
 use Rattle.wire.specs.Bits.{Field, field}
 use Rattle.wire.specs.Act.{Act, demand, byte, rows}
 use Rattle.wire.specs.declared.pen.Fault.the-variants as F
-use Rattle.wire.specs.declared.rows.Payload.{Payload}
-use Rattle.labels.specs.declared.rows.TextLabelEntry.{TextLabelEntry}
-use Rattle.labels.specs.Rows.{entryColumns, entryRow, entryOf}
-use Rattle.labels.specs.Write.{inside, listActs, Label, listValue}
-use Rattle.frame.specs.Kind.{Kind, Lent, Heeded}
-use Rattle.frame.specs.Entry.{first, others}
+use Rattle.labels.specs.Write.{inTable, listActs}
 use Rattle.text_label.specs.declared.rows.DescriptionLanguage.{DescriptionLanguage}
 use Rattle.text_label.specs.declared.rows.TextLabelLanguage.{TextLabelLanguage}
 use Rattle.text_label.specs.declared.rows.MpegH3dAudioTextLabel.{MpegH3dAudioTextLabel}
-use Rattle.text_label.specs.Rows.{languageColumns, languageRow, languageOf, Language, TextLabel, retrail, bounds, top, entriesIn, tables}
-use Rattle.text_label.specs.Read.{parse}
-use Rattle.text_label.specs.Tally.{tally}
+use Rattle.text_label.specs.Rows.{languageOf}
 
--- ---- a row of table 6; t is table 7
+-- ---- a row of table 6; u is table 7. A row has no flag, and its lists may be empty: nothing is wrong with them.
 
-abbrev pub languageAt : List ℕ → ℕ → TextLabelLanguage
-languageAt t i = languageOf t (i * languageColumns)
+abbrev pub allWithin : TextLabelLanguage → List ℕ → Bool
+allWithin l u = inTable (l .groups .entries) u && (inTable (l .«switch_groups» .entries) u && inTable (l .presets .entries) u)
 
-abbrev pub allInside : TextLabelLanguage → List ℕ → Bool
-allInside l t = inside (l .groups .entries) t && (inside (l .«switch_groups» .entries) t && inside (l .presets .entries) t)
-
-abbrev pub letterActs : DescriptionLanguage → List Act
-letterActs l = byte (field 8 (l .0) ∷ []) ∷ byte (field 8 (l .1) ∷ []) ∷ byte (field 8 (l .2) ∷ []) ∷ []
+abbrev pub letterFields : DescriptionLanguage → List (List Field)
+letterFields l = (field 8 (l .0) ∷ []) ∷ (field 8 (l .1) ∷ []) ∷ (field 8 (l .2) ∷ []) ∷ []
 
 unfoldable pub languageActs : List ℕ → List ℕ → TextLabelLanguage → List Act
-languageActs t store l =
-    demand F.Range (allInside l t)
-    ∷ letterActs (l .language)
-    ++ (listActs 7 t store (l .groups) ++ (listActs 5 t store (l .«switch_groups») ++ listActs 5 t store (l .presets)))
+languageActs u store l =
+    demand F.Range (allWithin l u)
+    ∷ demand F.Field true
+    ∷ demand F.Empty true
+    ∷ map byte (letterFields (l .language))
+    ++ (listActs 7 u store (l .groups) ++ (listActs 5 u store (l .«switch_groups») ++ listActs 5 u store (l .presets)))
 
--- ---- the body
+-- row i of table 6
+abbrev pub rowActs : List ℕ → List ℕ → List ℕ → ℕ → List Act
+rowActs t u store i = languageActs u store (languageOf t (i * 12))
 
-abbrev pub languagesByte : MpegH3dAudioTextLabel → List Field
-languagesByte m = field 4 (m .reserved) ∷ field 4 (m .languages) ∷ []
+-- ---- the body; t is table 6
 
--- the tables are 6 and 7
-abbrev pub rowsActs : Lent → List ℕ → ℕ → List Act
-rowsActs lent store n = rows (λ i. languageActs (first (others lent)) store (languageAt (first lent) i)) 0 n
+abbrev pub headFields : MpegH3dAudioTextLabel → List (List Field)
+headFields m = (field 8 (m .«scene_info_id») ∷ []) ∷ (field 4 (m .reserved) ∷ field 4 (m .languages) ∷ []) ∷ []
 
-unfoldable pub acts : MpegH3dAudioTextLabel → Lent → List ℕ → List Act
-acts m lent store =
-    demand F.Range (leb (m .languages) (length (first lent) / languageColumns))
-    ∷ byte (field 8 (m .«scene_info_id») ∷ [])
-    ∷ byte (languagesByte m)
-    ∷ rowsActs lent store (m .languages)
-
--- ---- the meaning: the Rust's structs, a label by its bytes
-
-unfoldable pub languageValue : List ℕ → List ℕ → TextLabelLanguage → Language Label
-languageValue t store l = record {
-  language = l .language;
-  groups = listValue t store (l .groups);
-  «switch_groups» = listValue t store (l .«switch_groups»);
-  presets = listValue t store (l .presets);
-}
-
-unfoldable pub value : MpegH3dAudioTextLabel → Lent → List ℕ → TextLabel Label
-value m lent store = record {
-  «scene_info_id» = m .«scene_info_id»;
-  reserved = m .reserved;
-  languages = each (λ i. languageValue (first (others lent)) store (languageAt (first lent) i)) 0 (m .languages);
-}
-
--- ---- what writing reads: every column of the record and of its rows
-
-abbrev pub heededRows : List Heeded
-heededRows = record { columns = languageColumns; row = λ t b. languageRow (languageOf t b) } ∷ record { columns = entryColumns; row = λ t b. entryRow (entryOf t b) } ∷ []
-
--- ---- the kind
-
-unfoldable pub payloads : TextLabel TextLabelEntry → List Payload
-payloads t = map (λ e. e .«data») (entriesIn (t .languages))
-
-unfoldable pub kind : Kind (TextLabel TextLabelEntry) MpegH3dAudioTextLabel (TextLabel Label)
-kind = record {
-  program = parse;
-  top = top;
-  trailing = λ m. m .trailing;
-  retrail = retrail;
-  lends = 2;
-  tables = tables;
-  payloads = payloads;
-  zeros = tally;
-  acts = acts;
-  value = value;
-  heeded = λ m. m;
-  heededRows = heededRows;
-  bounds = bounds;
-}
+unfoldable pub textLabelActs : MpegH3dAudioTextLabel → List ℕ → List ℕ → List ℕ → List Act
+textLabelActs m t u store =
+    demand F.Range (leb (m .languages) (length t / 12))
+    ∷ demand F.Field true
+    ∷ demand F.Empty true
+    ∷ map byte (headFields m)
+    ++ rows (rowActs t u store) 0 (m .languages)

@@ -7,17 +7,17 @@ mod writing;
 ghost use mathlib.Core.List.{[], _∷_};
 ghost use Rattle.frame.specs.Numbers.{tallied, written};
 ghost use Rattle.frame.specs.Entry.{Reads, Measures, Tallies, Writes};
-ghost use Rattle.text_label.specs.Write.{kind};
-ghost use Rattle.text_label.specs.Contract.{read, measured, Walked};
+ghost use Rattle.text_label.specs.Kind.{kind};
+ghost use Rattle.text_label.specs.Contract.{read, measured};
 use frame::Refusal;
+use frame::Room;
 use frame::Tallied;
 use frame::Written;
-use parsing::Head;
+use frame::and_table;
 use rows::ENTRY_COLUMNS;
 use rows::LANGUAGE_COLUMNS;
 use rows::MpegH3dAudioTextLabel;
 use wire::reads::Sum;
-use wire::rows::has_rows;
 
 // What reading answers: the top record, its trailing run included.
 pub enum Reading {
@@ -41,43 +41,17 @@ pub enum Measured {
 pub fn measure(body: &[u8]) -> Measured
     ensures { λ r. ⌜ Measures kind (now (body .entry)) (measured r) ⌝ }
 {
-    let h = parsing::judge_head(body);
-    match h {
-        Head::Refused(x) => Measured::Refused(x),
-        Head::There => {
-            let count = parsing::count_at(body) as usize;
-            measure_walked(body, parsing::languages_rows(body, 2, count))
-        }
+    if 65535 < body.len() {
+        return Measured::Refused(Refusal::TooLong(body.len()));
     }
-}
-
-// The same for reading, which short bodies make quick: one without languages is not walked. Since `measure` calls the walk too, the compiler keeps it
-// apart, and tests and answers for such bodies stay short.
-fn measure_quickly(body: &[u8]) -> Measured
-    ensures { λ r. ⌜ Measures kind (now (body .entry)) (measured r) ⌝ }
-{
-    let h = parsing::judge_head(body);
-    match h {
-        Head::Refused(x) => Measured::Refused(x),
-        Head::There => {
-            let count = parsing::count_at(body) as usize;
-            measure_walked(body, parsing::rows_behind(body, count))
-        }
-    }
-}
-
-// What the body needs, its languages walked.
-fn measure_walked(body: &[u8], rows: Sum) -> Measured
-    requires { ⌜ Walked (now body) rows ⌝ }
-    ensures { λ r. ⌜ Measures kind (now (body .entry)) (measured r) ⌝ }
-{
-    match rows {
-        Sum::Short(x) => Measured::Refused(Refusal::Short(x)),
+    let r = parsing::rows(body);
+    match r {
         Sum::Got(entries, k) => Measured::Done(Sizes {
             languages: parsing::count_at(body),
             entries: entries as u16,
             k,
         }),
+        Sum::Short(x) => Measured::Refused(Refusal::Short(x)),
     }
 }
 
@@ -85,21 +59,19 @@ fn measure_walked(body: &[u8], rows: Sum) -> Measured
 pub fn read(body: &[u8], languages: &mut [u16], entries: &mut [u16]) -> Reading
     ensures { λ r. ⌜ Reads kind (now (body .entry)) (now (languages .entry) ∷ now (entries .entry) ∷ []) (read r) (now (languages .exit) ∷ now (entries .exit) ∷ []) ⌝ }
 {
-    let m = measure_quickly(body);
+    let m = measure(body);
     match m {
         Measured::Refused(r) => Reading::Refused(r),
         Measured::Done(s) => {
             let count = s.languages as usize;
-            let rows = s.entries as usize;
-            if has_rows(languages, LANGUAGE_COLUMNS, count) {
-                if has_rows(entries, ENTRY_COLUMNS, rows) {
+            let a = and_table(Room::Enough, 6, LANGUAGE_COLUMNS, count, languages);
+            let r = and_table(a, 7, ENTRY_COLUMNS, s.entries as usize, entries);
+            match r {
+                Room::Lacks(table, rows) => Reading::Refused(Refusal::NoRoom(table, rows)),
+                Room::Enough => {
                     parsing::fill(body, s, languages, entries);
                     Reading::Done(parsing::record_at(body, s))
-                } else {
-                    Reading::Refused(Refusal::NoRoom(7, rows))
                 }
-            } else {
-                Reading::Refused(Refusal::NoRoom(6, count))
             }
         }
     }
@@ -109,13 +81,10 @@ pub fn read(body: &[u8], languages: &mut [u16], entries: &mut [u16]) -> Reading
 pub fn tally(body: &[u8]) -> Tallied
     ensures { λ r. ⌜ Tallies kind (now (body .entry)) (tallied r) ⌝ }
 {
-    if 65535 < body.len() {
-        return Tallied::Refused(Refusal::TooLong(body.len()));
-    }
-    let a = tallying::body_zeros(body);
-    match a {
-        Sum::Got(n, _) => Tallied::Done(n),
-        Sum::Short(s) => Tallied::Refused(Refusal::Short(s)),
+    let m = measure(body);
+    match m {
+        Measured::Done(s) => Tallied::Done(tallying::zero_bits(body, s)),
+        Measured::Refused(r) => Tallied::Refused(r),
     }
 }
 

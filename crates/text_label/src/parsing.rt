@@ -1,8 +1,7 @@
-// Reading the text label body: the reads in the Rust's order. One pass measures and touches nothing, one takes the record and fills tables 6 and 7 and tests
-// nothing.
+// Reading the text label body: the reads in the Rust's order. One pass measures and touches nothing, one takes the record and fills tables 6 and 7 and tests nothing.
 ghost use mathlib.Core.Path.{_≡_};
-ghost use mathlib.Core.List.{[], _∷_, flatMap};
-ghost use Prim.Native.Nat.{_*_, _<_, _≤_};
+ghost use mathlib.Core.List.{[], _∷_, flatten, flatMap};
+ghost use Prim.Native.Nat.{_+_, _*_, _<_, _≤_};
 ghost use lib.ListN.{length, getD};
 ghost use Rattle.wire.specs.Bits.{part};
 ghost use Rattle.wire.specs.Prog.{many};
@@ -11,43 +10,28 @@ ghost use Rattle.wire.specs.Nest.{Fillable, Nested, Nests};
 ghost use Rattle.frame.specs.Numbers.{accepted};
 ghost use Rattle.frame.specs.Entry.{Measures};
 ghost use Rattle.frame.specs.Sight.{Tops, Roomy, Fills};
-ghost use Rattle.labels.specs.Rows.{entryColumns, entryRow};
-ghost use Rattle.text_label.specs.Rows.{languageColumns, languageRow, entriesOf, entriesIn, languageAs};
-ghost use Rattle.text_label.specs.Read.{language};
-ghost use Rattle.text_label.specs.Write.{kind};
-ghost use Rattle.text_label.specs.Contract.{sized, Headed};
+ghost use Rattle.text_label.specs.Read.{lettersAt, language};
+ghost use Rattle.text_label.specs.Kind.{entriesOf, kind};
+ghost use Rattle.text_label.specs.Contract.{sized, rowFrom, languageFrom};
 use super::Sizes;
 use super::rows::DescriptionLanguage;
 use super::rows::LANGUAGE_COLUMNS;
 use super::rows::MpegH3dAudioTextLabel;
 use super::rows::TextLabelLanguage;
-use frame::Refusal;
 use labels::parsing::fill_list;
 use labels::parsing::list_rows;
 use labels::parsing::row_after;
 use wire::bits::part;
 use wire::bits::wide;
-use wire::reads::Byte;
+use wire::reads::Ends;
 use wire::reads::Run;
 use wire::reads::Sum;
-use wire::reads::byte_at;
+use wire::reads::head;
 use wire::reads::run_at;
 use wire::rows::put_row;
 use wire::rows::trailing_run;
 
-// A language that is known to be there, and the next position.
-struct PlacedLanguage {
-    language: TextLabelLanguage,
-    next: usize,
-}
-
-// Whether the two bytes before the languages are there, in a body that is not too long, or why not.
-pub enum Head {
-    There,
-    Refused(Refusal),
-}
-
-// ---- measuring
+// ---- measured
 
 // The entries of a language, and where it ends.
 fn language_rows(body: &[u8], at: usize) -> Sum
@@ -74,9 +58,9 @@ fn language_rows(body: &[u8], at: usize) -> Sum
 }
 
 // The entries of `count` languages, and where they end.
-pub fn languages_rows(body: &[u8], at: usize, count: usize) -> Sum
+fn languages_rows(body: &[u8], at: usize, count: usize) -> Sum
     requires { ⌜ (at ≤ length (now body)) × (count < 16) ⌝ }
-    ensures { λ r. ⌜ Summed (many count language) (λ l. length (entriesIn l)) (381 * count) (now (body .entry)) at r ⌝ }
+    ensures { λ r. ⌜ Summed (many count language) (λ l. length (flatMap entriesOf l)) (381 * count) (now (body .entry)) at r ⌝ }
 {
     let mut pos = at;
     let mut left = count;
@@ -93,14 +77,38 @@ pub fn languages_rows(body: &[u8], at: usize, count: usize) -> Sum
     Sum::Got(rows, pos)
 }
 
-// ---- filling: nothing is left to test
+// The entries of a body, and k.
+pub fn rows(body: &[u8]) -> Sum
+    ensures { λ r. ⌜ Summed (kind .program) (λ t. length (flatMap entriesOf (t .1 .0))) 5715 (now (body .entry)) 0 r ⌝ }
+{
+    let a = head(body, 0, 2);
+    let Ends::At(n) = a else {
+        return Sum::Short(a.short());
+    };
+    let count = part(wide(body[1]), 0, 4) as usize;
+    languages_rows(body, n, count)
+}
+
+// ---- filled, once measured
+
+// The three letters of a language.
+fn letters_at(body: &[u8], at: usize) -> DescriptionLanguage
+    requires { ⌜ at + 3 ≤ length (now body) ⌝ }
+    ensures { λ r. ⌜ r ≡ lettersAt (now (body .entry)) at ⌝ }
+{
+    DescriptionLanguage(
+        part(wide(body[at]), 0, 8),
+        part(wide(body[at + 1]), 0, 8),
+        part(wide(body[at + 2]), 0, 8),
+    )
+}
 
 // Stores the entries of a language from row `first` on, its three lists one after the other.
 fn fill_language(body: &[u8], at: usize, entries: &mut [u16], first: usize) -> PlacedLanguage
-    requires { ⌜ Fillable language entryColumns (λ l. length (entriesOf l)) (now body) at first (now entries) ⌝ }
-    ensures { λ r. ⌜ Nested language entryColumns languageAs (λ l. flatMap entryRow (entriesOf l)) (now (body .entry)) at first (now (entries .entry)) (r .language) (r .next) (now (entries .exit)) ⌝ }
+    requires { ⌜ Fillable language 4 (λ l. length (entriesOf l)) (now body) at first (now entries) ⌝ }
+    ensures { λ r. ⌜ Nested language 4 languageFrom (λ l. flatten (entriesOf l)) (now (body .entry)) at first (now (entries .entry)) (r .language) (r .next) (now (entries .exit)) ⌝ }
 {
-    let language = DescriptionLanguage(wide(body[at]), wide(body[at + 1]), wide(body[at + 2]));
+    let language = letters_at(body, at);
     let g = fill_list(body, at + 3, 7, entries, first);
     let groups = g.list;
     let s = fill_list(body, g.next, 5, entries, row_after(groups.entries));
@@ -118,10 +126,16 @@ fn fill_language(body: &[u8], at: usize, entries: &mut [u16], first: usize) -> P
     }
 }
 
-// Stores `count` languages that were measured as the first rows of table 6, and their entries as those of table 7.
+// A language, and the next position.
+struct PlacedLanguage {
+    language: TextLabelLanguage,
+    next: usize,
+}
+
+// Stores `count` languages as the first rows of table 6, and their entries as those of table 7.
 fn fill_languages(body: &[u8], at: usize, count: usize, languages: &mut [u16], entries: &mut [u16])
-    requires { ⌜ Fillable (many count language) entryColumns (λ l. length (entriesIn l)) (now body) at 0 (now entries) × (languageColumns * count ≤ length (now languages)) ⌝ }
-    ensures { λ r. ⌜ Nests language (λ l. length (entriesOf l)) (λ n l. languageRow (languageAs n l)) (λ l. flatMap entryRow (entriesOf l)) (now (body .entry)) at count (now (languages .entry)) (now (entries .entry)) (now (languages .exit)) (now (entries .exit)) ⌝ }
+    requires { ⌜ Fillable (many count language) 4 (λ l. length (flatMap entriesOf l)) (now body) at 0 (now entries) × (12 * count ≤ length (now languages)) ⌝ }
+    ensures { λ r. ⌜ Nests language (λ l. length (entriesOf l)) rowFrom (λ l. flatten (entriesOf l)) (now (body .entry)) at count (now (languages .entry)) (now (entries .entry)) (now (languages .exit)) (now (entries .exit)) ⌝ }
 {
     let mut pos = at;
     let mut left = count;
@@ -138,25 +152,7 @@ fn fill_languages(body: &[u8], at: usize, count: usize, languages: &mut [u16], e
     }
 }
 
-// ---- the body
-
-// Whether a body has the two bytes before the languages; or 2, or 1.
-pub fn judge_head(body: &[u8]) -> Head
-    ensures { λ r. ⌜ Headed (now (body .entry)) r ⌝ }
-{
-    if 65535 < body.len() {
-        return Head::Refused(Refusal::TooLong(body.len()));
-    }
-    let a = byte_at(body, 0);
-    let Byte::Got(_, n1) = a else {
-        return Head::Refused(Refusal::Short(a.short()));
-    };
-    let b = byte_at(body, n1);
-    let Byte::Got(_, _) = b else {
-        return Head::Refused(Refusal::Short(b.short()));
-    };
-    Head::There
-}
+// ---- the body, once it was measured
 
 // How many languages there are.
 pub fn count_at(body: &[u8]) -> u16
@@ -166,19 +162,6 @@ pub fn count_at(body: &[u8]) -> u16
     part(wide(body[1]), 0, 4)
 }
 
-// The entries of all languages, and k; without languages nothing is walked.
-pub fn rows_behind(body: &[u8], count: usize) -> Sum
-    requires { ⌜ (2 ≤ length (now body)) × (count < 16) ⌝ }
-    ensures { λ r. ⌜ Summed (many count language) (λ l. length (entriesIn l)) (381 * count) (now (body .entry)) 2 r ⌝ }
-{
-    if count == 0 {
-        return Sum::Got(0, 2);
-    }
-    languages_rows(body, 2, count)
-}
-
-// ---- the body, once it was measured
-
 // The record.
 pub fn record_at(body: &[u8], s: Sizes) -> MpegH3dAudioTextLabel
     requires { ⌜ Measures kind (now body) (accepted (sized (s .languages) (s .entries) (s .k))) ⌝ }
@@ -186,7 +169,7 @@ pub fn record_at(body: &[u8], s: Sizes) -> MpegH3dAudioTextLabel
 {
     let b = wide(body[1]);
     MpegH3dAudioTextLabel {
-        scene_info_id: body[0],
+        scene_info_id: part(wide(body[0]), 0, 8) as u8,
         reserved: part(b, 4, 4) as u8,
         languages: s.languages,
         trailing: trailing_run(s.k, body.len()),

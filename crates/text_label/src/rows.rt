@@ -4,7 +4,7 @@ ghost use Prim.Native.Nat.{_+_, _≤_};
 ghost use lib.ListN.{length};
 ghost use Rattle.wire.specs.Prog.{span};
 ghost use Rattle.labels.specs.Rows.{descriptions};
-ghost use Rattle.text_label.specs.Rows.{languageColumns, languageRow, languageOf, topRow};
+ghost use Rattle.text_label.specs.Rows.{languageRow, languageOf, topRow};
 pub use labels::rows::Descriptions;
 pub use labels::rows::ENTRY_COLUMNS;
 pub use labels::rows::TextLabelEntry;
@@ -66,7 +66,7 @@ impl TextLabelLanguage {
 
     // The row whose first column is `at`.
     pub fn of_columns(table: &[u16], at: usize) -> Self
-        requires { ⌜ at + languageColumns ≤ length (now table) ⌝ }
+        requires { ⌜ at + 12 ≤ length (now table) ⌝ }
         ensures { λ r. ⌜ r ≡ languageOf (now (table .entry)) at ⌝ }
     {
         Self {

@@ -1,81 +1,61 @@
-// Tallying the text label body: the reads of `parse` in the same order, the reserved bits at 0 summed on the way.
+// The reserved bits at 0 of a text label body that was measured: before the count of the languages, and those of each language's lists.
 ghost use mathlib.Core.Path.{_≡_};
+ghost use mathlib.Core.Bool.{true};
 ghost use Prim.Native.Nat.{_*_, _<_, _≤_};
 ghost use lib.ListN.{length};
 ghost use Rattle.wire.specs.Lists.{sum};
-ghost use Rattle.wire.specs.Prog.{run, many};
-ghost use Rattle.wire.specs.Reads.{sumOut, mapOut, Summed};
-ghost use Rattle.text_label.specs.Read.{language, parse};
-ghost use Rattle.text_label.specs.Tally.{languageTally, tally};
-use labels::tallying::list_zeros;
-use labels::tallying::zeros_above;
+ghost use Rattle.wire.specs.Prog.{done, run, many};
+ghost use Rattle.wire.specs.Reads.{mapOut, isDone};
+ghost use Rattle.frame.specs.Numbers.{accepted};
+ghost use Rattle.frame.specs.Entry.{Measures, Tallies};
+ghost use Rattle.text_label.specs.Read.{language};
+ghost use Rattle.text_label.specs.Kind.{languageRows, kind};
+ghost use Rattle.text_label.specs.Contract.{sized};
+use super::Sizes;
+use labels::tallying::Tally;
+use labels::tallying::tally_list;
+use wire::bits::idle_bits;
 use wire::bits::part;
-use wire::reads::Byte;
-use wire::reads::Run;
-use wire::reads::Sum;
-use wire::reads::byte_at;
-use wire::reads::run_at;
+use wire::bits::wide;
 
 // Of a language.
-fn language_zeros(body: &[u8], at: usize) -> Sum
-    requires { ⌜ at ≤ length (now body) ⌝ }
-    ensures { λ r. ⌜ Summed language languageTally 3072 (now (body .entry)) at r ⌝ }
+fn tally_language(body: &[u8], at: usize) -> Tally
+    requires { ⌜ (at ≤ length (now body)) × (length (now body) < 65536) × (isDone (run language (now body) at) ≡ true) ⌝ }
+    ensures { λ r. ⌜ (done (r .zeros) (r .next) ≡ mapOut (languageRows .zeros) (run language (now (body .entry)) at)) × (r .zeros ≤ 3072) ⌝ }
 {
-    let letters = run_at(body, at, 3);
-    let Run::Got(_, n1) = letters else {
-        return Sum::Short(letters.short());
-    };
-    let g = list_zeros(body, n1, 7);
-    let Sum::Got(groups, n2) = g else {
-        return g;
-    };
-    let s = list_zeros(body, n2, 5);
-    let Sum::Got(switch_groups, n3) = s else {
-        return s;
-    };
-    let p = list_zeros(body, n3, 5);
-    let Sum::Got(presets, next) = p else {
-        return p;
-    };
-    Sum::Got(groups + switch_groups + presets, next)
+    let g = tally_list(body, at + 3, 7);
+    let s = tally_list(body, g.next, 5);
+    let p = tally_list(body, s.next, 5);
+    Tally {
+        zeros: g.zeros + (s.zeros + p.zeros),
+        next: p.next,
+    }
 }
 
 // Of `count` languages.
-fn languages_zeros(body: &[u8], at: usize, count: usize) -> Sum
-    requires { ⌜ (at ≤ length (now body)) × (count < 256) ⌝ }
-    ensures { λ r. ⌜ Summed (many count language) (sum languageTally) (3072 * count) (now (body .entry)) at r ⌝ }
+fn tally_languages(body: &[u8], at: usize, count: usize) -> Tally
+    requires { ⌜ (at ≤ length (now body)) × (length (now body) < 65536) × (isDone (run (many count language) (now body) at) ≡ true) × (count < 16) ⌝ }
+    ensures { λ r. ⌜ (done (r .zeros) (r .next) ≡ mapOut (sum (languageRows .zeros)) (run (many count language) (now (body .entry)) at)) × (r .zeros ≤ 3072 * count) ⌝ }
 {
     let mut pos = at;
     let mut left = count;
-    let mut zeros = 0;
+    let mut zeros: u32 = 0;
     while 0 < left {
-        let a = language_zeros(body, pos);
-        let Sum::Got(n, next) = a else {
-            return a;
-        };
-        zeros += n;
-        pos = next;
+        let t = tally_language(body, pos);
+        zeros += t.zeros;
+        pos = t.next;
         left -= 1;
     }
-    Sum::Got(zeros, pos)
+    Tally { zeros, next: pos }
 }
 
 // Of a body.
-pub fn body_zeros(body: &[u8]) -> Sum
-    ensures { λ r. ⌜ sumOut r ≡ mapOut tally (run parse (now (body .entry)) 0) ⌝ }
+pub fn zero_bits(body: &[u8], s: Sizes) -> usize
+    requires { ⌜ Measures kind (now body) (accepted (sized (s .languages) (s .entries) (s .k))) ⌝ }
+    ensures { λ r. ⌜ Tallies kind (now (body .entry)) (accepted r) ⌝ }
 {
-    let a = byte_at(body, 0);
-    let Byte::Got(_, n1) = a else {
-        return Sum::Short(a.short());
-    };
-    let b = byte_at(body, n1);
-    let Byte::Got(count, n2) = b else {
-        return Sum::Short(b.short());
-    };
-    let languages = part(count, 0, 4) as usize;
-    let c = languages_zeros(body, n2, languages);
-    let Sum::Got(zeros, k) = c else {
-        return c;
-    };
-    Sum::Got(zeros_above(count, 4) + zeros, k)
+    let count = s.languages;
+    let before = idle_bits(part(wide(body[1]), 4, 4), 4);
+    let t = tally_languages(body, 2, count as usize);
+    (before + t.zeros) as usize
 }

@@ -1,15 +1,15 @@
 // Writing the text label body in two passes, each in the Rust's order: the check pass names the first fault or the length, the fill pass stores the bytes.
 ghost use mathlib.Core.Path.{_≡_};
-ghost use mathlib.Core.Bool.{true};
 ghost use mathlib.Core.List.{[], _∷_};
-ghost use Prim.Native.Nat.{_+_, _*_, _-_, _<_, _≤_, _^_};
+ghost use Prim.Native.Nat.{_*_, _<_, _≤_, _^_};
 ghost use lib.ListN.{length};
-ghost use Rattle.wire.specs.Bits.{fit, Packed};
+ghost use Rattle.wire.specs.Act.{rows};
 ghost use Rattle.wire.specs.Pen.{Checked, Ready, Filled};
+ghost use Rattle.wire.specs.Spell.{Spelt};
 ghost use Rattle.wire.specs.declared.pen.Pen.the-variants.{At};
 ghost use Rattle.frame.specs.Entry.{whole};
-ghost use Rattle.text_label.specs.Rows.{languageColumns};
-ghost use Rattle.text_label.specs.Write.{allInside, letterActs, languageActs, languagesByte, rowsActs, acts, kind};
+ghost use Rattle.text_label.specs.Write.{allWithin, letterFields, languageActs, rowActs, headFields, textLabelActs};
+ghost use Rattle.text_label.specs.Kind.{kind};
 use super::rows::DescriptionLanguage;
 use super::rows::ENTRY_COLUMNS;
 use super::rows::LANGUAGE_COLUMNS;
@@ -17,9 +17,6 @@ use super::rows::MpegH3dAudioTextLabel;
 use super::rows::TextLabelLanguage;
 use labels::writing::check_list;
 use labels::writing::fill_list;
-use wire::bits::fits;
-use wire::bits::fits2;
-use wire::bits::pack2;
 use wire::bits::wide;
 use wire::pen;
 use wire::pen::Fault;
@@ -27,21 +24,33 @@ use wire::pen::Pen;
 use wire::rows::has_rows;
 use wire::rows::in_store;
 use wire::rows::in_table;
+use wire::spell::check_all;
+use wire::spell::fill_all;
+use wire::spell::one;
+use wire::spell::two;
 
-// ---- a row of table 6, checked
+// ---- the bytes
 
-fn check_letters(n: usize, l: DescriptionLanguage) -> Pen
-    requires { ⌜ n < 2 ^ 31 ⌝ }
-    ensures { λ r. ⌜ Checked (letterActs l) 3 (At n) r ⌝ }
+fn head_bytes(m: MpegH3dAudioTextLabel) -> [u32; 2]
+    ensures { λ r. ⌜ Spelt (headFields m) r ⌝ }
 {
-    let p1 = pen::byte(Pen::At(n), fits(l.0, 8));
-    let p2 = pen::byte(p1, fits(l.1, 8));
-    pen::byte(p2, fits(l.2, 8))
+    [
+        one(wide(m.scene_info_id)),
+        two(wide(m.reserved), 4, m.languages, 4),
+    ]
 }
 
+fn letter_bytes(l: DescriptionLanguage) -> [u32; 3]
+    ensures { λ r. ⌜ Spelt (letterFields l) r ⌝ }
+{
+    [one(l.0), one(l.1), one(l.2)]
+}
+
+// ---- the check pass
+
 // Whether the entries of its three lists stand in the table.
-fn all_inside(l: TextLabelLanguage, entries: &[u16]) -> bool
-    ensures { λ r. ⌜ r ≡ allInside l (now (entries .entry)) ⌝ }
+fn all_within(l: TextLabelLanguage, entries: &[u16]) -> bool
+    ensures { λ r. ⌜ r ≡ allWithin l (now (entries .entry)) ⌝ }
 {
     let groups = in_table(l.groups.entries, entries, ENTRY_COLUMNS);
     let switch_groups = in_table(l.switch_groups.entries, entries, ENTRY_COLUMNS);
@@ -54,8 +63,8 @@ fn check_language(n: usize, l: TextLabelLanguage, entries: &[u16], store: &[u8])
     requires { ⌜ n < 2 ^ 24 ⌝ }
     ensures { λ r. ⌜ Checked (languageActs (now (entries .entry)) (now (store .entry)) l) 48579 (At n) r ⌝ }
 {
-    if all_inside(l, entries) {
-        let p1 = check_letters(n, l.language);
+    if all_within(l, entries) {
+        let p1 = check_all(Pen::At(n), true, &letter_bytes(l.language));
         let p2 = check_list(p1, l.groups, 7, entries, store);
         let p3 = check_list(p2, l.switch_groups, 5, entries, store);
         check_list(p3, l.presets, 5, entries, store)
@@ -66,8 +75,8 @@ fn check_language(n: usize, l: TextLabelLanguage, entries: &[u16], store: &[u8])
 
 // The rows of table 6 from the first; a fault ends it.
 fn check_languages(n: usize, languages: &[u16], count: usize, entries: &[u16], store: &[u8]) -> Pen
-    requires { ⌜ (count * languageColumns ≤ length (now languages)) × (count < 16) × (n < 2 ^ 16) ⌝ }
-    ensures { λ r. ⌜ Checked (rowsActs (now (languages .entry) ∷ now (entries .entry) ∷ []) (now (store .entry)) count) (48579 * count) (At n) r ⌝ }
+    requires { ⌜ (count * 12 ≤ length (now languages)) × (count < 16) × (n < 2 ^ 16) ⌝ }
+    ensures { λ r. ⌜ Checked (rows (rowActs (now (languages .entry)) (now (entries .entry)) (now (store .entry))) 0 count) (48579 * count) (At n) r ⌝ }
 {
     let mut at = n;
     let mut i: usize = 0;
@@ -83,18 +92,15 @@ fn check_languages(n: usize, languages: &[u16], count: usize, entries: &[u16], s
     Pen::At(at)
 }
 
-// ---- the body, checked
-
-// All but the trailing run.
+// All but the trailing run; the range of the languages first, at its start.
 fn check_fields(m: MpegH3dAudioTextLabel, languages: &[u16], entries: &[u16], store: &[u8]) -> Pen
-    ensures { λ r. ⌜ Checked (acts m (now (languages .entry) ∷ now (entries .entry) ∷ []) (now (store .entry))) 728687 (At 0) r ⌝ }
+    ensures { λ r. ⌜ Checked (textLabelActs m (now (languages .entry)) (now (entries .entry)) (now (store .entry))) 728687 (At 0) r ⌝ }
 {
     let count = m.languages;
     if has_rows(languages, LANGUAGE_COLUMNS, count as usize) {
-        let p1 = pen::byte(Pen::At(0), fits(wide(m.scene_info_id), 8));
-        let p2 = pen::byte(p1, languages_fit(m));
-        let Pen::At(n) = p2 else {
-            return p2;
+        let p = check_all(Pen::At(0), true, &head_bytes(m));
+        let Pen::At(n) = p else {
+            return p;
         };
         check_languages(n, languages, count as usize, entries, store)
     } else {
@@ -117,15 +123,6 @@ pub fn check(m: MpegH3dAudioTextLabel, languages: &[u16], entries: &[u16], store
 
 // ---- the fill pass
 
-fn fill_letters(l: DescriptionLanguage, out: &mut [u8], n: usize) -> usize
-    requires { ⌜ Ready (letterActs l) n (now out) ⌝ }
-    ensures { λ r. ⌜ Filled (letterActs l) n (now (out .entry)) r (now (out .exit)) ⌝ }
-{
-    let n1 = pen::put(out, n, l.0);
-    let n2 = pen::put(out, n1, l.1);
-    pen::put(out, n2, l.2)
-}
-
 fn fill_language(
     l: TextLabelLanguage,
     entries: &[u16],
@@ -136,7 +133,7 @@ fn fill_language(
     requires { ⌜ Ready (languageActs (now entries) (now store) l) n (now out) ⌝ }
     ensures { λ r. ⌜ Filled (languageActs (now (entries .entry)) (now (store .entry)) l) n (now (out .entry)) r (now (out .exit)) ⌝ }
 {
-    let n1 = fill_letters(l.language, out, n);
+    let n1 = fill_all(out, n, true, &letter_bytes(l.language));
     let n2 = fill_list(l.groups, 7, entries, store, out, n1);
     let n3 = fill_list(l.switch_groups, 5, entries, store, out, n2);
     fill_list(l.presets, 5, entries, store, out, n3)
@@ -151,8 +148,8 @@ fn fill_languages(
     out: &mut [u8],
     n: usize,
 ) -> usize
-    requires { ⌜ (count * languageColumns ≤ length (now languages)) × (count < 2 ^ 16) × Ready (rowsActs (now languages ∷ now entries ∷ []) (now store) count) n (now out) ⌝ }
-    ensures { λ r. ⌜ Filled (rowsActs (now (languages .entry) ∷ now (entries .entry) ∷ []) (now (store .entry)) count) n (now (out .entry)) r (now (out .exit)) ⌝ }
+    requires { ⌜ (count * 12 ≤ length (now languages)) × (count < 2 ^ 16) × Ready (rows (rowActs (now languages) (now entries) (now store)) 0 count) n (now out) ⌝ }
+    ensures { λ r. ⌜ Filled (rows (rowActs (now (languages .entry)) (now (entries .entry)) (now (store .entry))) 0 count) n (now (out .entry)) r (now (out .exit)) ⌝ }
 {
     let mut at = n;
     let mut i: usize = 0;
@@ -172,13 +169,12 @@ fn fill_fields(
     store: &[u8],
     out: &mut [u8],
 ) -> usize
-    requires { ⌜ Ready (acts m (now languages ∷ now entries ∷ []) (now store)) 0 (now out) ⌝ }
-    ensures { λ r. ⌜ Filled (acts m (now (languages .entry) ∷ now (entries .entry) ∷ []) (now (store .entry))) 0 (now (out .entry)) r (now (out .exit)) ⌝ }
+    requires { ⌜ Ready (textLabelActs m (now languages) (now entries) (now store)) 0 (now out) ⌝ }
+    ensures { λ r. ⌜ Filled (textLabelActs m (now (languages .entry)) (now (entries .entry)) (now (store .entry))) 0 (now (out .entry)) r (now (out .exit)) ⌝ }
 {
     let count = m.languages;
-    let n1 = pen::put(out, 0, wide(m.scene_info_id));
-    let n2 = pen::put(out, n1, languages_byte(m));
-    fill_languages(languages, count as usize, entries, store, out, n2)
+    let n = fill_all(out, 0, true, &head_bytes(m));
+    fill_languages(languages, count as usize, entries, store, out, n)
 }
 
 pub fn fill(
@@ -195,19 +191,4 @@ pub fn fill(
     let count = m.trailing.length;
     let n = fill_fields(m, languages, entries, store, out);
     pen::copy(out, n, store, from as usize, count as usize)
-}
-
-// ---- the byte before the languages
-
-fn languages_fit(m: MpegH3dAudioTextLabel) -> bool
-    ensures { λ r. ⌜ r ≡ fit (languagesByte m) ⌝ }
-{
-    fits2(wide(m.reserved), 4, m.languages, 4)
-}
-
-fn languages_byte(m: MpegH3dAudioTextLabel) -> u16
-    requires { ⌜ fit (languagesByte m) ≡ true ⌝ }
-    ensures { λ r. ⌜ Packed (languagesByte m) r ⌝ }
-{
-    pack2(wide(m.reserved), 4, m.languages, 4)
 }

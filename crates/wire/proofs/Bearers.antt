@@ -24,7 +24,7 @@ use Rattle.wire.specs.declared.pen.Pen.{Pen}
 use Rattle.wire.specs.declared.pen.Pen.the-variants.{At, Stop}
 use Rattle.wire.proofs.Runs.{andThen, run-bind}
 use Rattle.wire.proofs.Steps.{lacks, got-run, lacks-run}
-use Rattle.wire.proofs.Walk.{step, halt, run-ret, byte-next}
+use Rattle.wire.proofs.Walk.{map-done, step, halt, run-ret, byte-next}
 use Rattle.wire.proofs.Tables.{each-length}
 use Rattle.wire.proofs.Acts.{and-both, both-and, clean-append, clean-both, bytes-append}
 use Rattle.wire.proofs.Fields.{fits-cons}
@@ -32,7 +32,7 @@ use Rattle.wire.proofs.Passes.{stuck, stopped, then, more, clean-looks,
 use Rattle.wire.proofs.Cells.{On, on-none, every-same, proper, cells-on, Same, same}
 use Rattle.wire.proofs.Forms.{form-shown, form-all, form-proper, below, each-in, row-of}
 use Rattle.wire.proofs.Rowed.{each-like, row-on, on-all, matched-none}
-use Rattle.wire.proofs.Straight.{read-so, end-of, still-done, thenEnds, ends-got, ends-lacks, ends-append, ends-at, ends-within, ends-on, ends-cut, ends-done, total-append}
+use Rattle.wire.proofs.Straight.{read-so, end-of, thenEnds, ends-got, ends-lacks, ends-append, ends-at, ends-within, ends-on, ends-cut, ends-done, total-append}
 use Rattle.wire.proofs.Plain.{no-quick}
 use Rattle.wire.proofs.Families.{then-map}
 use Rattle.wire.proofs.Borne.{bear-form, Bear, t, stands}
@@ -129,7 +129,7 @@ module _ (b : Bearing) (s : List ℕ) where
     pub bear-whole : at ≤ length s → isDone (run (bearing b) s at) ≡ true → Borne-whole
     unfolding total
     bear-whole h q =
-        let (e, w) = ends-done rowSizes s at h (sym (ap isDone bear-so ∙ still-done (borneAt b s at) (ends rowSizes s at)) ∙ q) in
+        let (e, w) = ends-done rowSizes s at h (sym (ap isDone bear-so ∙ map-done (λ (u : Unit {0}). borneAt b s at) (ends rowSizes s at)) ∙ q) in
         let z : at + total rowSizes ≡ sizeAt b s at + 1 + sizeIs b s at = omega (arith, total-append (headSizes b s at) (1 ∷ sizeIs b s at ∷ [])) in
         record { is = bear-so ∙ ap (mapOut (λ (u : Unit {0}). borneAt b s at)) (e ∙ ap (done tt) z); there = rw z at w }
 

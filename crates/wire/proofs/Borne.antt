@@ -12,7 +12,7 @@ use Rattle.wire.specs.Lists.{Every, each, Column}
 use Rattle.wire.specs.Bits.{field}
 use Rattle.wire.specs.Prog.{ret, u8, pass, span, Within, _>>=_}
 use Rattle.wire.specs.declared.rows.Payload.{Payload}
-use Rattle.wire.specs.Act.{Act, demand, byte, copy, pick, rows}
+use Rattle.wire.specs.Act.{Act, demand, byte, copy, pick}
 use Rattle.wire.specs.Pen.{clean, bytes}
 use Rattle.wire.specs.declared.pen.Fault.the-variants as F
 use Rattle.wire.specs.Layout.{Cell, end, Columns, of, row, at, reads, writes, shown, cells, matches, matched, every, flagged, counted, has, mix, columns, kept, blank, Bearing, Borne, bearing, borneBytes, bearingActs, bearingMeans, borne, bearingHeeds, borneRow}
@@ -23,7 +23,7 @@ use Rattle.wire.proofs.Takes.{Takes, takes-split, u8-takes, map-takes}
 use Rattle.wire.proofs.Codec.{Codec, Spells, seen-as, As-fits, sized, sized-read, sized-acts, sized-fits}
 use Rattle.wire.proofs.Cells.{On, sound, clash, every-same, mix-in, both-sound, sound-both}
 use Rattle.wire.proofs.Forms.{Form, last, hole, form-go, form-means, form-acts, form-shown, form-matches, form-all, form-proper, form-spans, form-shown-in, below, each-every, rows-of, rows-goes, woven, Fit, Holes, Cleans, alike, means-again, row-spells, row-ready, row-columns}
-use Rattle.wire.proofs.Rowed.{Wide, Good, row-on, on-all, after-demands, each-as, each-clean, each-wide, found, room-for}
+use Rattle.wire.proofs.Rowed.{Wide, Good, row-on, on-all, after-demands, each-wide, found, room-for}
 
 -- a payload with its length stands behind the head; no column steers it
 abbrev pub bear-form : Bearing → Form (Payload × Unit {0}) (List ℕ × Unit {0})
@@ -195,17 +195,10 @@ module _ (x : Bear) where
       let n : length (u₁ .front) ≡ 1 = ap length (u8-takes (u₁ .first)) in
       (subst (λ (v : Borne). Wide (b .width) (v .0)) e (each-length (u₀ .value) 0 (b .width)), omega (arith, n, ap length (u₀ .joined) ∙ length-append (u₀ .front) (u₀ .back), ap length (u₁ .joined) ∙ length-append (u₁ .front) (u₁ .back)))
 
-  -- ---- a list of them in their table; cols are the columns of row i, as writing reads them
+  -- ---- a list of them in their table
 
   pub borne-wide : (vs : List Borne) → Every (Wide (b .width)) (map (borneRow b) vs)
   borne-wide vs = each-wide (b .width) (λ (v : Borne). borne b (v .1 .offset) (v .1 .length) (of (v .0))) vs
-
-  module _ (s : List ℕ) (vs : List Borne) (cols : ℕ → Columns) (stand : each (λ i. row (b .width) (cols i)) 0 (length vs) ≡ map (borneRow b) vs) where
-    pub borne-again : Every (λ (v : Borne). bears .Fits (meant s v)) vs → each (λ i. bearingMeans b s (cols i)) 0 (length vs) ≡ map (meant s) vs
-    borne-again h = each-as (λ (v : Borne). bears .Fits (meant s v)) (borneRow b) (λ i. row (b .width) (cols i)) (λ i. bearingMeans b s (cols i)) (meant s) (λ i v e f. bear-again s v f (cols i) e) 0 (length vs) vs stand h
-
-    pub borne-ready : Every (λ (v : Borne). Good bears (meant s v) × Within s (v .1)) vs → clean (rows (λ i. bearingActs b s (cols i)) 0 (length vs)) ≡ true
-    borne-ready h = each-clean (λ (v : Borne). Good bears (meant s v) × Within s (v .1)) (borneRow b) (λ i. row (b .width) (cols i)) (λ i. bearingActs b s (cols i)) (λ i v e g. bear-ready s v (g .0) (g .1) (cols i) e) 0 (length vs) vs stand h
 
   module _ (vs : List Borne) (behind : List ℕ) where
     abbrev table : List ℕ

@@ -27,7 +27,7 @@ use Rattle.wire.specs.Straight.{ends, ones, putsAt, took, taken, spans, 
 use Rattle.wire.specs.declared.reads.Short.{Short}
 use Rattle.wire.specs.declared.reads.Sum.the-variants as S
 use Rattle.wire.proofs.Runs.{andThen, run-bind}
-use Rattle.wire.proofs.Walk.{undo, as-done, as-short, is-done}
+use Rattle.wire.proofs.Walk.{map-map, undo, as-done, as-short, is-done}
 use Rattle.wire.proofs.Walk.{ends as ends-in}
 use Rattle.wire.proofs.Loops.{many-next, many-none, many-long, many-weighs, none-left, pos-turn, summed-done, summed-short}
 use Rattle.wire.proofs.Adding.{Adding, adding-start, adding-turn, adding-end}
@@ -68,10 +68,6 @@ then-ret : {A B : Type 0} (f : A → B) (o : Out A) (s : List ℕ) → andThen o
 unfolding run
 then-ret f (done a n) s = refl
 then-ret f (short x) s = refl
-
-map-map : {A B C : Type 0} (f : A → B) (g : B → C) (o : Out A) → mapOut g (mapOut f o) ≡ mapOut (λ a. g (f a)) o
-map-map f g (done a n) = refl
-map-map f g (short x) = refl
 
 end-then : {A B : Type 0} (o : Out A) (k : A → ℕ → Out B) (e : ℕ → Out (Unit {0})) → ((a : A) (n : ℕ) → endOf (k a n) ≡ e n) → endOf (andThen o k) ≡ andThen (endOf o) (λ u n. e n)
 end-then (done a n) k e h = h a n

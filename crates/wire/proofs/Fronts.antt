@@ -1,7 +1,7 @@
 -- Rows at the front of lent tables: what storing them leaves, of one table and of two whose rows belong together.
 use Prim.Native.Nat.{ℕ, _*_, _≤_}
-use mathlib.Core.Path.{_≡_, refl, sym, ap, subst, _∙_}
-use mathlib.Core.List.{List, [], _∷_, _++_, map, map-id, flatten, flatMap, append-assoc}
+use mathlib.Core.Path.{_≡_, sym, ap, subst, _∙_}
+use mathlib.Core.List.{List, _++_, map, map-id, flatten, flatMap}
 use native.Mathlib.Omega.{arith}
 use lib.ListN.{length, drop, length-map}
 use lib.Seq.{sets}
@@ -10,6 +10,7 @@ use Rattle.wire.specs.Prog.{Prog, Out, done, run, many}
 use Rattle.wire.specs.Reads.{rowsOf}
 use Rattle.wire.specs.Nest.{Nests}
 use Rattle.wire.specs.Layout.{Broken, Family, parents, kids, brokenRow}
+use Rattle.wire.proofs.Lists.{flat-rows}
 use Rattle.wire.proofs.Steps.{front-stored}
 use Rattle.wire.proofs.Tables.{flat-map}
 use Rattle.wire.proofs.Rowed.{Wide, rows-long, Nest, parents-long, parents-wide}
@@ -28,16 +29,6 @@ flat-front n l t {t′} e d w h =
     let q : map (λ r. r) l ≡ l = map-id l in
     subst (λ (l : List (List ℕ)). t′ ≡ flatten l ++ drop (length (flatten l)) t) q (rows-front (λ r. r) n l t e d (subst (Every (Wide n)) (sym q) w) h)
 
-flatten-append : (a b : List (List ℕ)) → flatten (a ++ b) ≡ flatten a ++ flatten b
-unfolding flatten
-flatten-append [] b = refl
-flatten-append (x ∷ a) b = ap (λ (l : List ℕ). x ++ l) (flatten-append a b) ∙ sym (append-assoc x (flatten a) (flatten b))
-
-kids-flat : (l : List Family) → flatMap (λ x. flatten (x .1)) l ≡ flatten (kids l)
-unfolding flatMap flatten
-kids-flat [] = refl
-kids-flat (x ∷ l) = ap (λ (r : List ℕ). flatten (x .1) ++ r) (kids-flat l) ∙ sym (flatten-append (x .1) (kids l))
-
 -- rows with rows of another table, both at the front of theirs
 pub record Both (b : Broken) (l : List Family) (t u t′ u′ : List ℕ) : Type 0 where
   pub outer : t′ ≡ flatten (parents b l) ++ drop (length (flatten (parents b l))) t
@@ -52,5 +43,5 @@ both n p {end = end} l t u v d w h k =
     let a : length (parents (n .row) l) * n .row .width ≤ length t = subst (λ (k : ℕ). k * n .row .width ≤ length t) (sym m) h in
     record {
       outer = v .outer ∙ ap (λ (l : List Family). sets t 0 (flatMap (brokenRow (n .row)) (firsts (λ x. length (x .1)) 0 l))) e ∙ ap (sets t 0) (flat-map (brokenRow (n .row)) (firsts (λ (x : Family). length (x .1)) 0 l)) ∙ front (n .row .width) (parents (n .row) l) t (parents-wide n l) a;
-      inner = v .inner ∙ ap (λ (l : List Family). sets u 0 (flatMap (λ x. flatten (x .1)) l)) e ∙ ap (sets u 0) (kids-flat l) ∙ front (n .kid .columns) (kids l) u w k;
+      inner = v .inner ∙ ap (λ (l : List Family). sets u 0 (flatMap (λ x. flatten (x .1)) l)) e ∙ ap (sets u 0) (flat-rows (λ (x : Family). x .1) l) ∙ front (n .kid .columns) (kids l) u w k;
     }

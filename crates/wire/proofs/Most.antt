@@ -1,7 +1,7 @@
 -- How many bytes a layout makes at most, whatever its columns are; and rows, what is demanded before a row making none.
 use Prim.Native.Nat.{ℕ, zero, suc, _+_, _*_, _≤_}
 use mathlib.Core.Path.{_≡_, refl, ap, _∙_}
-use mathlib.Core.List.{List, [], _∷_, _++_, map, flatten}
+use mathlib.Core.List.{List, [], _∷_, _++_, append-nil, map, flatten}
 use mathlib.Core.Bool.{Bool, true, false}
 use native.Mathlib.Nat.{suc-mul}
 use native.Mathlib.Omega.{arith}
@@ -9,10 +9,13 @@ use lib.ListN.{length, length-append}
 use lib.Dec.{leb}
 use borrow.Author.Tests.{leb-true, leb-false}
 use Rattle.wire.specs.Lists.{each}
-use Rattle.wire.specs.Act.{Act, pick, rows}
+use Rattle.wire.specs.Bits.{field, fit}
+use Rattle.wire.specs.Act.{Act, byte, copy, pick, rows}
 use Rattle.wire.specs.Pen.{clean, bytes}
-use Rattle.wire.specs.Layout.{Cell, Layout, end, line, word, choose, follows, judged, Columns, byteOf, writes, cells, every, flagged, counted, matched, demands, flatActs}
+use Rattle.wire.specs.Layout.{Cell, Layout, end, line, word, choose, follows, judged, Columns, byteOf, writes, cells, every, flagged, counted, matched, demands, flatActs, Bearing, borneBytes, bearingActs}
 use Rattle.wire.proofs.Acts.{and-both, clean-both, bytes-append}
+use Rattle.wire.proofs.Fields.{fits-cons}
+use Rattle.wire.proofs.Passes.{slice-long}
 use Rattle.wire.proofs.Rowed.{after-demands}
 
 abbrev larger : ℕ → ℕ → ℕ
@@ -80,3 +83,22 @@ rows-most f k h i zero e = omega arith
 rows-most f k h i (suc n) e =
     let (a, b) = clean-both (f i) (rows f (i + 1) n) e in
     omega (arith, both-long (f i) (rows f (i + 1) n), h i a, rows-most f k h (i + 1) n b, suc-mul n k)
+
+-- a row that ends with a payload: its head, the byte with the length, and at most 255 bytes
+pub bearing-most : (b : Bearing) (store : List ℕ) (g : Columns) → clean (bearingActs b store g) ≡ true → length (bytes (bearingActs b store g)) ≤ most (b .head) + 256
+unfolding clean bytes
+bearing-most b store g c =
+    let w = b .head in
+    let l = borneBytes b store g in
+    let run = byte (field 8 (g (b .size)) ∷ []) ∷ copy l ∷ [] in
+    let (r, e₀) = and-both (leb (g (b .offset) + g (b .size)) (length store)) _ c in
+    let (_, e₁) = clean-both (writes w g) run (demanded-clean (w ∷ []) g (writes w g ++ run) e₀) in
+    let (f, _) = and-both (fit (field 8 (g (b .size)) ∷ [])) _ e₁ in
+    omega (
+      arith,
+      fits-cons 8 (g (b .size)) [] f .0,
+      demanded-long (w ∷ []) g (writes w g ++ run),
+      both-long (writes w g) run,
+      writes-most w g,
+      ap length (append-nil l) ∙ slice-long (g (b .offset)) (g (b .size)) store (leb-true _ _ r),
+    )

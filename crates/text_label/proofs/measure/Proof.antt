@@ -1,51 +1,44 @@
--- `text_label::measure` meets its contract: the two bytes, and the languages walked.
-use Rattle.text_label.proofs.Parsed.{count-four}
-use Rattle.text_label.proofs.Sighted.{measures-unheaded, walked}
+-- `text_label::measure` meets its contract: what the walk along the body sums up.
+use Rattle.frame.proofs.Entries.{measures-long}
+use Rattle.text_label.specs.Kind.{kind}
+use Rattle.text_label.proofs.Sighted.{head-there, rows-few, measured-so, measured-short}
 use borrow.Author.Needs.{needs}
 use Rattle.text_label.proofs.measure.Statement.{statement}
 use Rattle.text_label.proofs.measure.Tie as tie
 
-judge-head-requires : tie.Need-judge-head-requires
-judge-head-requires c κs = search needs
+returns : tie.Need-returns
+returns c = measures-long kind _ (c .if1 .taken)
 
-enum-known-h : tie.Need-enum-known-h
-enum-known-h c = search needs
+rows-requires : tie.Need-rows-requires
+rows-requires c κs = search needs
 
-enum-told : tie.Need-enum-told
-enum-told c = search needs
+enum-known-r : tie.Need-enum-known-r
+enum-known-r c = search needs
 
 count-at-requires : tie.Need-count-at-requires
-count-at-requires c κs =
-    c .before .before .judge-head .ensures .there (c .enum-told .given .1) .0
+count-at-requires c κs = search head-there
 
-cast-count : tie.Need-cast-count
-cast-count c = search needs
+cast-t12 : tie.Need-cast-t12
+cast-t12 c = search (needs, rows-few)
 
-languages-rows-requires : tie.Need-languages-rows-requires
-languages-rows-requires c κs =
-    (c .before .before .before .judge-head .ensures .there (c .before .enum-told .given .1) .0, count-four _ (c .count-at .ensures))
-
-measure-walked-requires : tie.Need-measure-walked-requires
-measure-walked-requires c κs =
-    walked (c .before .before .before .before .judge-head .ensures .there (c .before .before .enum-told .given .1)) (c .before .count-at .ensures) (c .languages-rows .ensures)
-
-returns : tie.Need-returns
-returns c =
-    measures-unheaded (c .before .before .before .judge-head .ensures) (c .before .h .given .1)
+enum-known-r-2 : tie.Need-enum-known-r-2
+enum-known-r-2 c = search needs
 
 returns-2 : tie.Need-returns-2
-returns-2 c = search needs
+returns-2 c = search measured-so
+
+returns-3 : tie.Need-returns-3
+returns-3 c = search measured-short
 
 pub measure-spec : {M : Type 1} → statement M
 measure-spec =
     tie.close
     (tie.spec
-    judge-head-requires
-    enum-known-h
-    enum-told
-    count-at-requires
-    cast-count
-    languages-rows-requires
-    measure-walked-requires
     returns
-    returns-2)
+    rows-requires
+    enum-known-r
+    count-at-requires
+    cast-t12
+    enum-known-r-2
+    returns-2
+    returns-3)

@@ -1,6 +1,6 @@
 -- `text_label::write` meets its contract: what is answered after the check pass, and the fill pass.
 use Rattle.frame.proofs.Entries.{writes-refused, fillable, writes-done}
-use Rattle.text_label.specs.Write.{kind}
+use Rattle.text_label.specs.Kind.{kind}
 use borrow.Author.Needs.{needs}
 use Rattle.text_label.proofs.write.Statement.{statement}
 use Rattle.text_label.proofs.write.Tie as tie

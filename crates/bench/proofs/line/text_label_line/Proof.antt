@@ -1,6 +1,6 @@
 -- `bench::line::text_label_line` meets its contract: what was measured and tallied.
 use mathlib.Core.Path.{sym, ap, _∙_}
-use Rattle.text_label.specs.Write.{kind}
+use Rattle.text_label.specs.Kind.{kind}
 use Rattle.text_label.specs.Contract.{measured}
 use Rattle.bench.proofs.Decided.{too-long, judged}
 use borrow.Author.Needs.{needs}

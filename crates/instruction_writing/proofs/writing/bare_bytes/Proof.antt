@@ -11,23 +11,23 @@ of-columns-requires c κs = search needs
 in-table-requires : tie.Need-in-table-requires
 in-table-requires c κs = search needs
 
-mul-fits2 : tie.Need-mul-fits2
-mul-fits2 c = search needs
+mul-two : tie.Need-mul-two
+mul-two c = search needs
 
-shared-slice-read-fits2 : tie.Need-shared-slice-read-fits2
-shared-slice-read-fits2 c = search needs
+shared-slice-read-two : tie.Need-shared-slice-read-two
+shared-slice-read-two c = search needs
 
-add-fits2 : tie.Need-add-fits2
-add-fits2 c = search needs
+add-two : tie.Need-add-two
+add-two c = search needs
 
-mul-fits2-2 : tie.Need-mul-fits2-2
-mul-fits2-2 c = search needs
+mul-two-2 : tie.Need-mul-two-2
+mul-two-2 c = search needs
 
-shared-slice-read-fits2-2 : tie.Need-shared-slice-read-fits2-2
-shared-slice-read-fits2-2 c = search needs
+shared-slice-read-two-2 : tie.Need-shared-slice-read-two-2
+shared-slice-read-two-2 c = search needs
 
-fits2-requires : tie.Need-fits2-requires
-fits2-requires c κs = search needs
+two-requires : tie.Need-two-requires
+two-requires c κs = search needs
 
 settings-bytes-requires : tie.Need-settings-bytes-requires
 settings-bytes-requires c κs = search needs
@@ -40,11 +40,11 @@ fits-all-requires c κs = search needs
 
 returns : tie.Need-returns
 returns c =
-    bare-plain (c .before .before .before .before .before .before .before .before .before .before .before .args .t .now) (c .before .before .before .before .before .before .before .before .before .before .before .args .b) (c .before .before .before .before .before .before .before .before .before .before .before .args .additional .now) (c .before .before .before .before .before .before .before .before .before .before .before .pre .1) (c .before .before .before .before .before .before .before .before .of-columns .ensures) (c .before .before .before .before .before .before .before .in-table .ensures) (c .before .before .before .before .fits2 .ensures) (c .before .before .before .settings-bytes .ensures) (c .before .fits-all .ensures) (omega (arith, c .before .before .before .before .before .before .before .before .of-columns .ok .1 .1 .1 .1 .1 .1 .1 .1 .0)) (c .if1 .taken)
+    bare-plain (c .before .before .before .before .before .before .before .before .before .before .before .args .t .now) (c .before .before .before .before .before .before .before .before .before .before .before .args .b) (c .before .before .before .before .before .before .before .before .before .before .before .args .additional .now) (c .before .before .before .before .before .before .before .before .before .before .before .pre .1) (c .before .before .before .before .before .before .before .before .of-columns .ensures) (c .before .before .before .before .before .before .before .in-table .ensures) (c .before .before .before .before .two .ensures .fits) (c .before .before .before .settings-bytes .ensures) (c .before .fits-all .ensures) (omega (arith, c .before .before .before .before .before .before .before .before .of-columns .ok .1 .1 .1 .1 .1 .1 .1 .1 .0)) (c .if1 .taken)
 
 returns-2 : tie.Need-returns-2
 returns-2 c =
-    bare-odd (c .before .before .before .before .before .before .before .before .before .before .before .args .t .now) (c .before .before .before .before .before .before .before .before .before .before .before .args .b) (c .before .before .before .before .before .before .before .before .before .before .before .args .additional .now) (c .before .before .before .before .before .before .before .before .before .before .before .pre .1) (c .before .before .before .before .before .before .before .before .of-columns .ensures) (c .before .before .before .before .before .before .before .in-table .ensures) (c .before .before .before .before .fits2 .ensures) (c .before .before .before .settings-bytes .ensures) (c .before .fits-all .ensures) (omega (arith, c .before .before .before .before .before .before .before .before .of-columns .ok .1 .1 .1 .1 .1 .1 .1 .1 .0)) (c .if1 .left)
+    bare-odd (c .before .before .before .before .before .before .before .before .before .before .before .args .t .now) (c .before .before .before .before .before .before .before .before .before .before .before .args .b) (c .before .before .before .before .before .before .before .before .before .before .before .args .additional .now) (c .before .before .before .before .before .before .before .before .before .before .before .pre .1) (c .before .before .before .before .before .before .before .before .of-columns .ensures) (c .before .before .before .before .before .before .before .in-table .ensures) (c .before .before .before .before .two .ensures .fits) (c .before .before .before .settings-bytes .ensures) (c .before .fits-all .ensures) (omega (arith, c .before .before .before .before .before .before .before .before .of-columns .ok .1 .1 .1 .1 .1 .1 .1 .1 .0)) (c .if1 .left)
 
 pub bare-bytes-spec : {M : Type 1} → statement M
 bare-bytes-spec =
@@ -52,12 +52,12 @@ bare-bytes-spec =
     (tie.spec
     of-columns-requires
     in-table-requires
-    mul-fits2
-    shared-slice-read-fits2
-    add-fits2
-    mul-fits2-2
-    shared-slice-read-fits2-2
-    fits2-requires
+    mul-two
+    shared-slice-read-two
+    add-two
+    mul-two-2
+    shared-slice-read-two-2
+    two-requires
     settings-bytes-requires
     slice-aggregate-fits-all
     fits-all-requires

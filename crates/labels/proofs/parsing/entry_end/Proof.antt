@@ -1,16 +1,11 @@
--- `labels::parsing::entry_end` meets its contract: a place after each read, whatever the width.
-use mathlib.Core.Path.{ap, refl}
-use Rattle.wire.specs.Prog.{ret, u8, pass}
-use Rattle.wire.specs.Reads.{byteOut, runOut, endOf}
-use Rattle.wire.proofs.Walk.{begun, onward, cut-off, finished}
-use Rattle.labels.specs.Read.{entry}
-use Rattle.labels.proofs.Parsed.{entryIs, afterLength, afterId, after-two}
+-- `parsing::entry_end` meets its contract: the two bytes before the label are one comparison, and then its bytes.
+use Rattle.labels.proofs.Taken.{entry-lacks, behind-inside, length-there, entry-ends}
 use borrow.Author.Needs.{needs}
 use Rattle.labels.proofs.parsing.entry_end.Statement.{statement}
 use Rattle.labels.proofs.parsing.entry_end.Tie as tie
 
-byte-at-requires : tie.Need-byte-at-requires
-byte-at-requires c κs = search needs
+head-requires : tie.Need-head-requires
+head-requires c κs = search needs
 
 enum-known-a : tie.Need-enum-known-a
 enum-known-a c = search needs
@@ -18,82 +13,38 @@ enum-known-a c = search needs
 enum-told : tie.Need-enum-told
 enum-told c = search needs
 
-short-requires : tie.Need-short-requires
-short-requires c κs = search needs
-
 returns : tie.Need-returns
-unfolding entry
-returns c =
-    record { of = λ w. ap endOf (cut-off u8 (afterId w) (begun (entry w) _ _ (c .before .before .before .before .before .pre)) (c .before .before .before .byte-at .ensures .is) (ap byteOut (c .before .enum-told .given .1)) (c .short .ensures)) }
+returns c = search entry-lacks
 
-byte-at-requires-2 : tie.Need-byte-at-requires-2
-unfolding entry
-byte-at-requires-2 c κs =
-    onward u8 (afterId 0) (begun (entry 0) _ _ (c .before .before .before .before .before .pre)) (c .before .before .before .byte-at .ensures .is) (ap byteOut (c .before .a .given .1)) .inside
+add-wide : tie.Need-add-wide
+add-wide c = search needs
 
-enum-known-b : tie.Need-enum-known-b
-enum-known-b c = search needs
+shared-slice-read-wide : tie.Need-shared-slice-read-wide
+shared-slice-read-wide c = search length-there
 
-enum-told-2 : tie.Need-enum-told-2
-enum-told-2 c = search needs
+wide-requires : tie.Need-wide-requires
+wide-requires c κs = search needs
 
-short-requires-2 : tie.Need-short-requires-2
-short-requires-2 c κs = search needs
+cast-bytes-end : tie.Need-cast-bytes-end
+cast-bytes-end c = search needs
+
+bytes-end-requires : tie.Need-bytes-end-requires
+bytes-end-requires c κs = search (needs, behind-inside)
 
 returns-2 : tie.Need-returns-2
-unfolding entry
-returns-2 c =
-    record {
-      of = λ w. ap endOf (cut-off u8 (afterLength w _) (onward u8 (afterId w) (begun (entry w) _ _ (c .before .before .before .before .before .before .before .before .before .pre)) (c .before .before .before .before .before .before .before .byte-at .ensures .is) (ap byteOut (c .before .before .before .before .before .a .given .1))) (c .before .before .before .byte-at2 .ensures .is) (ap byteOut (c .before .enum-told2 .given .1)) (c .short2 .ensures));
-    }
-
-cast-run-at : tie.Need-cast-run-at
-cast-run-at c = search needs
-
-run-at-requires : tie.Need-run-at-requires
-run-at-requires c κs =
-    let small = c .before .before .before .byte-at2 .ensures .small in
-    (after-two 0 _ _ (c .before .before .before .before .before .before .before .before .before .pre) (c .before .before .before .before .before .before .before .byte-at .ensures .is) (ap byteOut (c .before .before .before .before .before .a .given .1)) (c .before .before .before .byte-at2 .ensures .is) (ap byteOut (c .before .b .given .1)) .inside, search needs)
-
-enum-known-c : tie.Need-enum-known-c
-enum-known-c c = search needs
-
-enum-told-3 : tie.Need-enum-told-3
-enum-told-3 c = search needs
-
-short-requires-3 : tie.Need-short-requires-3
-short-requires-3 c κs = search needs
-
-returns-3 : tie.Need-returns-3
-returns-3 c =
-    record {
-      of = λ w. ap endOf (cut-off (pass _) (λ p. ret (entryIs w _ _ p)) (after-two w _ _ (c .before .before .before .before .before .before .before .before .before .before .before .before .before .pre) (c .before .before .before .before .before .before .before .before .before .before .before .byte-at .ensures .is) (ap byteOut (c .before .before .before .before .before .before .before .before .before .a .given .1)) (c .before .before .before .before .before .before .before .byte-at2 .ensures .is) (ap byteOut (c .before .before .before .before .before .b .given .1))) (c .before .before .before .run-at .ensures) (ap runOut (c .before .enum-told3 .given .1)) (c .short3 .ensures));
-    }
-
-returns-4 : tie.Need-returns-4
-returns-4 c =
-    record {
-      of = λ w. ap endOf (finished (onward (pass _) (λ p. ret (entryIs w _ _ p)) (after-two w _ _ (c .before .before .before .before .before .before .before .before .before .before .before .before .before .pre) (c .before .before .before .before .before .before .before .before .before .before .before .byte-at .ensures .is) (ap byteOut (c .before .before .before .before .before .before .before .before .before .a .given .1)) (c .before .before .before .before .before .before .before .byte-at2 .ensures .is) (ap byteOut (c .before .before .before .before .before .b .given .1))) (c .before .before .before .run-at .ensures) (ap runOut (c .before .c .given .1))) refl);
-    }
+returns-2 c = search entry-ends
 
 pub entry-end-spec : {M : Type 1} → statement M
 entry-end-spec =
     tie.close
     (tie.spec
-    byte-at-requires
+    head-requires
     enum-known-a
     enum-told
-    short-requires
     returns
-    byte-at-requires-2
-    enum-known-b
-    enum-told-2
-    short-requires-2
-    returns-2
-    cast-run-at
-    run-at-requires
-    enum-known-c
-    enum-told-3
-    short-requires-3
-    returns-3
-    returns-4)
+    add-wide
+    shared-slice-read-wide
+    wide-requires
+    cast-bytes-end
+    bytes-end-requires
+    returns-2)

@@ -1,12 +1,11 @@
--- `labels::parsing::fill_list` meets its contract: the count, and so many entries.
-use Rattle.labels.proofs.Filled.{list-there, entries-ask, list-filled}
+-- `parsing::fill_list` meets its contract: the count, and so many entries.
+use Rattle.labels.proofs.Taken.{count-there, entries-begin, entries-done, list-done, list-room, list-taken}
 use borrow.Author.Needs.{needs}
 use Rattle.labels.proofs.parsing.fill_list.Statement.{statement}
 use Rattle.labels.proofs.parsing.fill_list.Tie as tie
 
 shared-slice-read-wide : tie.Need-shared-slice-read-wide
-shared-slice-read-wide c =
-    list-there _ _ _ _ _ (c .before .before .before .pre .0)
+shared-slice-read-wide c = search (count-there, list-done)
 
 wide-requires : tie.Need-wide-requires
 wide-requires c κs = search needs
@@ -24,8 +23,7 @@ mul-fill-entries : tie.Need-mul-fill-entries
 mul-fill-entries c = search needs
 
 fill-entries-requires : tie.Need-fill-entries-requires
-fill-entries-requires c κs =
-    entries-ask _ _ _ _ _ (c .before .before .before .before .before .before .pre .0) _ (c .before .before .wide .ensures) (c .before .part .ensures) (c .before .before .before .before .before .before .pre .1)
+fill-entries-requires c κs = search (needs, entries-begin, entries-done, list-done, list-room)
 
 sub-part : tie.Need-sub-part
 sub-part c = search needs
@@ -40,8 +38,7 @@ same-length : tie.Need-same-length
 same-length c = search needs
 
 returns : tie.Need-returns
-returns c =
-    list-filled _ _ _ _ _ (c .before .before .before .before .before .before .before .before .before .before .pre .0) _ (c .before .before .before .before .before .before .wide .ensures) (c .before .before .before .before .before .part .ensures) (c .part2 .ensures) (c .before .before .before .fill-entries .ensures .0) (c .before .before .before .fill-entries .ensures .1)
+returns c = search list-taken
 
 pub fill-list-spec : {M : Type 1} → statement M
 fill-list-spec =

@@ -1,7 +1,7 @@
 -- `mpegh_c::text_label_body::mpegh_text_label_read` meets its contract.
 use mathlib.Core.Path.{refl}
 use Rattle.text_label.specs.Rows.{topRow}
-use Rattle.text_label.specs.Write.{kind}
+use Rattle.text_label.specs.Kind.{kind}
 use Rattle.mpegh_c.proofs.Hosted.{reads-unroomed, reads-refused, reads-done}
 use borrow.Author.Needs.{needs}
 use Rattle.mpegh_c.proofs.text_label_body.mpegh_text_label_read.Statement.{statement}

@@ -1,4 +1,5 @@
--- `text_label::parsing::fill` meets its contract: the languages of the body that was measured.
+-- `parsing::fill` meets its contract: the languages of the body that was measured.
+use Rattle.text_label.proofs.Sighted.{languages-ask, languages-room, languages-filled}
 use Rattle.text_label.proofs.Sighted.{languages-ask, languages-filled}
 use borrow.Author.Needs.{needs}
 use Rattle.text_label.proofs.parsing.fill.Statement.{statement}
@@ -8,8 +9,7 @@ cast-fill-languages : tie.Need-cast-fill-languages
 cast-fill-languages c = search needs
 
 fill-languages-requires : tie.Need-fill-languages-requires
-fill-languages-requires c κs =
-    languages-ask _ (c .before .before .before .before .before .pre .0) _ _ (c .before .before .before .before .before .pre .1)
+fill-languages-requires c κs = search (languages-ask, languages-room)
 
 same-length : tie.Need-same-length
 same-length c = search needs
@@ -18,8 +18,7 @@ same-length-2 : tie.Need-same-length-2
 same-length-2 c = search needs
 
 returns : tie.Need-returns
-returns c =
-    languages-filled _ (c .before .before .before .before .before .before .before .before .before .before .pre .0) _ _ (c .before .before .before .before .before .before .before .before .before .before .pre .1) (c .before .before .before .before .fill-languages .ensures)
+returns c = search languages-filled
 
 pub fill-spec : {M : Type 1} → statement M
 fill-spec =

@@ -1,4 +1,4 @@
--- `text_label::parsing::fill_languages` meets its contract: what is still to store in both tables from here is what was to store from the start.
+-- `parsing::fill_languages` meets its contract: what is still to store in both tables from here is what was to store from the start.
 use borrow.Author.Needs.{needs}
 use native.Mathlib.Omega.{arith}
 use Rattle.text_label.proofs.Filled.{NestingLanguages, languages-start, language-ask, languages-turn, languages-end}

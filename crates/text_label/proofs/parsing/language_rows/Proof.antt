@@ -1,11 +1,7 @@
--- `text_label::parsing::language_rows` meets its contract: the rows of the three lists, one after the other.
-use mathlib.Core.Path.{ap, sym, _∙_}
-use Prim.Native.Nat.{_+_}
+-- `parsing::language_rows` meets its contract: the rows of the three lists, one after the other.
 use native.Mathlib.Omega.{arith}
-use lib.ListN.{length}
-use Rattle.wire.specs.Reads.{runOut}
-use Rattle.wire.proofs.Loops.{summed-done, summed-short, summed-cut, sum-small}
-use Rattle.text_label.proofs.Parsed.{letters-short, letters-place, groups-short, groups-there, switch-groups-short, switch-groups-there, presets-short, three, entries-long}
+use Rattle.wire.proofs.Loops.{sum-small}
+use Rattle.text_label.proofs.Parsed.{letters-lack, letters-got, groups-lack, groups-got, switch-groups-lack, switch-groups-got, presets-lack, language-counted}
 use borrow.Author.Needs.{needs}
 use Rattle.text_label.proofs.parsing.language_rows.Statement.{statement}
 use Rattle.text_label.proofs.parsing.language_rows.Tie as tie
@@ -23,12 +19,10 @@ short-requires : tie.Need-short-requires
 short-requires c κs = search needs
 
 returns : tie.Need-returns
-returns c =
-    summed-short (letters-short _ _ (c .before .before .before .before .before .pre) (c .before .before .before .run-at .ensures) (ap runOut (c .before .enum-told .given .1)) (c .short .ensures))
+returns c = search letters-lack
 
 list-rows-requires : tie.Need-list-rows-requires
-list-rows-requires c κs =
-    (letters-place _ _ (c .before .before .before .before .before .pre) (c .before .before .before .run-at .ensures) (ap runOut (c .before .letters .given .1)) .place .inside, omega arith)
+list-rows-requires c κs = search (needs, letters-got)
 
 enum-known-g : tie.Need-enum-known-g
 enum-known-g c = search needs
@@ -37,14 +31,10 @@ enum-told-2 : tie.Need-enum-told-2
 enum-told-2 c = search needs
 
 returns-2 : tie.Need-returns-2
-returns-2 c =
-    let w = letters-place _ _ (c .before .before .before .before .before .before .before .before .pre) (c .before .before .before .before .before .before .run-at .ensures) (ap runOut (c .before .before .before .before .letters .given .1)) in
-    summed-cut (c .enum-told2 .given .1) (groups-short (λ d. length (d .entries)) (λ d. length (d .entries)) _ _ w (c .before .before .list-rows .ensures) (c .enum-told2 .given .1))
+returns-2 c = search groups-lack
 
 list-rows-requires-2 : tie.Need-list-rows-requires-2
-list-rows-requires-2 c κs =
-    let w = letters-place _ _ (c .before .before .before .before .before .before .before .before .before .pre) (c .before .before .before .before .before .before .before .run-at .ensures) (ap runOut (c .before .before .before .before .before .letters .given .1)) in
-    (groups-there (λ d. length (d .entries)) (λ d. length (d .entries)) _ _ w (c .before .before .before .list-rows .ensures) (c .before .g .given .1), omega arith)
+list-rows-requires-2 c κs = search (needs, groups-got)
 
 enum-known-s : tie.Need-enum-known-s
 enum-known-s c = search needs
@@ -53,14 +43,10 @@ enum-told-3 : tie.Need-enum-told-3
 enum-told-3 c = search needs
 
 returns-3 : tie.Need-returns-3
-returns-3 c =
-    let w = letters-place _ _ (c .before .before .before .before .before .before .before .before .before .before .before .before .pre) (c .before .before .before .before .before .before .before .before .before .before .run-at .ensures) (ap runOut (c .before .before .before .before .before .before .before .before .letters .given .1)) in
-    summed-cut (c .enum-told3 .given .1) (switch-groups-short (λ d. length (d .entries)) (λ d. length (d .entries)) _ _ w (c .before .before .before .before .before .before .list-rows .ensures) (c .before .before .before .before .g .given .1) (c .before .before .list-rows2 .ensures) (c .enum-told3 .given .1))
+returns-3 c = search switch-groups-lack
 
 list-rows-requires-3 : tie.Need-list-rows-requires-3
-list-rows-requires-3 c κs =
-    let w = letters-place _ _ (c .before .before .before .before .before .before .before .before .before .before .before .before .before .pre) (c .before .before .before .before .before .before .before .before .before .before .before .run-at .ensures) (ap runOut (c .before .before .before .before .before .before .before .before .before .letters .given .1)) in
-    (switch-groups-there (λ d. length (d .entries)) (λ d. length (d .entries)) _ _ w (c .before .before .before .before .before .before .before .list-rows .ensures) (c .before .before .before .before .before .g .given .1) (c .before .before .before .list-rows2 .ensures) (c .before .s .given .1), omega arith)
+list-rows-requires-3 c κs = search (needs, switch-groups-got)
 
 enum-known-p : tie.Need-enum-known-p
 enum-known-p c = search needs
@@ -69,9 +55,7 @@ enum-told-4 : tie.Need-enum-told-4
 enum-told-4 c = search needs
 
 returns-4 : tie.Need-returns-4
-returns-4 c =
-    let w = letters-place _ _ (c .before .before .before .before .before .before .before .before .before .before .before .before .before .before .before .before .pre) (c .before .before .before .before .before .before .before .before .before .before .before .before .before .before .run-at .ensures) (ap runOut (c .before .before .before .before .before .before .before .before .before .before .before .before .letters .given .1)) in
-    summed-cut (c .enum-told4 .given .1) (presets-short (λ d. length (d .entries)) (λ d. length (d .entries)) _ _ w (c .before .before .before .before .before .before .before .before .before .before .list-rows .ensures) (c .before .before .before .before .before .before .before .before .g .given .1) (c .before .before .before .before .before .before .list-rows2 .ensures) (c .before .before .before .before .s .given .1) (c .before .before .list-rows3 .ensures) (c .enum-told4 .given .1))
+returns-4 c = search presets-lack
 
 add-t15 : tie.Need-add-t15
 add-t15 c =
@@ -82,10 +66,7 @@ add-t16 c =
     omega (arith, sum-small (c .before .before .before .before .before .before .before .before .before .before .before .list-rows .ensures) (c .before .before .before .before .before .before .before .before .before .g .given .1), sum-small (c .before .before .before .before .before .before .before .list-rows2 .ensures) (c .before .before .before .before .before .s .given .1), sum-small (c .before .before .before .list-rows3 .ensures) (c .before .p .given .1))
 
 returns-5 : tie.Need-returns-5
-returns-5 c =
-    let w = letters-place _ _ (c .before .before .before .before .before .before .before .before .before .before .before .before .before .before .before .before .before .pre) (c .before .before .before .before .before .before .before .before .before .before .before .before .before .before .before .run-at .ensures) (ap runOut (c .before .before .before .before .before .before .before .before .before .before .before .before .before .letters .given .1)) in
-    let t = three (λ d. length (d .entries)) (λ d. length (d .entries)) _ _ w (c .before .before .before .before .before .before .before .before .before .before .before .list-rows .ensures) (c .before .before .before .before .before .before .before .before .before .g .given .1) (c .before .before .before .before .before .before .before .list-rows2 .ensures) (c .before .before .before .before .before .s .given .1) (c .before .before .before .list-rows3 .ensures) (c .before .p .given .1) in
-    summed-done (t .reads) ((λ i. t .groups i + (t .switch-groups i + t .presets i)) ∙ sym (entries-long (t .all))) (omega (arith, sum-small (c .before .before .before .before .before .before .before .before .before .before .before .list-rows .ensures) (c .before .before .before .before .before .before .before .before .before .g .given .1), sum-small (c .before .before .before .before .before .before .before .list-rows2 .ensures) (c .before .before .before .before .before .s .given .1), sum-small (c .before .before .before .list-rows3 .ensures) (c .before .p .given .1)))
+returns-5 c = search language-counted
 
 pub language-rows-spec : {M : Type 1} → statement M
 language-rows-spec =

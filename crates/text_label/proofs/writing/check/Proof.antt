@@ -1,9 +1,10 @@
--- `text_label::writing::check` meets its contract: the fields, and the trailing run behind them.
-use mathlib.Core.Path.{refl, sym, _∙_}
+-- `writing::check` meets its contract: the fields, and the trailing run behind them.
+use mathlib.Core.Path.{sym, _∙_}
 use native.Mathlib.Omega.{arith}
 use Rattle.wire.proofs.Passes.{more}
 use Rattle.frame.proofs.Passes.{run-outside, all-looked}
-use Rattle.text_label.specs.Write.{kind}
+use Rattle.text_label.specs.Kind.{kind}
+use Rattle.text_label.proofs.Mirrored.{acts-are}
 use borrow.Author.Needs.{needs}
 use Rattle.text_label.proofs.writing.check.Statement.{statement}
 use Rattle.text_label.proofs.writing.check.Tie as tie
@@ -23,8 +24,9 @@ run-requires c κs = search needs
 returns : tie.Need-returns
 unfolding kind
 returns c =
+    let z = c .before .before .before .before .before .before .before .before in
     let e = sym (c .before .before .before .in-store .ensures) ∙ c .before .before .if1 .taken in
-    more 794222 (all-looked kind refl e (c .before .check-fields .ensures) (c .run .ensures)) (omega arith)
+    more 794222 (all-looked kind (acts-are (z .args .m) (z .args .languages .now) (z .args .entries .now) (z .args .store .now)) e (c .before .check-fields .ensures) (c .run .ensures)) (omega arith)
 
 returns-2 : tie.Need-returns-2
 unfolding kind

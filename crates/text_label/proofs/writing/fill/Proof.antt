@@ -1,14 +1,13 @@
--- `text_label::writing::fill` meets its contract: the fields, and the trailing run behind them.
-use mathlib.Core.Path.{refl}
+-- `writing::fill` meets its contract: the fields, and the trailing run behind them.
 use Rattle.frame.proofs.Passes.{fields-ready, run-ready, all-filled}
-use Rattle.text_label.specs.Write.{kind}
+use Rattle.text_label.specs.Kind.{kind}
+use Rattle.text_label.proofs.Mirrored.{acts-are}
 use borrow.Author.Needs.{needs}
 use Rattle.text_label.proofs.writing.fill.Statement.{statement}
 use Rattle.text_label.proofs.writing.fill.Tie as tie
 
 fill-fields-requires : tie.Need-fill-fields-requires
-unfolding kind
-fill-fields-requires c κs = fields-ready kind refl (c .before .before .before .before .before .pre)
+fill-fields-requires c κs = let z = c .before .before .before .before .before in fields-ready kind (acts-are (z .args .m) (z .args .languages .now) (z .args .entries .now) (z .args .store .now)) (z .pre)
 
 cast-copy : tie.Need-cast-copy
 cast-copy c = search needs
@@ -20,7 +19,8 @@ copy-requires : tie.Need-copy-requires
 unfolding kind
 copy-requires c κs =
     let d = c .before .before .before in
-    run-ready kind refl (d .before .before .before .before .before .before .pre) (d .fill-fields .kept .1 .1 .1 .1 .0) (d .fill-fields .ensures)
+    let z = d .before .before .before .before .before .before in
+    run-ready kind (acts-are (z .args .m) (z .args .languages .now) (z .args .entries .now) (z .args .store .now)) (z .pre) (d .fill-fields .kept .1 .1 .1 .1 .0) (d .fill-fields .ensures)
 
 same-length : tie.Need-same-length
 same-length c = search needs
@@ -29,7 +29,8 @@ returns : tie.Need-returns
 unfolding kind
 returns c =
     let d = c .before .before .before .before .before .before in
-    all-filled kind refl (d .before .before .before .before .before .before .pre) (d .fill-fields .kept .1 .1 .1 .1 .0) (d .fill-fields .ensures) (c .before .before .copy .ensures)
+    let z = d .before .before .before .before .before .before in
+    all-filled kind (acts-are (z .args .m) (z .args .languages .now) (z .args .entries .now) (z .args .store .now)) (z .pre) (d .fill-fields .kept .1 .1 .1 .1 .0) (d .fill-fields .ensures) (c .before .before .copy .ensures)
 
 pub fill-spec : {M : Type 1} → statement M
 fill-spec =

@@ -1,69 +1,62 @@
--- `text_label::writing::fill_fields` meets its contract: the two bytes, and what is left to store after each.
-use mathlib.Core.List.{List, [], _∷_}
+-- `writing::fill_fields` meets its contract: the bytes of the record, and the languages.
+use mathlib.Core.List.{List, map, _++_}
+use mathlib.Core.Bool.{true}
+use mathlib.Core.Path.{refl}
 use native.Mathlib.Omega.{arith}
-use Rattle.wire.specs.Bits.{field}
-use Rattle.wire.specs.Act.{Act, byte}
-use Rattle.wire.proofs.Passes.{Filling, fill-start, fill-demand, fill-byte, fill-last, byte-ready, demanded, column-ready, fill-column}
-use Rattle.frame.specs.Entry.{first}
-use Rattle.text_label.specs.Write.{languagesByte, rowsActs, acts}
-use Rattle.text_label.proofs.Stored.{languages-rows}
+use Rattle.wire.specs.Act.{Act, byte, when, rows}
+use Rattle.wire.proofs.Passes.{Filling, fill-start, fill-demand, fill-last, demanded}
+use Rattle.wire.proofs.Plain.{ready-part, fill-part}
+use Rattle.text_label.specs.Write.{rowActs, headFields, textLabelActs}
+use Rattle.text_label.proofs.Written.{languages-there}
 use borrow.Author.Needs.{needs}
 use Rattle.text_label.proofs.writing.fill_fields.Statement.{statement}
 use Rattle.text_label.proofs.writing.fill_fields.Tie as tie
 
--- all of it, and what is left after both bytes and after the first
 abbrev all : tie.Start → List Act
-all c = acts (c .args .m) (c .args .languages .now ∷ c .args .entries .now ∷ []) (c .args .store .now)
+all c = textLabelActs (c .args .m) (c .args .languages .now) (c .args .entries .now) (c .args .store .now)
 
-abbrev left-2 : tie.Start → List Act
-left-2 c = rowsActs (c .args .languages .now ∷ c .args .entries .now ∷ []) (c .args .store .now) (c .args .m .languages)
+abbrev in-languages : tie.Start → List Act
+in-languages c = rows (rowActs (c .args .languages .now) (c .args .entries .now) (c .args .store .now)) 0 (c .args .m .languages)
 
-abbrev left-1 : tie.Start → List Act
-left-1 c = byte (languagesByte (c .args .m)) ∷ left-2 c
+begin : (c : tie.Start) → Filling (all c) (when true (map byte (headFields (c .args .m))) ++ in-languages c) 0 (c .args .out .now) 0 (c .args .out .now)
+unfolding textLabelActs
+begin c = fill-demand (fill-demand (fill-demand (fill-start (c .pre))))
 
-after-0 : (c : tie.Start) → Filling (all c) (byte (field 8 (c .args .m .«scene_info_id») ∷ []) ∷ left-1 c) 0 (c .args .out .now) 0 (c .args .out .now)
-unfolding acts
-after-0 c = fill-demand (fill-start (c .pre))
+abbrev start : tie.After-fill-all → tie.Start
+start c = c .before .before .before .before .before .before .before .before
 
-after-1 : (c : tie.After-slice-known2) → Filling (all (c .before .before .before .before .before .before .before .before .before)) (left-1 (c .before .before .before .before .before .before .before .before .before)) 0 (c .before .before .before .before .before .before .before .before .before .args .out .now) (c .before .before .put .result) (c .before .before .put .last .0)
-after-1 c = fill-column (after-0 (c .before .before .before .before .before .before .before .before .before)) (rw (c .before .before .before .wide .ensures) at (c .before .before .put .ensures))
+behind : (c : tie.After-fill-all) → Filling (all (start c)) (in-languages (start c)) 0 (start c .args .out .now) (c .fill-all .result) (c .fill-all .last .0)
+behind c = fill-part _ (c .before .before .head-bytes .ensures) (begin (start c)) (c .fill-all .ensures)
 
-after-2 : (c : tie.After-slice-known3) → Filling (all (c .before .before .before .before .before .before .before .before .before .before .before .before .before .before)) (left-2 (c .before .before .before .before .before .before .before .before .before .before .before .before .before .before)) 0 (c .before .before .before .before .before .before .before .before .before .before .before .before .before .before .args .out .now) (c .before .before .put2 .result) (c .before .before .put2 .last .0)
-after-2 c = fill-byte (after-1 (c .before .before .before .before .before)) (c .before .before .before .languages-byte .ensures .is) (c .before .before .put2 .ensures)
+head-bytes-requires : tie.Need-head-bytes-requires
+head-bytes-requires c κs = search needs
 
-wide-requires : tie.Need-wide-requires
-wide-requires c κs = search needs
+slice-aggregate-fill-all : tie.Need-slice-aggregate-fill-all
+slice-aggregate-fill-all c = search needs
 
-put-requires : tie.Need-put-requires
-put-requires c κs = rw (c .wide .ensures) (column-ready (after-0 (c .before .before .before .before .before .before) .ready))
-
-languages-byte-requires : tie.Need-languages-byte-requires
-languages-byte-requires c κs = byte-ready (after-1 (c .before) .ready) .0
-
-put-requires-2 : tie.Need-put-requires-2
-put-requires-2 c κs = (c .languages-byte .ensures .small, byte-ready (after-1 (c .before .before) .ready) .1)
+fill-all-requires : tie.Need-fill-all-requires
+fill-all-requires c κs = ready-part _ (c .before .head-bytes .ensures) (begin (c .before .before .before .before .before .before .before))
 
 cast-fill-languages : tie.Need-cast-fill-languages
 cast-fill-languages c = search needs
 
 fill-languages-requires : tie.Need-fill-languages-requires
-unfolding acts first
-fill-languages-requires c κs = (languages-rows (c .before .before .before .before .before .before .before .before .before .before .before .before .before .before .before .args .m .languages) (c .before .before .before .before .before .before .before .before .before .before .before .before .before .before .before .args .languages .now) (demanded (c .before .before .before .before .before .before .before .before .before .before .before .before .before .before .before .pre)), omega (arith, c .before .before .before .before .before .before .before .before .before .before .before .before .before .before .before .good), after-2 (c .before) .ready)
+unfolding textLabelActs
+fill-languages-requires c κs = let d = c .before .before .before in (languages-there (start d .args .m .languages) (start d .args .languages .now) refl (demanded (start d .pre)), omega (arith, start d .good), behind d .ready)
 
 same-length : tie.Need-same-length
 same-length c = search needs
 
 returns : tie.Need-returns
-returns c = fill-last (after-2 (c .before .before .before .before)) (c .before .before .fill-languages .ensures)
+returns c = let d = c .before .before in fill-last (behind (d .before .before .before .before)) (d .fill-languages .ensures)
 
 pub fill-fields-spec : {M : Type 1} → statement M
 fill-fields-spec =
     tie.close
     (tie.spec
-    wide-requires
-    put-requires
-    languages-byte-requires
-    put-requires-2
+    head-bytes-requires
+    slice-aggregate-fill-all
+    fill-all-requires
     cast-fill-languages
     fill-languages-requires
     same-length

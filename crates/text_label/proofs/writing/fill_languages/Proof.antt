@@ -1,23 +1,21 @@
--- `text_label::writing::fill_languages` meets its contract: what is left to store from a row on.
+-- `writing::fill_languages` meets its contract: what is left to store from a row on.
 use Prim.Native.Nat.{_-_, _≤_}
 use native.Mathlib.Omega.{arith}
 use native.Mathlib.Nat.{sub-zero}
 use Rattle.wire.specs.Act.{rows}
 use Rattle.wire.proofs.Passes.{Filling, rows-turn, rows-end, fill-start, fill-row, fill-turn, fill-end}
-use Rattle.frame.specs.Entry.{first, others}
-use Rattle.text_label.proofs.Stored.{languageActsAt}
+use Rattle.text_label.specs.Write.{rowActs}
 use borrow.Author.Needs.{needs}
 use Rattle.text_label.proofs.writing.fill_languages.Statement.{statement}
 use Rattle.text_label.proofs.writing.fill_languages.Tie as tie
 
 abbrev Inv-loop : tie.InvT-loop
-Inv-loop languages count entries store out₀ n at₀ i₀ out at i = (i ≤ count) × Filling (rows (languageActsAt languages entries store) 0 count) (rows (languageActsAt languages entries store) i (count - i)) at₀ out₀ at out
+Inv-loop languages count entries store out₀ n at₀ i₀ out at i = (i ≤ count) × Filling (rows (rowActs languages entries store) 0 count) (rows (rowActs languages entries store) i (count - i)) at₀ out₀ at out
 
 abbrev μ-loop : tie.MeasureT-loop
 μ-loop languages count entries store out₀ n at₀ i₀ out at i = count - i
 
 loop-holds : tie.Need-loop-holds Inv-loop μ-loop
-unfolding first others
 loop-holds c = (omega arith, rw sub-zero (fill-start (c .before .before .before .before .pre .2)))
 
 mul-of-columns : tie.Need-mul-of-columns Inv-loop μ-loop
@@ -44,7 +42,6 @@ same-length : tie.Need-same-length Inv-loop μ-loop
 same-length c = c .before .loop .inv .1 .size
 
 returns : tie.Need-returns Inv-loop μ-loop
-unfolding first others
 returns c = fill-end (c .before .loop .inv .1) (rows-end _ _ _ (c .loop-test .left))
 
 pub fill-languages-spec : {M : Type 1} → statement M

@@ -1,0 +1,66 @@
+-- `parsing::measure_entries` meets its contract: the end from here is the end from the start, whatever the width.
+use Prim.Native.Nat.{ℕ}
+use mathlib.Core.Path.{refl, ap, sym, _∙_}
+use Rattle.wire.specs.Reads.{endsOut}
+use Rattle.wire.proofs.Walk.{as-done, as-short}
+use Rattle.wire.proofs.Loops.{Measuring, carry-turn, carry-cut, carry-end}
+use Rattle.labels.proofs.Taken.{anEntry}
+use borrow.Author.Needs.{needs}
+use Rattle.labels.proofs.parsing.measure_entries.Statement.{statement}
+use Rattle.labels.proofs.parsing.measure_entries.Tie as tie
+
+abbrev Inv-loop : tie.InvT-loop
+Inv-loop body at count pos₀ left₀ pos left = (w : ℕ) → Measuring (anEntry w) body at count pos left
+
+abbrev μ-loop : tie.MeasureT-loop
+μ-loop body at count pos₀ left₀ pos left = left
+
+loop-holds : tie.Need-loop-holds Inv-loop μ-loop
+loop-holds c = λ w. record { inside = c .before .pre; same = refl }
+
+entry-end-requires : tie.Need-entry-end-requires Inv-loop μ-loop
+entry-end-requires c κs = c .before .loop .inv 0 .inside
+
+enum-known-a : tie.Need-enum-known-a Inv-loop μ-loop
+enum-known-a c = search needs
+
+enum-told : tie.Need-enum-told Inv-loop μ-loop
+enum-told c = search needs
+
+returns : tie.Need-returns Inv-loop μ-loop
+returns c =
+    let d = c .before .before in
+    let e = ap endsOut (c .enum-told .given .1) in
+    record { of = λ w. e ∙ carry-cut (d .before .before .loop .inv w) (d .before .loop-test .taken) (as-short (λ x. tt) _ (sym (d .entry-end .ensures .of w) ∙ e)) }
+
+sub-left : tie.Need-sub-left Inv-loop μ-loop
+sub-left c = search needs
+
+loop-less : tie.Need-loop-less Inv-loop μ-loop
+loop-less c = search needs
+
+loop-again : tie.Need-loop-again Inv-loop μ-loop
+loop-again c =
+    let d = c .before .before .before in
+    λ w.
+    let (_, e, _) = as-done (λ x. tt) _ (sym (d .entry-end .ensures .of w) ∙ ap endsOut (c .before .a .given .1)) in
+    carry-turn (d .before .before .loop .inv w) (d .before .loop-test .taken) e (λ l. refl)
+
+returns-2 : tie.Need-returns-2 Inv-loop μ-loop
+returns-2 c = record { of = λ w. carry-end (c .before .loop .inv w) (c .loop-test .left) }
+
+pub measure-entries-spec : {M : Type 1} → statement M
+measure-entries-spec =
+    tie.close
+    (tie.spec
+    Inv-loop
+    μ-loop
+    loop-holds
+    entry-end-requires
+    enum-known-a
+    enum-told
+    returns
+    sub-left
+    loop-less
+    loop-again
+    returns-2)
