@@ -18,7 +18,7 @@ use Rattle.wire.proofs.Fields.{part-below}
 use Rattle.frame.specs.Numbers.{accepted, refuses}
 use Rattle.frame.specs.Entry.{leaves, onto, into, Sound, Sizes, needs, lacking, filled, judging, sizes, placing, reading, measuring, tallying, gives, trail, writing}
 use Rattle.frame.specs.Body as B
-use Rattle.frame.specs.Body.{layouts, carried, parse, placed, given, tables, zeros, heeds, heededRows}
+use Rattle.frame.specs.Body.{layouts, carried, parse, withPlace, given, tables, zeros, heeds, heededRows}
 use Rattle.frame.specs.Claims.{none-read, Claims, Fixed}
 use Rattle.frame.proofs.Numbers.{refused-back, answer-by, fixes}
 use Rattle.frame.proofs.Judged.{was, ran-well}
@@ -40,7 +40,7 @@ use Rattle.base.proofs.Mirrored.{turned}
 use Rattle.base.proofs.Parsed.{BodyRun, body-run, record-so}
 
 samples : Samples kind
-unfolding reading into judging placing run measuring onto sizes tallying kind parse head reads put puts split total carried u8 pass _>>=_ placed tables layouts cells shown flatten each sum tally zeros ones needs lacking filled
+unfolding reading into judging placing run measuring onto sizes tallying kind parse head reads put puts split total carried u8 pass _>>=_ withPlace tables layouts cells shown flatten each sum tally zeros ones needs lacking filled
 samples = record {
   lent = [];
   one = 0x05 ∷ 0xBF ∷ 0xC6 ∷ 0x00 ∷ [];
@@ -126,7 +126,7 @@ absent-sets m p p′ store out = claims .writing .unread (without m p) (without 
 
 -- bit 0x40 of byte 1 is set exactly if there are no sets
 pub flag : (body : List ℕ) (m : MpegH3dAudio) → reading kind body [] ≡ leaves (accepted m) [] → m .«compatible_sets» .present ≡ not (eqb (part 6 1 (getD body 1 0)) 1)
-unfolding kind placed each
+unfolding kind withPlace each
 flag body m e =
     let w = was kind body [] m [] e in
     let r = body-of body (w .sound) (w .judges) in

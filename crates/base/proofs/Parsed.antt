@@ -16,15 +16,15 @@ use Rattle.wire.specs.Layout.{blank, reads}
 use Rattle.wire.specs.Straight.{ends, ones, took, taken}
 use Rattle.wire.specs.declared.reads.Short.{Short}
 use Rattle.wire.specs.declared.rows.Payload.{Payload}
-use Rattle.wire.proofs.Runs.{run-split, run-ret}
+use Rattle.wire.proofs.reading.Runs.{run-split, run-ret}
 use Rattle.wire.proofs.Fields.{part-below}
-use Rattle.wire.proofs.Walk.{From, begun, onward, cut-off, as-short, finished, is-done, byte-next, byte-taken, run-taken}
-use Rattle.wire.proofs.Codec.{whole}
-use Rattle.wire.proofs.Straight.{ends-few, Past, ones-past, read-so}
+use Rattle.wire.proofs.reading.Walk.{From, begun, onward, cut-off, as-short, finished, is-done, byte-next, byte-taken, run-taken}
+use Rattle.wire.proofs.layouts.Codec.{whole-byte}
+use Rattle.wire.proofs.layouts.Straight.{ends-few, Past, ones-past, read-so}
 use Rattle.frame.specs.Numbers.{accepted}
 use Rattle.frame.specs.Entry.{needs, sizes, tail, too-short, Measures}
 use Rattle.frame.specs.Sight.{Tops}
-use Rattle.frame.specs.Body.{offsetOf, lengthOf, parse, placed, tables}
+use Rattle.frame.specs.Body.{offsetOf, lengthOf, parse, withPlace, tables}
 use Rattle.frame.proofs.Entries.{measures-short, Known, known, tops-known}
 use Rattle.base.specs.declared.rows.CompatibleSets.{CompatibleSets}
 use Rattle.base.specs.declared.rows.MpegH3dAudio.{MpegH3dAudio}
@@ -37,10 +37,10 @@ use Rattle.base.specs.Contract.{sized}
 use Rattle.base.proofs.Mirrored.{turned, mirrored}
 
 -- a program whose last part is this one ends where that ends
-end-last : {A B : Type 0} (p : Prog A) (g : A → B) {whole : Prog B} {s : List ℕ} {start at : ℕ} → From whole s start (p >>= λ a. ret (g a)) at → endOf (run p s at) ≡ endOf (run whole s start)
-end-last {A} p g {whole} {s} {start} {at} w = go (run p s at) refl
+end-last : {A B : Type 0} (p : Prog A) (g : A → B) {whole-byte : Prog B} {s : List ℕ} {start at : ℕ} → From whole-byte s start (p >>= λ a. ret (g a)) at → endOf (run p s at) ≡ endOf (run whole-byte s start)
+end-last {A} p g {whole-byte} {s} {start} {at} w = go (run p s at) refl
   where
-    go : (o : Out A) → run p s at ≡ o → endOf o ≡ endOf (run whole s start)
+    go : (o : Out A) → run p s at ≡ o → endOf o ≡ endOf (run whole-byte s start)
     go (done a n) e = ap endOf (finished (onward p (λ a. ret (g a)) w refl e) refl)
     go (short x) e = ap endOf (cut-off p (λ a. ret (g a)) w refl e (sym (ap shortOf e)))
 
@@ -125,7 +125,7 @@ recordOf s profile x r = record {
 }
 
 pub record-so : (s : List ℕ) {t : Tree} {k : ℕ} (w : BodyRun s t k) (r : Payload) → kind .top t r ≡ recordOf s (part 0 8 (getD s 0 0)) (setsOf (w .listing)) r
-unfolding kind placed each
+unfolding kind withPlace each
 record-so s w r =
     let x = w .listing in
     let e = turned (flagOf s) (part-below 6 1 (getD s 1 0)) in
@@ -177,4 +177,4 @@ module _ (body : List ℕ) {k : ℕ} (m : Measures kind body (accepted (sized k)
   tops-are {l} {p} {t} x h f g d =
       let z : done l x ≡ done (setsOf (was-read .listing)) (knows .sound .before) = f ∙ ap (mapOut setsOf) (was-read .reads) in
       let v : l ≡ setsOf (was-read .listing) = cc z in
-      tops-known kind knows (d ∙ (λ i. recordOf body (whole (getD body 0 0) h i) (v i) (g i)) ∙ sym (record-so body was-read (tail k body)))
+      tops-known kind knows (d ∙ (λ i. recordOf body (whole-byte (getD body 0 0) h i) (v i) (g i)) ∙ sym (record-so body was-read (tail k body)))

@@ -5,7 +5,7 @@ ghost use mathlib.Core.List.{[]};
 ghost use Prim.Native.Nat.{_<_, _^_};
 ghost use Rattle.wire.specs.Pen.{reach, Checked, Ready, Filled};
 ghost use Rattle.wire.specs.declared.pen.Pen.the-variants.{At};
-ghost use Rattle.frame.specs.Entry.{whole};
+ghost use Rattle.frame.specs.Entry.{allActs};
 ghost use Rattle.wire.specs.Spell.{Spells, Spelt};
 ghost use Rattle.base.specs.Kind.{kind};
 ghost use Rattle.base.specs.Write.{flagsByte, headFields, inside, listed, setsActs, baseActs, CheckedSets};
@@ -94,7 +94,7 @@ fn check_fields(m: MpegH3dAudio, store: &[u8]) -> Pen
 
 // The whole: its first fault, or its length.
 pub fn check(m: MpegH3dAudio, store: &[u8]) -> Pen
-    ensures { λ r. ⌜ Checked (whole kind m [] (now (store .entry))) 131074 (At 0) r ⌝ }
+    ensures { λ r. ⌜ Checked (allActs kind m [] (now (store .entry))) 131074 (At 0) r ⌝ }
 {
     let trailing = m.trailing;
     if in_store(trailing, store) {
@@ -131,8 +131,8 @@ fn fill_fields(m: MpegH3dAudio, store: &[u8], out: &mut [u8]) -> usize
 }
 
 pub fn fill(m: MpegH3dAudio, store: &[u8], out: &mut [u8]) -> usize
-    requires { ⌜ Ready (whole kind m [] (now store)) 0 (now out) ⌝ }
-    ensures { λ r. ⌜ Filled (whole kind m [] (now (store .entry))) 0 (now (out .entry)) r (now (out .exit)) ⌝ }
+    requires { ⌜ Ready (allActs kind m [] (now store)) 0 (now out) ⌝ }
+    ensures { λ r. ⌜ Filled (allActs kind m [] (now (store .entry))) 0 (now (out .entry)) r (now (out .exit)) ⌝ }
 {
     let from = m.trailing.offset;
     let count = m.trailing.length;

@@ -7,8 +7,8 @@ use Rattle.wire.specs.Lists.{each}
 use Rattle.wire.specs.Act.{Act, rows}
 use Rattle.wire.specs.Pen.{Quick, Ready, Filled}
 use Rattle.wire.specs.Spell.{PlainRows}
-use Rattle.wire.proofs.Passes.{Filling, fill-start, fill-row, fill-turn, fill-end}
-use Rattle.wire.proofs.Plain.{filled-long, Going, going-start, going-turn, going-odd, going-end}
+use Rattle.wire.proofs.writing.Passes.{Filling, fill-start, fill-row, fill-turn, fill-end}
+use Rattle.wire.proofs.writing.Plain.{filled-long, Going, going-start, going-turn, going-odd, going-end}
 
 -- ---- the check pass: plain rows so far
 

@@ -14,9 +14,9 @@ use Rattle.wire.specs.Reads.{endOf}
 use Rattle.wire.specs.Act.{pick}
 use Rattle.wire.specs.Layout.{end, optional, _▹_, Columns, flat, put, blank, has, row}
 use Rattle.wire.specs.Straight.{ends, ones, putsAt, took, taken, spans, sizes, PartTaken, blanks}
-use Rattle.wire.proofs.Cells.{all, free}
+use Rattle.wire.proofs.layouts.Cells.{all, free}
 use Rattle.wire.proofs.Fields.{part-below}
-use Rattle.wire.proofs.Straight.{Whole, Behind, total-ones, ones-more, flat-ends, sizes-so, steered, each-off, flag-is, part-there, taken-there, taken-none}
+use Rattle.wire.proofs.layouts.Straight.{Whole, Behind, total-ones, ones-more, flat-ends, sizes-so, steered, each-off, flag-is, part-there, taken-there, taken-none}
 use Rattle.conditions.specs.Layout.{condition, detail, position}
 use Rattle.conditions.specs.Rows.{gain, idCells, flagCells, behind, positionRow, positionFrom}
 use Rattle.conditions.specs.declared.rows.PresetPosition.{PresetPosition}
@@ -92,11 +92,11 @@ pub position-there : (s : List ℕ) (at : ℕ) {v : ℕ} → v ≡ 1 → {r : Pr
 unfolding took putsAt put split total each blanks
 position-there s at t q = taken-there 7 5 position s at t (ap positionRow q) (λ f z. rw z)
 
-sized : (v : ℕ) → v < 2 → (f : Columns) (s : List ℕ) (at : ℕ) → total (pick (eqb v 1) (took gain f s at 0) (f, []) .1) ≡ v
+spans-long : (v : ℕ) → v < 2 → (f : Columns) (s : List ℕ) (at : ℕ) → total (pick (eqb v 1) (took gain f s at 0) (f, []) .1) ≡ v
 unfolding took total
-sized zero h f s at = refl
-sized (suc zero) h f s at = refl
-sized (suc (suc v)) h f s at = absurd (omega arith)
+spans-long zero h f s at = refl
+spans-long (suc zero) h f s at = refl
+spans-long (suc (suc v)) h f s at = absurd (omega arith)
 
 module _ (s : List ℕ) (at : ℕ) {b m : ℕ} (e : b ≡ getD s at 0) (a : m ≡ at + 1 + part 2 1 b) where
   -- the columns behind the flags, and behind the gain
@@ -112,7 +112,7 @@ module _ (s : List ℕ) (at : ℕ) {b m : ℕ} (e : b ≡ getD s at 0) (a : m �
   parts-taken : (f : Columns) → taken detail f s at ≡ with-all f m
   unfolding took putsAt put split total
   parts-taken f =
-      let q : m ≡ at + 1 + total (pick (eqb (headed f 5) 1) (took gain (headed f) s (at + 1) 0) (headed f, []) .1) = a ∙ ap (λ (b : ℕ). at + 1 + part 2 1 b) e ∙ ap (λ (k : ℕ). at + 1 + k) (sym (sized (headed f 5) (part-below 2 1 (getD s at 0)) (headed f) s (at + 1))) in
+      let q : m ≡ at + 1 + total (pick (eqb (headed f 5) 1) (took gain (headed f) s (at + 1) 0) (headed f, []) .1) = a ∙ ap (λ (b : ℕ). at + 1 + part 2 1 b) e ∙ ap (λ (k : ℕ). at + 1 + k) (sym (spans-long (headed f 5) (part-below 2 1 (getD s at 0)) (headed f) s (at + 1))) in
       ap (with-all f) (sym q)
 
   pub detail-taken : {g p : List ℕ} → PartTaken 5 2 gain (part 2 1 b) (blanks 1) s (at + 1) g → PartTaken 7 6 position (part 0 1 b) (blanks 5) s m p

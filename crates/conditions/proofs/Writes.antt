@@ -14,11 +14,11 @@ use Rattle.wire.specs.Pen.{Quick, Ready, Filled, clean, bytes}
 use Rattle.wire.specs.Layout.{Columns, at, flatActs, writes, shown, cells, matched, every, counted, flagged, fieldOf}
 use Rattle.wire.specs.Spell.{Spells, Spelt, none, more, fieldsOf, fitAll, ReadyAll, FillsAll}
 use Rattle.wire.specs.declared.pen.Fault.the-variants as F
-use Rattle.wire.proofs.Acts.{and-both, both-and, clean-append}
-use Rattle.wire.proofs.Cells.{fit-flags}
-use Rattle.wire.proofs.Passes.{quick-clean, quick-odd, Filling, fill-start, fill-demand, fill-turn, fill-end}
-use Rattle.wire.proofs.Rowed.{loose, matches-loose}
-use Rattle.wire.proofs.Plain.{clean-when, clean-all, absorb, no-quick, bit-size, filled-long, fill-part}
+use Rattle.wire.proofs.writing.Acts.{and-both, both-and, clean-append}
+use Rattle.wire.proofs.layouts.Cells.{fit-flags}
+use Rattle.wire.proofs.writing.Passes.{quick-clean, quick-odd, Filling, fill-start, fill-demand, fill-turn, fill-end}
+use Rattle.wire.proofs.layouts.Rowed.{loose, matches-loose}
+use Rattle.wire.proofs.writing.Plain.{clean-when, clean-all, absorb, no-quick, bit-size, filled-long, fill-part}
 use Rattle.conditions.specs.Layout.{condition}
 use Rattle.conditions.specs.Write.{flagsOf, detailActs, detailFits, detailLong, conditionActs, colsAt, rowActs}
 use Rattle.conditions.specs.Rows.{conditionCols, conditionOf, idCells, flagCells, gainCells, positionCells}

@@ -20,6 +20,7 @@ use super::rows::PresetPosition;
 use wire::bits::is_flag;
 use wire::pen;
 use wire::pen::Fault;
+use wire::pen::Passed;
 use wire::pen::Pen;
 use wire::spell::Joined;
 use wire::spell::check_all;
@@ -183,11 +184,6 @@ fn plain_bytes(conditions: &[u16], b: usize) -> usize
 }
 
 // The plain rows before the first that is not, and their bytes.
-pub struct Passed {
-    pub rows: usize,
-    pub bytes: usize,
-}
-
 // Plain rows of `count` rows, from the row `first` on.
 pub fn plain_rows(conditions: &[u16], first: usize, count: usize) -> Passed
     requires { ⌜ ((first + count) * 13 ≤ length (now conditions)) × (first + count < 2 ^ 20) ⌝ }

@@ -15,10 +15,10 @@ use Rattle.wire.specs.Layout.{of, put, blank, flat, writes, shown, cells, match
 use Rattle.wire.specs.Straight.{ends, ones, putsAt, took, spans}
 use Rattle.wire.specs.Spell.{Spelt, FitsAll, ChecksAll, ReadyAll, FillsAll}
 use Rattle.wire.specs.declared.pen.Pen.{Pen}
-use Rattle.wire.proofs.Loops.{first-done}
-use Rattle.wire.proofs.Straight.{Whole, flat-done}
-use Rattle.wire.proofs.Families.{lines-end}
-use Rattle.wire.proofs.Plain.{lineActs, line-plain, line-odd, line-checked, line-ready, line-filled}
+use Rattle.wire.proofs.reading.Loops.{first-done}
+use Rattle.wire.proofs.layouts.Straight.{Whole, flat-done}
+use Rattle.wire.proofs.layouts.Families.{lines-end}
+use Rattle.wire.proofs.writing.Plain.{lineActs, line-plain, line-odd, line-checked, line-ready, line-filled}
 use Rattle.downmixes.specs.Layout.{downmix}
 use Rattle.downmixes.specs.declared.rows.DownmixDefinition.{DownmixDefinition}
 use Rattle.downmixes.specs.Rows.{downmixRow, downmixOf, downmixFrom}

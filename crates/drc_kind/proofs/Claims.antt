@@ -16,15 +16,15 @@ use Rattle.wire.specs.declared.rows.Payload.{Payload}
 use Rattle.wire.specs.Act.{pick}
 use Rattle.wire.specs.Layout.{Columns, at, row, blank, flat, reads, put, puts, shown, cells, tally, has, brokenRow, brokenHeeds, bearingHeeds, borneRow, Family, Borne, parents, kids}
 use Rattle.wire.proofs.Fields.{part-below}
-use Rattle.wire.proofs.Takes.{Takes, run-takes, takes-split, takes-ret, map-takes, many-takes, listed-length, listed-every}
+use Rattle.wire.proofs.reading.Takes.{Takes, run-takes, takes-split, takes-ret, map-takes, many-takes, listed-length, listed-every}
 use Rattle.wire.proofs.Lists.{every-as, every-map, every-firsts}
-use Rattle.wire.proofs.Rowed.{parents-long, parents-found}
-use Rattle.wire.proofs.Borne.{borne-found}
-use Rattle.wire.proofs.Running.{RunsOn, Told, runs-on}
+use Rattle.wire.proofs.layouts.Rowed.{parents-long, parents-found}
+use Rattle.wire.proofs.layouts.Borne.{borne-found}
+use Rattle.wire.proofs.layouts.Running.{RunsOn, Told, runs-on}
 use Rattle.frame.specs.Kind.{Lent}
 use Rattle.frame.specs.Numbers.{accepted, refuses}
-use Rattle.frame.specs.Entry.{leaves, onto, into, Sizes, needs, lacking, room, first, others, filled, judging, sizes, placing, reading, measuring, tallying, gives, trail, writing}
-use Rattle.frame.specs.Body.{layouts, parse, placed, tables, zeros, heeds, heededRows, table}
+use Rattle.frame.specs.Entry.{leaves, onto, into, Sizes, needs, lacking, room, firstTable, otherTables, filled, judging, sizes, placing, reading, measuring, tallying, gives, trail, writing}
+use Rattle.frame.specs.Body.{layouts, parse, withPlace, tables, zeros, heeds, heededRows, table}
 use Rattle.frame.specs.Claims.{Lowest, rows-agree, none-read, Claims}
 use Rattle.frame.proofs.Judged.{was, ran-well, measured as was-measured}
 use Rattle.frame.proofs.Lawful.{Samples}
@@ -64,7 +64,7 @@ abbrev pub sized : (instructions additional loudness downmixes : ℕ) → ℕ �
 sized i a l d k = record { tables = needed i a l d; before = k }
 
 samples : Samples kind
-unfolding reading into judging placing run measuring onto sizes tallying kind parse reads put puts split total u8 pass _>>=_ many scope pair downmix head tables zeros tally shown sum firsts flatMap needs lacking room first others filled flatten each cells has ones placed layouts
+unfolding reading into judging placing run measuring onto sizes tallying kind parse reads put puts split total u8 pass _>>=_ many scope pair downmix head tables zeros tally shown sum firsts flatMap needs lacking room firstTable otherTables filled flatten each cells has ones withPlace layouts
 samples = record {
   lent = [] ∷ [] ∷ (9 ∷ 9 ∷ 9 ∷ 9 ∷ 9 ∷ 9 ∷ 9 ∷ 9 ∷ []) ∷ [] ∷ [];
   one = 0xFF ∷ 0xC0 ∷ 0xC1 ∷ 0xE0 ∷ 0xFD ∷ 0x85 ∷ 0x01 ∷ 0xAA ∷ [];
@@ -305,7 +305,7 @@ unfolding each
 entry-scope x h = record { case = h .case; plain = h .plain; preset = h .preset }
 
 lists-so : (t : Tree) (lent : Lent) (run : Payload) → Listed-so t → Lists (drcOf (t .0) run) (filled (tables pieces (t .1)) lent) (length (kids (t .1 .0)))
-unfolding filled tables first others
+unfolding filled tables firstTable otherTables
 lists-so t lent run h =
     let is = t .1 .0 in
     let ls = t .1 .1 .0 in
@@ -323,7 +323,7 @@ lists-so t lent run h =
 
 pub read-lists : (body : List ℕ) (lent after : Lent) (m : MpegH3dAudioDrcLoudness) → reading kind body lent ≡ leaves (accepted m) after
     → (additional : ℕ) × (k : ℕ) × (measuring kind body ≡ accepted (sized (m .info .part .«drc_instructions») additional (m .info .part .«loudness_infos») (m .info .part .«downmix_definitions») k)) × Lists m after additional
-unfolding kind measuring onto sizes tables needs placed each
+unfolding kind measuring onto sizes tables needs withPlace each
 read-lists body lent after m e =
     let w = was kind body lent m after e in
     let t = w .sound .tree in

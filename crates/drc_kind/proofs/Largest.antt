@@ -12,9 +12,9 @@ use Rattle.wire.specs.Act.{Act, byte, copy, pick, rows}
 use Rattle.wire.specs.Pen.{clean, bytes}
 use Rattle.wire.specs.Layout.{Cell, num, reserved, flag, Columns, of, at, blank, writes, shown, cells, fieldOf, has, columns, mix, flatActs, familyActsOf, bearingActs, borneBytes}
 use Rattle.wire.proofs.Fields.{fits-cons}
-use Rattle.wire.proofs.Acts.{and-both, clean-both}
-use Rattle.wire.proofs.Passes.{slice-long}
-use Rattle.wire.proofs.Most.{both-long, most, writes-most, demanded-clean, demanded-long, rows-most, flat-most}
+use Rattle.wire.proofs.writing.Acts.{and-both, clean-both}
+use Rattle.wire.proofs.writing.Passes.{slice-long}
+use Rattle.wire.proofs.layouts.Most.{both-long, most, writes-most, demanded-clean, demanded-long, rows-most, flat-most}
 use Rattle.frame.specs.Kind.{Lent}
 use Rattle.frame.specs.Body as B
 use Rattle.frame.specs.Body.{table}

@@ -8,12 +8,12 @@ use Rattle.wire.specs.Lists.{all-nil, all-cons, each}
 use Rattle.wire.specs.Bits.{bit, isFlag, total}
 use Rattle.wire.specs.declared.rows.Payload.{Payload}
 use Rattle.wire.specs.Layout.{Layout, end, one, _▹_, num, reserved, flag, Columns, of, row, shown, cells, every, flagged, has, Family, Borne}
-use Rattle.wire.proofs.Acts.{and-both}
-use Rattle.wire.proofs.Codec.{seen-as, As-fits}
-use Rattle.wire.proofs.Cells.{On, all, distinct, free, eights, proper, suits, shown-in, bytewide, in-bytes}
-use Rattle.wire.proofs.Forms.{form-all, form-shown, form-proper, form-in-bytes, Form-fits, Row-fits, rows-of, sure, below}
-use Rattle.wire.proofs.Rowed.{Flat, Nest, flat-test, nest-test, weight, flats, breaks, families, broken-form}
-use Rattle.wire.proofs.Borne.{Bear, bear-test, bear-form, bears, meant}
+use Rattle.wire.proofs.writing.Acts.{and-both}
+use Rattle.wire.proofs.layouts.Codec.{seen-as, As-fits}
+use Rattle.wire.proofs.layouts.Cells.{On, all, distinct, free, eights, proper, suits, shown-in, bytewide, in-bytes}
+use Rattle.wire.proofs.layouts.Forms.{form-all, form-shown, form-proper, form-in-bytes, Form-fits, Row-fits, rows-of, sure, below}
+use Rattle.wire.proofs.layouts.Rowed.{Flat, Nest, flat-test, nest-test, weight, flats, breaks, families, broken-form}
+use Rattle.wire.proofs.layouts.Borne.{Bear, bear-test, bear-form, bears, meant}
 use Rattle.frame.specs.Body.{layouts, heeds, heedsOf}
 use Rattle.frame.proofs.Lawful.{Lawful}
 use Rattle.frame.proofs.RowTypes.{flat-lawful, family-lawful, bearer-lawful}

@@ -10,7 +10,7 @@ use Rattle.wire.specs.Bits.{part, total, split}
 use Rattle.wire.specs.Prog.{Prog, ret, look, u8, pass, span, many, _>>=_}
 use Rattle.wire.specs.Act.{pick}
 use Rattle.wire.specs.Layout.{Layout, end, one, optional, _▹_, num, reserved, flag, Columns, blank, set, has, put, puts, reads, row, flat, Family, Borne}
-use Rattle.wire.proofs.Runs.{bind-assoc}
+use Rattle.wire.proofs.reading.Runs.{bind-assoc}
 use Rattle.wire.proofs.Fields.{part-below}
 use Rattle.frame.specs.Body.{parse}
 use Rattle.pairs.specs.Layout.{pair}

@@ -13,15 +13,15 @@ use Rattle.wire.specs.Prog.{run, many}
 use Rattle.wire.specs.Reads.{rowsOf}
 use Rattle.wire.specs.Act.{pick}
 use Rattle.wire.specs.Layout.{Cell, num, reserved, flag, column, idle, Columns, of, flat, shown, cells, tally, Family, familyTally, Borne, borneRow, borneTally}
-use Rattle.wire.proofs.Acts.{and-both}
-use Rattle.wire.proofs.Walk.{ends}
+use Rattle.wire.proofs.writing.Acts.{and-both}
+use Rattle.wire.proofs.reading.Walk.{ends}
 use Rattle.wire.proofs.Fields.{part-below}
-use Rattle.wire.proofs.Loops.{many-long}
-use Rattle.wire.proofs.Rowed.{parents-long}
+use Rattle.wire.proofs.reading.Loops.{many-long}
+use Rattle.wire.proofs.layouts.Rowed.{parents-long}
 use Rattle.frame.specs.Numbers.{accepted}
 use Rattle.frame.specs.Entry.{needs, sizes, tail, Measures, Tallies}
 use Rattle.frame.specs.Body as B
-use Rattle.frame.specs.Body.{placed, tables}
+use Rattle.frame.specs.Body.{withPlace, tables}
 use Rattle.frame.specs.Sight.{Tops}
 use Rattle.frame.proofs.Entries.{measures-walked, sizes-walked, tallies-walked, tops-walked}
 use Rattle.frame.proofs.Tables.{same-rows, Empty, empty-opens}
@@ -97,7 +97,7 @@ module _ {s : List ℕ} {p : Places} (f : Found s p) (h : length s < 65536) wher
       ∙ (λ j. record { tables = needs-found f j; before = p .k }))
 
   pub recorded : {r : MpegH3dAudioDrcLoudness} → r .reserved ≡ part 1 7 (getD s 0 0) → r .info ≡ infoAt s → r .trailing ≡ tail (p .k) s → Tops kind s r
-  unfolding infoAt kind placed each
+  unfolding infoAt kind withPlace each
   recorded a e t = tops-walked kind s h (found-reads s p f) (λ j. record { reserved = a j; info = e j; trailing = t j })
 
 -- ---- no rows: no table is needed, and none changes

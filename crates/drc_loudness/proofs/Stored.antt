@@ -11,10 +11,10 @@ use Rattle.wire.specs.Prog.{run, many}
 use Rattle.wire.specs.Reads.{rowsOf, isDone}
 use Rattle.wire.specs.Nest.{Fillable, Nests}
 use Rattle.wire.specs.Layout.{flat, kids, brokenRow, borneRow}
-use Rattle.wire.proofs.Rowed.{Wide, parents-long}
-use Rattle.wire.proofs.Fronts.{rows-front, flat-front, Both, both}
-use Rattle.wire.proofs.Borne.{borne-wide}
-use Rattle.frame.specs.Entry.{needs, room, first, others, filled}
+use Rattle.wire.proofs.layouts.Rowed.{Wide, parents-long}
+use Rattle.wire.proofs.layouts.Fronts.{rows-front, flat-front, Both, both}
+use Rattle.wire.proofs.layouts.Borne.{borne-wide}
+use Rattle.frame.specs.Entry.{needs, room, firstTable, otherTables, filled}
 use Rattle.frame.specs.Body.{tables}
 use Rattle.frame.specs.Sight.{Roomy, Fills}
 use Rattle.frame.proofs.Entries.{room-walked, fills-walked}
@@ -41,7 +41,7 @@ module _ {s : List ℕ} {p : Places} (f : Found s p) (short : length s < 65536) 
     downmixes : length (f .in-downmixes) * 4 ≤ length t₄
 
   space : Space
-  unfolding needs kind tables room first others
+  unfolding needs kind tables room firstTable otherTables
   space =
       let h₁ = fit-head (none-fit (needs (kind .tables (tree f))) (t₁ ∷ t₂ ∷ t₃ ∷ t₄ ∷ []) (room-walked kind s short (found-reads s p f) r)) in
       let h₂ = fit-head (h₁ .1) in
@@ -92,7 +92,7 @@ pub stored : {s : List ℕ} {p : Places} → Found s p → length s < 65536 → 
     → u₃ ≡ sets t₃ 0 (flatMap (borneRow entry) (rowsOf (run (many (i .«loudness_infos») entries) s (p .loudness))))
     → u₄ ≡ sets t₄ 0 (flatMap (λ r. r) (rowsOf (run (many (i .«downmix_definitions») (flat 4 downmix)) s (p .downmixes))))
     → Fills kind s (t₁ ∷ t₂ ∷ t₃ ∷ t₄ ∷ []) (u₁ ∷ u₂ ∷ u₃ ∷ u₄ ∷ [])
-unfolding filled kind tables first others
+unfolding filled kind tables firstTable otherTables
 stored {s} {p} f h t₁ t₂ t₃ t₄ e q r a b c =
     let x = instructions-stored f h t₁ t₂ t₃ t₄ r e q a in
     let y = entries-stored f h t₁ t₂ t₃ t₄ r e b in

@@ -16,10 +16,10 @@ use Rattle.wire.specs.Layout.{reserved, flag, blank, put, reads, flat, Family, 
 use Rattle.wire.specs.declared.reads.Short.{Short}
 use Rattle.wire.specs.declared.reads.Sum.{Sum}
 use Rattle.wire.specs.declared.reads.Sum.the-variants as S
-use Rattle.wire.proofs.Walk.{halt, From, byte-next, onward, Passed, end-onward, end-cut-off, finished}
+use Rattle.wire.proofs.reading.Walk.{halt, From, byte-next, onward, Passed, end-onward, end-cut-off, finished}
 use Rattle.wire.proofs.Fields.{part-below}
-use Rattle.wire.proofs.Loops.{Went-on, sum-onward, sum-cut-off, sum-small}
-use Rattle.wire.proofs.Straight.{read-so, ends-at, ends-within, ends-few, ends-on, ends-cut, Past}
+use Rattle.wire.proofs.reading.Loops.{Went-on, sum-onward, sum-cut-off, sum-small}
+use Rattle.wire.proofs.layouts.Straight.{read-so, ends-at, ends-within, ends-few, ends-on, ends-cut, Past}
 use Rattle.frame.specs.Entry.{too-short, Measures}
 use Rattle.frame.proofs.Entries.{measures-short}
 use Rattle.instructions.specs.Layout.{instructions}

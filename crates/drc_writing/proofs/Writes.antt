@@ -14,10 +14,10 @@ use Rattle.wire.specs.Spell.{fitAll}
 use Rattle.wire.specs.declared.pen.Fault.the-variants as F
 use Rattle.wire.specs.Layout.{cells, matches, matched, shown, writes, every, has}
 use Rattle.wire.proofs.Fields.{fits-cons}
-use Rattle.wire.proofs.Acts.{and-both, clean-both}
-use Rattle.wire.proofs.Parts.{part-begins, within-there, within-absent, rows-there}
-use Rattle.wire.proofs.Passes.{Filling}
-use Rattle.wire.proofs.Plain.{clean-all}
+use Rattle.wire.proofs.writing.Acts.{and-both, clean-both}
+use Rattle.wire.proofs.writing.Parts.{part-begins, within-there, within-absent, rows-there}
+use Rattle.wire.proofs.writing.Passes.{Filling}
+use Rattle.wire.proofs.writing.Plain.{clean-all}
 use Rattle.frame.specs.Kind.{Lent}
 use Rattle.frame.specs.Body.{layouts, inside, pieced, beyond, table}
 use Rattle.frame.proofs.Pieces.{and-true}

@@ -6,7 +6,7 @@ ghost use Prim.Native.Nat.{_<_, _^_};
 ghost use Rattle.wire.specs.Pen.{reach, Checked, Ready, Filled};
 ghost use Rattle.wire.specs.Spell.{Spelt};
 ghost use Rattle.wire.specs.declared.pen.Pen.the-variants.{At};
-ghost use Rattle.frame.specs.Entry.{whole};
+ghost use Rattle.frame.specs.Entry.{allActs};
 ghost use Rattle.drc_kind.specs.Kind.{kind};
 ghost use Rattle.drc_writing.specs.Write.{headFields, countFields, allWithin, listsActs, infoActs, drcActs, Listed};
 use downmixes::rows::DOWNMIX_COLUMNS;
@@ -162,7 +162,7 @@ pub fn check(
     downmixes: &[u16],
     store: &[u8],
 ) -> Pen
-    ensures { λ r. ⌜ Checked (whole kind m (now (instructions .entry) ∷ now (additional .entry) ∷ now (loudness .entry) ∷ now (downmixes .entry) ∷ []) (now (store .entry))) 82989 (At 0) r ⌝ }
+    ensures { λ r. ⌜ Checked (allActs kind m (now (instructions .entry) ∷ now (additional .entry) ∷ now (loudness .entry) ∷ now (downmixes .entry) ∷ []) (now (store .entry))) 82989 (At 0) r ⌝ }
 {
     let trailing = m.trailing;
     if in_store(trailing, store) {
@@ -260,8 +260,8 @@ pub fn fill(
     store: &[u8],
     out: &mut [u8],
 ) -> usize
-    requires { ⌜ Ready (whole kind m (now instructions ∷ now additional ∷ now loudness ∷ now downmixes ∷ []) (now store)) 0 (now out) ⌝ }
-    ensures { λ r. ⌜ Filled (whole kind m (now (instructions .entry) ∷ now (additional .entry) ∷ now (loudness .entry) ∷ now (downmixes .entry) ∷ []) (now (store .entry))) 0 (now (out .entry)) r (now (out .exit)) ⌝ }
+    requires { ⌜ Ready (allActs kind m (now instructions ∷ now additional ∷ now loudness ∷ now downmixes ∷ []) (now store)) 0 (now out) ⌝ }
+    ensures { λ r. ⌜ Filled (allActs kind m (now (instructions .entry) ∷ now (additional .entry) ∷ now (loudness .entry) ∷ now (downmixes .entry) ∷ []) (now (store .entry))) 0 (now (out .entry)) r (now (out .exit)) ⌝ }
 {
     let n = fill_fields(m, instructions, additional, loudness, downmixes, store, out);
     pen::copy_payload(out, n, store, m.trailing)

@@ -18,16 +18,16 @@ use Rattle.wire.specs.declared.rows.Payload.{Payload}
 use Rattle.wire.specs.Pen.{clean, bytes}
 use Rattle.wire.specs.Layout.{Cell, Columns, of, row, set, cells, every, flagged, columns, has, kept, blank, demands}
 use Rattle.wire.proofs.Lists.{every-right}
-use Rattle.wire.proofs.Acts.{and-both}
-use Rattle.wire.proofs.Takes.{Takes, map-takes}
-use Rattle.wire.proofs.Codec.{Codec, Spells}
-use Rattle.wire.proofs.Cells.{On, sound, clash, mix-in, mix-all}
-use Rattle.wire.proofs.Forms.{Form, form-read, form-goes, form-means, form-shown, form-all, form-proper, form-in-bytes, form-shown-in, below, row-of, rows-of, Row-fits, means-as, means-same, alike, row-ready, row-bytes, Faultless}
-use Rattle.wire.proofs.Rowed.{row-on, on-all}
+use Rattle.wire.proofs.writing.Acts.{and-both}
+use Rattle.wire.proofs.reading.Takes.{Takes, map-takes}
+use Rattle.wire.proofs.layouts.Codec.{Codec, Spells}
+use Rattle.wire.proofs.layouts.Cells.{On, sound, clash, mix-in, mix-all}
+use Rattle.wire.proofs.layouts.Forms.{Form, form-read, form-goes, form-means, form-shown, form-all, form-proper, form-in-bytes, form-shown-in, below, row-of, rows-of, Row-fits, means-as, means-same, alike, row-ready, row-bytes, Faultless}
+use Rattle.wire.proofs.layouts.Rowed.{row-on, on-all}
 use Rattle.frame.specs.Kind.{Lent, Rows, Held}
 use Rattle.frame.specs.Claims.{Agree}
-use Rattle.frame.specs.Entry.{needs, total, first, filled}
-use Rattle.frame.specs.Body.{Pieces, last, carrying, list, layouts, offsetOf, lengthOf, given, placed, payloads, tables, heededRows, beyond, run, inside, pieced, means, heeds, Body, counts, actsOf, valueOf, heedsOf, kind}
+use Rattle.frame.specs.Entry.{needs, total, firstTable, filled}
+use Rattle.frame.specs.Body.{Pieces, last, carrying, list, layouts, offsetOf, lengthOf, given, withPlace, payloads, tables, heededRows, beyond, run, inside, pieced, means, heeds, Body, counts, actsOf, valueOf, heedsOf, kind}
 use Rattle.frame.proofs.Lawful.{Lawful}
 use Rattle.frame.proofs.RowTypes.{Took}
 use Rattle.frame.proofs.Records.{kept-so, record-spells, sound-at, record-ready, record-alike}
@@ -80,15 +80,15 @@ set-both o n w ks t a b f =
     let q = row-on w (o ∷ n ∷ []) (t .low) (row w (set o a (set n b f))) (set o a (set n b f)) refl in
     record { offset = q o (rw same) ∙ rw same; size = q n there ∙ rw (t .two, also) }
 
-placed-on : {T M : Type 0} (p : Pieces T M) (w : ℕ) (ks : List ℕ) → places-test p w ks ≡ true → (x : T) (f : Columns) (j : ℕ) → has j ks ≡ true → placed p x f j ≡ f j
-unfolding places-test placed
+placed-on : {T M : Type 0} (p : Pieces T M) (w : ℕ) (ks : List ℕ) → places-test p w ks ≡ true → (x : T) (f : Columns) (j : ℕ) → has j ks ≡ true → withPlace p x f j ≡ f j
+unfolding places-test withPlace
 placed-on (last l) w ks e x f j h = refl
 placed-on (carrying l i o n) w ks e x f j h = set-others o n w ks (apart-of o n w ks e) (offsetOf (x .0)) (lengthOf (x .0)) f j h
 placed-on (list l k r p) w ks e x f j h = placed-on p w ks e (x .1) f j h
 
 -- columns that are no place are left
-placed-off : {T M : Type 0} (p : Pieces T M) (x : T) (f : Columns) (j : ℕ) → has j (places p) ≡ false → placed p x f j ≡ f j
-unfolding places placed has
+placed-off : {T M : Type 0} (p : Pieces T M) (x : T) (f : Columns) (j : ℕ) → has j (places p) ≡ false → withPlace p x f j ≡ f j
+unfolding places withPlace has
 placed-off (last l) x f j h = refl
 placed-off (carrying l i o n) x f j h = go (eqb j o) (eqb j n) h
   where
@@ -98,15 +98,15 @@ placed-off (carrying l i o n) x f j h = go (eqb j o) (eqb j n) h
     go false false e = refl
 placed-off (list l k r p) x f j h = placed-off p (x .1) f j h
 
-placed-stands : {T M : Type 0} (p : Pieces T M) (w : ℕ) (ks : List ℕ) → places-test p w ks ≡ true → (x : T) (f : Columns) → Stood p x (of (row w (placed p x f)))
-unfolding places-test placed
+placed-stands : {T M : Type 0} (p : Pieces T M) (w : ℕ) (ks : List ℕ) → places-test p w ks ≡ true → (x : T) (f : Columns) → Stood p x (of (row w (withPlace p x f)))
+unfolding places-test withPlace
 placed-stands (last l) w ks e x f = tt
 placed-stands (carrying l i o n) w ks e x f = let y = set-both o n w ks (apart-of o n w ks e) (offsetOf (x .0)) (lengthOf (x .0)) f in (y .offset, y .size)
 placed-stands (list l k r p) w ks e x f = placed-stands p w ks e (x .1) f
 
 -- the place of a payload that stands in the body is small
-placed-small : {T M : Type 0} (p : Pieces T M) (x : T) (f : Columns) (s : List ℕ) → Every (Within s) (payloads p x) → length s < 65536 → ((j : ℕ) → f j < 65536) → (j : ℕ) → placed p x f j < 65536
-unfolding placed payloads
+placed-small : {T M : Type 0} (p : Pieces T M) (x : T) (f : Columns) (s : List ℕ) → Every (Within s) (payloads p x) → length s < 65536 → ((j : ℕ) → f j < 65536) → (j : ℕ) → withPlace p x f j < 65536
+unfolding withPlace payloads
 placed-small (last l) x f s h n c j = c j
 placed-small (carrying l i o m) x f s h n c j = go (x .0) h (eqb j o) (eqb j m)
   where
@@ -164,7 +164,7 @@ same-places (carrying l j o n) w m g h lent store k = go (eqb (m j) 1) k
     go b k = let y = both (eqb (m j) 1) k in record { inside = y .0; breaks = λ i. (y .1 i, tt) }
 same-places (list l k r p) w m g h lent store q =
     let y = same-places p (w .1) m g h (beyond (r .heeded) lent) store q in
-    record { inside = λ i. leb (m k) (length (first lent) / r .columns) && y .inside i; breaks = λ i. (rows (r .acts lent store) 0 (m k), y .breaks i) }
+    record { inside = λ i. leb (m k) (length (firstTable lent) / r .columns) && y .inside i; breaks = λ i. (rows (r .acts lent store) 0 (m k), y .breaks i) }
 
 -- ---- what has to be proved of a body
 
@@ -248,7 +248,7 @@ module _ {T M Top : Type 0} (b : Body T M Top) (w : Lawful-body b) where
     h = of (t .0)
 
     abbrev full : Columns
-    full = placed p (t .1) h
+    full = withPlace p (t .1) h
 
     abbrev g : Columns
     g = of (row (b .columns) full)
@@ -353,7 +353,7 @@ module _ {T M Top : Type 0} (b : Body T M Top) (w : Lawful-body b) where
     run-set = λ t r q. w .run-set _ r q;
     format = format;
     reads = reads-so;
-    placed = spans-are;
+    spans-so = spans-are;
     all-there = λ t. all-there p (w .rows) (t .1);
     shaped = λ t bs d. took-of t bs d .shaped;
     bounded = λ t bs d. took-of t bs d .few;

@@ -9,12 +9,12 @@ use Rattle.wire.specs.Lists.{Every, Byte, Column}
 use Rattle.wire.specs.Prog.{span, Within}
 use Rattle.wire.specs.declared.rows.Payload.{Payload}
 use Rattle.wire.specs.Pen.{clean}
-use Rattle.wire.proofs.Takes.{Takes}
-use Rattle.wire.proofs.Codec.{Codec, Spells}
+use Rattle.wire.proofs.reading.Takes.{Takes}
+use Rattle.wire.proofs.layouts.Codec.{Codec, Spells}
 use Rattle.frame.specs.Numbers.{accepted}
 use Rattle.frame.specs.Kind.{Kind, Lent, Rows, Held, Heeded}
 use Rattle.frame.specs.Claims.{Agree, rows-agree}
-use Rattle.frame.specs.Entry.{leaves, needs, total, first, others, lacking, filled, Sizes, reading, measuring, tallying}
+use Rattle.frame.specs.Entry.{leaves, needs, total, firstTable, otherTables, lacking, filled, Sizes, reading, measuring, tallying}
 
 -- every row has as many columns as its table
 abbrev pub Shaped : Rows → Type 0
@@ -22,12 +22,12 @@ Shaped r = Every (λ (row : List ℕ). length row ≡ r .columns) (r .rows)
 
 -- tables that agree, one by one
 pub record Agrees (h : Heeded) (hs : List Heeded) (lent lent′ : Lent) : Type 0 where
-  pub long : length (first lent) ≡ length (first lent′)
-  pub same : (i : ℕ) → h .row (first lent) (i * h .columns) ≡ h .row (first lent′) (i * h .columns)
-  pub rest : Agree hs (others lent) (others lent′)
+  pub long : length (firstTable lent) ≡ length (firstTable lent′)
+  pub same : (i : ℕ) → h .row (firstTable lent) (i * h .columns) ≡ h .row (firstTable lent′) (i * h .columns)
+  pub rest : Agree hs (otherTables lent) (otherTables lent′)
 
 pub agrees : {h : Heeded} {hs : List Heeded} {lent lent′ : Lent} → Agree (h ∷ hs) lent lent′ → Agrees h hs lent lent′
-unfolding first others
+unfolding firstTable otherTables
 agrees (rows-agree l e r) = record { long = l; same = e; rest = r }
 
 module _ {Tree Top Value : Type 0} (K : Kind Tree Top Value) where
@@ -49,7 +49,7 @@ module _ {Tree Top Value : Type 0} (K : Kind Tree Top Value) where
     -- the format, its program and its payloads
     pub format : Codec Tree Value
     pub reads : format .read ≡ K .program
-    pub placed : (t : Tree) → format .spans t ≡ K .payloads t
+    pub spans-so : (t : Tree) → format .spans t ≡ K .payloads t
     -- the tables: all are there, rows are as wide as they should be, and at most as many as the bytes read
     pub all-there : (t : Tree) → length (K .tables t) ≡ K .lends
     pub shaped : (t : Tree) (bs : List ℕ) → Takes (K .program) 0 t bs → Every Shaped (K .tables t)

@@ -12,11 +12,11 @@ use lib.Dec.{leb}
 use borrow.Author.Tests.{leb-true, leb-false, le-leb, lt-leb}
 use Rattle.wire.specs.Lists.{Every, all-cons}
 use Rattle.wire.specs.Prog.{done, run}
-use Rattle.wire.proofs.Takes.{run-takes}
+use Rattle.wire.proofs.reading.Takes.{run-takes}
 use Rattle.wire.proofs.Lists.{every-head, every-tail}
 use Rattle.frame.specs.Numbers.{accepted, number}
 use Rattle.frame.specs.Kind.{Kind, Lent, Rows}
-use Rattle.frame.specs.Entry.{no-room, Outcome, leaves, onto, Sizes, Need, needs, first, others, room, lacking, filled, sizes, reading, measuring}
+use Rattle.frame.specs.Entry.{no-room, Outcome, leaves, onto, Sizes, Need, needs, firstTable, otherTables, room, lacking, filled, sizes, reading, measuring}
 use Rattle.frame.specs.Claims.{Lowest, this, later, Kept, all-kept, kept-behind, Roomier, none-lent, one-more, More-room}
 use Rattle.frame.proofs.Judged.{not-refused, short-room, long-room, same-room, answers, View, is-read, lacks, is-short, is-long, view, reads-so, lacks-so, refused-so, ran-well, was, measured}
 use Rattle.frame.proofs.Lawful.{Shaped, Lawful}
@@ -28,23 +28,23 @@ div-mono a b (suc c) h = let p : 0 < suc c = omega arith in
     le-div-iff-mul-le p .1 (le-trans (le-div-iff-mul-le p .0 (le-refl (a / suc c))) h)
 
 room-mono : (n : Need) (lent more : Lent) → Roomier lent more → room n lent ≤ room n more
-unfolding room first
+unfolding room firstTable
 room-mono n [] [] none-lent = le-refl _
 room-mono n (t ∷ ts) (u ∷ us) (one-more h r) = div-mono (length t) (length u) (n .columns) h
 
-roomier-others : (lent more : Lent) → Roomier lent more → Roomier (others lent) (others more)
-unfolding others
+roomier-others : (lent more : Lent) → Roomier lent more → Roomier (otherTables lent) (otherTables more)
+unfolding otherTables
 roomier-others [] [] none-lent = none-lent
 roomier-others (t ∷ ts) (u ∷ us) (one-more h r) = r
 
 -- what a test of the room says, as a derivation
 pub data Fit : List Need → Lent → Type 0 where
   fit-nil : {lent : Lent} → Fit [] lent
-  fit-cons : {n : Need} {ns : List Need} {lent : Lent} → n .rows ≤ room n lent → Fit ns (others lent) → Fit (n ∷ ns) lent
+  fit-cons : {n : Need} {ns : List Need} {lent : Lent} → n .rows ≤ room n lent → Fit ns (otherTables lent) → Fit (n ∷ ns) lent
 
 fit-more : {ns : List Need} {lent : Lent} (more : Lent) → Roomier lent more → Fit ns lent → Fit ns more
 fit-more more r fit-nil = fit-nil
-fit-more {lent = lent} more r (fit-cons {n = n} h f) = fit-cons (le-trans h (room-mono n lent more r)) (fit-more (others more) (roomier-others lent more r) f)
+fit-more {lent = lent} more r (fit-cons {n = n} h f) = fit-cons (le-trans h (room-mono n lent more r)) (fit-more (otherTables more) (roomier-others lent more r) f)
 
 fit-none : {ns : List Need} {lent : Lent} → Fit ns lent → lacking ns lent ≡ none
 unfolding lacking
@@ -54,20 +54,20 @@ fit-none (fit-cons h f) = rw (le-leb _ _ h, lacking) (fit-none f)
 pub none-fit : (ns : List Need) (lent : Lent) → lacking ns lent ≡ none → Fit ns lent
 unfolding lacking
 none-fit [] lent e = fit-nil
-none-fit (n ∷ ns) lent e = go (leb (n .rows) (room n lent)) refl e (none-fit ns (others lent))
+none-fit (n ∷ ns) lent e = go (leb (n .rows) (room n lent)) refl e (none-fit ns (otherTables lent))
   where
-    go : (b : Bool) → leb (n .rows) (room n lent) ≡ b → Path (Option Need) (elim b [ true ↦ lacking ns (others lent) | false ↦ some n ]) none
-        → (lacking ns (others lent) ≡ none → Fit ns (others lent)) → Fit (n ∷ ns) lent
+    go : (b : Bool) → leb (n .rows) (room n lent) ≡ b → Path (Option Need) (elim b [ true ↦ lacking ns (otherTables lent) | false ↦ some n ]) none
+        → (lacking ns (otherTables lent) ≡ none → Fit ns (otherTables lent)) → Fit (n ∷ ns) lent
     go true h e r = fit-cons (leb-true _ _ h) (r e)
     go false h e r = absurd (let z : _≡_ {A = ℕ} 0 1 = cc e in omega arith)
 
 lowest : (ns : List Need) (lent : Lent) (x : Need) → lacking ns lent ≡ some x → Lowest ns lent (x .number) (x .rows)
 unfolding lacking
 lowest [] lent x e = absurd (let z : _≡_ {A = ℕ} 0 1 = cc e in omega arith)
-lowest (n ∷ ns) lent x e = go (leb (n .rows) (room n lent)) refl e (lowest ns (others lent) x)
+lowest (n ∷ ns) lent x e = go (leb (n .rows) (room n lent)) refl e (lowest ns (otherTables lent) x)
   where
-    go : (b : Bool) → leb (n .rows) (room n lent) ≡ b → Path (Option Need) (elim b [ true ↦ lacking ns (others lent) | false ↦ some n ]) (some x)
-        → (lacking ns (others lent) ≡ some x → Lowest ns (others lent) (x .number) (x .rows)) → Lowest (n ∷ ns) lent (x .number) (x .rows)
+    go : (b : Bool) → leb (n .rows) (room n lent) ≡ b → Path (Option Need) (elim b [ true ↦ lacking ns (otherTables lent) | false ↦ some n ]) (some x)
+        → (lacking ns (otherTables lent) ≡ some x → Lowest ns (otherTables lent) (x .number) (x .rows)) → Lowest (n ∷ ns) lent (x .number) (x .rows)
     go true h e r = later (leb-true _ _ h) (r e)
     go false h e r = let z : n ≡ x = cc e in rw (← z) (this (leb-false _ _ h))
 
@@ -82,7 +82,7 @@ unfolding lacking
 from-lowest (this {n = n} h) = record { need = n; found = rw (lt-leb _ _ h, lacking) refl; table = refl; rows = refl }
 from-lowest (later h l) = let x = from-lowest l in record { need = x .need; found = rw (le-leb _ _ h, lacking) (x .found); table = x .table; rows = x .rows }
 
-pub fit-head : {n : Need} {ns : List Need} {lent : Lent} → Fit (n ∷ ns) lent → (n .rows ≤ room n lent) × Fit ns (others lent)
+pub fit-head : {n : Need} {ns : List Need} {lent : Lent} → Fit (n ∷ ns) lent → (n .rows ≤ room n lent) × Fit ns (otherTables lent)
 fit-head (fit-cons h f) = (h, f)
 
 div-fits : (r n c : ℕ) → r ≤ n / c → r * c ≤ n
@@ -101,7 +101,7 @@ behind-kept : (a t : List ℕ) {n : ℕ} → length a ≡ n → drop n (a ++ dro
 behind-kept a t e = rw (← e) (drop-append-seam a (drop (length a) t))
 
 keeps : (rs : List Rows) (lent : Lent) → Every Shaped rs → Fit (needs rs) lent → length lent ≡ length rs → Kept (needs rs) lent (filled rs lent)
-unfolding needs filled room first others
+unfolding needs filled room firstTable otherTables
 keeps [] [] h f n = all-kept
 keeps [] (t ∷ ts) h f n = absurd (omega arith)
 keeps (r ∷ rs) [] h f n = absurd (omega arith)

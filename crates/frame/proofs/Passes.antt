@@ -11,9 +11,9 @@ use Rattle.wire.specs.declared.pen.Fault.the-variants as F
 use Rattle.wire.specs.declared.pen.Pen.{Pen}
 use Rattle.wire.specs.declared.pen.Pen.the-variants.{At, Stop}
 use Rattle.wire.specs.Pen.{Checked, CheckedRun, Ready, Filled}
-use Rattle.wire.proofs.Passes.{then, passed, refused, run-looked, Filling, fill-start, fill-demand, fill-row, fill-turn, fill-last, demanded, run-room}
+use Rattle.wire.proofs.writing.Passes.{then, passed, refused, run-looked, Filling, fill-start, fill-demand, fill-row, fill-turn, fill-last, demanded, run-room}
 use Rattle.frame.specs.Kind.{Kind, Lent}
-use Rattle.frame.specs.Entry.{whole, trail}
+use Rattle.frame.specs.Entry.{allActs, trail}
 
 module _ {Tree Top Value : Type 0} (K : Kind Tree Top Value) where
   abbrev ends : Top → ℕ
@@ -24,13 +24,13 @@ module _ {Tree Top Value : Type 0} (K : Kind Tree Top Value) where
 
   -- ---- the check pass
 
-  pub run-outside : (m : Top) (lent : Lent) (store : List ℕ) → leb (ends m) (length store) ≡ false → (k : ℕ) → Checked (whole K m lent store) k (At 0) (Stop F.Range 0)
-  unfolding whole
+  pub run-outside : (m : Top) (lent : Lent) (store : List ℕ) → leb (ends m) (length store) ≡ false → (k : ℕ) → Checked (allActs K m lent store) k (At 0) (Stop F.Range 0)
+  unfolding allActs
   run-outside m lent store e k = subst (λ (b : Bool). Checked (demand F.Range b ∷ behind m lent store) k (At 0) (Stop F.Range 0)) (sym e) (refused F.Range 0 (behind m lent store) k)
 
   module _ {m : Top} {lent : Lent} {store : List ℕ} {own : List Act} (same : K .acts m lent store ≡ own) where
-    pub all-looked : leb (ends m) (length store) ≡ true → {k : ℕ} {p r : Pen} → Checked own k (At 0) p → CheckedRun (K .trailing m .length) p r → Checked (whole K m lent store) (k + K .trailing m .length) (At 0) r
-    unfolding whole
+    pub all-looked : leb (ends m) (length store) ≡ true → {k : ℕ} {p r : Pen} → Checked own k (At 0) p → CheckedRun (K .trailing m .length) p r → Checked (allActs K m lent store) (k + K .trailing m .length) (At 0) r
+    unfolding allActs
     all-looked e {k} {p} {r} f w =
         let fields : Checked (K .acts m lent store) k (At 0) p = subst (λ (q : List Act). Checked q k (At 0) p) (sym same) f in
         let run = run-looked (K .trailing m .offset) (K .trailing m .length) store (leb-true (ends m) (length store) e) w in
@@ -38,19 +38,19 @@ module _ {Tree Top Value : Type 0} (K : Kind Tree Top Value) where
 
     -- ---- the fill pass
 
-    module _ {out : List ℕ} (ready : Ready (whole K m lent store) 0 out) where
+    module _ {out : List ℕ} (ready : Ready (allActs K m lent store) 0 out) where
       pub fields-ready : Ready own 0 out
-      unfolding whole
+      unfolding allActs
       fields-ready = subst (λ (q : List Act). Ready q 0 out) same (fill-row (K .acts m lent store) (copy (trail K m store) ∷ []) (fill-demand (fill-start ready)) refl)
 
       module _ {n : ℕ} {o : List ℕ} (long : length o ≡ length out) (f : Filled own 0 out n o) where
-        fields-filled : Filling (whole K m lent store) (copy (trail K m store) ∷ []) 0 out n o
-        unfolding whole
+        fields-filled : Filling (allActs K m lent store) (copy (trail K m store) ∷ []) 0 out n o
+        unfolding allActs
         fields-filled = fill-turn (fill-demand (fill-start ready)) refl long (subst (λ (q : List Act). Filled q 0 out n o) (sym same) f)
 
         pub run-ready : (ends m ≤ length store) × (n + K .trailing m .length ≤ length o)
-        unfolding whole
+        unfolding allActs
         run-ready = let h = leb-true (ends m) (length store) (demanded ready) in (h, run-room (K .trailing m .offset) (K .trailing m .length) store h (fields-filled .ready))
 
-        pub all-filled : {n′ : ℕ} {o′ : List ℕ} → Filled (copy (trail K m store) ∷ []) n o n′ o′ → Filled (whole K m lent store) 0 out n′ o′
+        pub all-filled : {n′ : ℕ} {o′ : List ℕ} → Filled (copy (trail K m store) ∷ []) n o n′ o′ → Filled (allActs K m lent store) 0 out n′ o′
         all-filled = fill-last fields-filled

@@ -17,17 +17,17 @@ use Rattle.wire.specs.declared.rows.Payload.{Payload}
 use Rattle.wire.specs.Pen.{clean, bytes}
 use Rattle.wire.specs.Layout.{Cell, Layout, end, Columns, reads, writes, shown, matches, cells, matched}
 use Rattle.wire.proofs.Lists.{every-left, every-right, every-both, map-every}
-use Rattle.wire.proofs.Acts.{and-both, both-and, clean-both}
-use Rattle.wire.proofs.Passes.{slice-long}
-use Rattle.wire.proofs.Takes.{Takes, takes-split, map-takes, Listed, many-takes}
-use Rattle.wire.proofs.Codec.{Spells, seen-as, sized, sized-read, sized-acts, sized-fits, opt, opt-read, opt-means, opt-acts, Opt-fits, opt-spans, spells-rows, Counted}
-use Rattle.wire.proofs.Codec as C
-use Rattle.wire.proofs.Forms as W
-use Rattle.wire.proofs.Forms.{Form, hole, form-read, form-go, form-means, form-acts, Form-fits, form-shown, form-matches, form-spans, Breaks, woven, Holes, Cleans}
-use Rattle.wire.proofs.Rowed.{Good, good-list, weight, weighs}
+use Rattle.wire.proofs.writing.Acts.{and-both, both-and, clean-both}
+use Rattle.wire.proofs.writing.Passes.{slice-long}
+use Rattle.wire.proofs.reading.Takes.{Takes, takes-split, map-takes, Listed, many-takes}
+use Rattle.wire.proofs.layouts.Codec.{Spells, seen-as, prefixed, prefixed-read, prefixed-acts, prefixed-fits, opt, opt-read, opt-means, opt-acts, Opt-fits, opt-spans, spells-rows, Counted}
+use Rattle.wire.proofs.layouts.Codec as C
+use Rattle.wire.proofs.layouts.Forms as W
+use Rattle.wire.proofs.layouts.Forms.{Form, hole, form-read, form-go, form-means, form-acts, Form-fits, form-shown, form-matches, form-spans, Breaks, woven, Holes, Cleans}
+use Rattle.wire.proofs.layouts.Rowed.{Good, good-list, weight, weighs}
 use Rattle.frame.specs.Kind.{Lent, Rows, Heeded}
 use Rattle.frame.specs.Claims.{Agree, rows-agree}
-use Rattle.frame.specs.Entry.{needs, total, first, others, filled}
+use Rattle.frame.specs.Entry.{needs, total, firstTable, otherTables, filled}
 use Rattle.frame.specs.Body.{RowType, Pieces, last, carrying, list, layouts, carried, parse, offsetOf, lengthOf, given, payloads, tables, heededRows, beyond, run, inside, pieced, means}
 use Rattle.frame.proofs.Lawful.{Shaped}
 use Rattle.frame.proofs.RowTypes.{Had, Took, Lawful-rows}
@@ -46,7 +46,7 @@ and-true false = refl
 
 unfoldable pub form : {T M : Type 0} (p : Pieces T M) → Lawful-pieces p → Form T M
 form (last l) w = W.last l
-form (carrying l j o n) w = hole l j (λ v. opt sized (eqb v 1)) (W.last end)
+form (carrying l j o n) w = hole l j (λ v. opt prefixed (eqb v 1)) (W.last end)
 form (list l k r p) w = hole l k (C.list (w .0 .codec)) (form p (w .1))
 
 cells-cons : {T M : Type 0} (l : Layout) (p : Pieces T M) (g : Columns) → cells (l ∷ layouts p) g ≡ shown l g ++ cells (layouts p) g
@@ -74,21 +74,21 @@ matched-of (carrying l j o n) w g = sym (append-nil (matches l g))
 matched-of (list l k r p) w g = matched-cons l p g ∙ ap (λ (q : List Act). matches l g ++ q) (matched-of p (w .1) g)
 
 pub parse-goes : {T M B : Type 0} (p : Pieces T M) (w : Lawful-pieces p) (f : Columns) (all : Columns → T → Prog B) → form-go (form p w) f all ≡ parse p f all
-unfolding form form-go parse C.list opt opt-read sized seen-as sized-read carried reads u8 pass _>>=_
+unfolding form form-go parse C.list opt opt-read prefixed seen-as prefixed-read carried reads u8 pass _>>=_
 parse-goes (last l) w f all = refl
 parse-goes (carrying l j o n) w f all = λ i. reads l f >>= λ g. same (eqb (g j) 1) i >>= λ x. all g (x, tt)
   where
-    same : (b : Bool) → opt-read sized b ≡ carried b
+    same : (b : Bool) → opt-read prefixed b ≡ carried b
     same false = refl
     same true = refl
 parse-goes (list l k r p) w f all = λ i. reads l f >>= λ g. many (g k) (w .0 .reads i) >>= λ x. parse-goes p (w .1) g (λ h y. all h (x, y)) i
 
 pub spans-so : {T M : Type 0} (p : Pieces T M) (w : Lawful-pieces p) (g : Columns) (x : T) → form-spans (form p w) g x ≡ payloads p x
-unfolding form form-spans payloads C.list opt opt-spans sized seen-as
+unfolding form form-spans payloads C.list opt opt-spans prefixed seen-as
 spans-so (last l) w g x = refl
 spans-so (carrying l j o n) w g x = one (x .0)
   where
-    one : (y : Option Payload) → opt-spans sized y ++ [] ≡ given y
+    one : (y : Option Payload) → opt-spans prefixed y ++ [] ≡ given y
     one none = refl
     one (some y) = refl
 spans-so (list l k r p) w g x = λ i. flatMap (λ a. w .0 .spans a i) (x .0) ++ spans-so p (w .1) g (x .1) i
@@ -108,14 +108,14 @@ pieced-so (carrying l j o n) w g m lent store = ap (λ (q : List Act). writes l 
 pieced-so (list l k r p) w g m lent store = λ i. writes l g ++ (rows (r .acts lent store) 0 (m k) ++ pieced-so p (w .1) g m (beyond (r .heeded) lent) store i)
 
 carried-spells : (g : Columns) (o n : ℕ) (store : List ℕ) (b : Bool) → pick b (leb (g o + g n) (length store)) true ≡ true → clean (pick b (byte (field 8 (g n) ∷ []) ∷ copy (run g o n store) ∷ []) []) ≡ true
-    → Spells (opt sized b) (pick b (byte (field 8 (g n) ∷ []) ∷ copy (run g o n store) ∷ []) []) (pick b (some (run g o n store)) none)
+    → Spells (opt prefixed b) (pick b (byte (field 8 (g n) ∷ []) ∷ copy (run g o n store) ∷ []) []) (pick b (some (run g o n store)) none)
 unfolding opt opt-acts Opt-fits clean
 carried-spells g o n store false i e = record { fits = tt; sound = refl; same = refl }
 carried-spells g o n store true i e =
     let l = run g o n store in
     let long : length l ≡ g n = slice-long (g o) (g n) store (leb-true _ _ i) in
-    let q : byte (field 8 (g n) ∷ []) ∷ copy l ∷ [] ≡ sized .acts l = (λ z. byte (field 8 (sym long z) ∷ []) ∷ copy l ∷ []) ∙ sym (sized-acts l) in
-    record { fits = sized-fits l; sound = ap clean (sym q) ∙ e; same = ap bytes q }
+    let q : byte (field 8 (g n) ∷ []) ∷ copy l ∷ [] ≡ prefixed .acts l = (λ z. byte (field 8 (sym long z) ∷ []) ∷ copy l ∷ []) ∙ sym (prefixed-acts l) in
+    record { fits = prefixed-fits l; sound = ap clean (sym q) ∙ e; same = ap bytes q }
 
 -- each break spells its part of the meaning
 pub holes-so : {T M : Type 0} (p : Pieces T M) (w : Lawful-pieces p) (g m : Columns) (lent : Lent) (store : List ℕ) → inside p g m lent store ≡ true → clean (pieced p g m lent store) ≡ true → Holes (form p w) m (breaks p w g m lent store) (means p g m lent store)
@@ -123,7 +123,7 @@ unfolding inside pieced form Holes breaks means
 holes-so (last l) w g m lent store i e = tt
 holes-so (carrying l j o n) w g m lent store i e = (carried-spells g o n store (eqb (m j) 1) i (clean-both (writes l g) _ e .1), tt)
 holes-so (list l k r p) w g m lent store i e =
-    let (_, i₁) = and-both (leb (m k) (length (first lent) / r .columns)) _ i in
+    let (_, i₁) = and-both (leb (m k) (length (firstTable lent) / r .columns)) _ i in
     let (_, e₀) = clean-both (writes l g) _ e in
     let (e₁, e₂) = clean-both (rows (r .acts lent store) 0 (m k)) _ e₀ in
     (spells-rows (w .0 .codec) (r .acts lent store) (r .means lent store) (λ i. w .0 .spells lent store i) 0 (m k) e₁, holes-so p (w .1) g m (beyond (r .heeded) lent) store i₁ e₂)
@@ -131,7 +131,7 @@ holes-so (list l k r p) w g m lent store i e =
 -- ---- what writing reads of the tables decides them
 
 agree-beyond : (hs more : List Heeded) {lent lent′ : Lent} → Agree (hs ++ more) lent lent′ → Agree more (beyond hs lent) (beyond hs lent′)
-unfolding beyond others
+unfolding beyond otherTables
 agree-beyond [] more a = a
 agree-beyond (h ∷ hs) more (rows-agree l e a) = agree-beyond hs more a
 
@@ -157,11 +157,11 @@ all-there (carrying l j o n) w x = refl
 all-there (list l k r p) w x = omega (arith, length-append (r .tables (x .0)) (tables p (x .1)), length-append (r .heeded) (heededRows p), w .0 .all-there (x .0), all-there p (w .1) (x .1))
 
 filled-beyond : (hs : List Heeded) (ts more : List Rows) → length ts ≡ length hs → (lent : Lent) → beyond hs (filled (ts ++ more) lent) ≡ filled more (beyond hs lent)
-unfolding beyond filled others
+unfolding beyond filled otherTables
 filled-beyond [] [] more e lent = refl
 filled-beyond [] (t ∷ ts) more e lent = absurd (omega (arith, e))
 filled-beyond (h ∷ hs) [] more e lent = absurd (omega (arith, e))
-filled-beyond (h ∷ hs) (t ∷ ts) more e lent = filled-beyond hs ts more (omega (arith, e)) (others lent)
+filled-beyond (h ∷ hs) (t ∷ ts) more e lent = filled-beyond hs ts more (omega (arith, e)) (otherTables lent)
 
 total-both : (ts more : List Rows) → total (needs (ts ++ more)) ≡ total (needs ts) + total (needs more)
 unfolding needs total
@@ -246,16 +246,16 @@ module _ {A D T M : Type 0} (l : Layout) (k : ℕ) (r : RowType A D) (p : Pieces
   tables-on lent = filled-beyond (r .heeded) (r .tables (x .0)) (tables p (x .1)) (w .0 .all-there (x .0)) lent
 
 -- the payload that was read, as it stands in the record
-carried-means : (s : List ℕ) (a b : ℕ) (y : Option Payload) (c : Bool) → a ≡ offsetOf y → b ≡ lengthOf y → Opt-fits sized c (opt-means sized s y) → pick c (some (slice a (a + b) s)) none ≡ opt-means sized s y
-unfolding opt-means Opt-fits sized seen-as
+carried-means : (s : List ℕ) (a b : ℕ) (y : Option Payload) (c : Bool) → a ≡ offsetOf y → b ≡ lengthOf y → Opt-fits prefixed c (opt-means prefixed s y) → pick c (some (slice a (a + b) s)) none ≡ opt-means prefixed s y
+unfolding opt-means Opt-fits prefixed seen-as
 carried-means s a b none true p q f = absurd f
 carried-means s a b none false p q f = refl
 carried-means s a b (some y) true p q f = λ i. some (slice (p i) (p i + q i) s)
 carried-means s a b (some y) false p q f = absurd f
 
-carried-ready : (s : List ℕ) (a b : ℕ) (y : Option Payload) (c : Bool) → a ≡ offsetOf y → b ≡ lengthOf y → Opt-fits sized c (opt-means sized s y) → clean (opt-acts sized (opt-means sized s y)) ≡ true → Every (Within s) (given y)
+carried-ready : (s : List ℕ) (a b : ℕ) (y : Option Payload) (c : Bool) → a ≡ offsetOf y → b ≡ lengthOf y → Opt-fits prefixed c (opt-means prefixed s y) → clean (opt-acts prefixed (opt-means prefixed s y)) ≡ true → Every (Within s) (given y)
     → (pick c (leb (a + b) (length s)) true ≡ true) × (clean (pick c (byte (field 8 b ∷ []) ∷ copy (slice a (a + b) s) ∷ []) []) ≡ true)
-unfolding opt-means opt-acts Opt-fits sized seen-as clean
+unfolding opt-means opt-acts Opt-fits prefixed seen-as clean
 carried-ready s a b none true p q f e i = absurd f
 carried-ready s a b none false p q f e i = (refl, refl)
 carried-ready s a b (some y) false p q f e i = absurd f
@@ -263,7 +263,7 @@ carried-ready s a b (some y) true p q f e (all-cons i _) =
     let l = slice (y .offset) (y .offset + y .length) s in
     let long : length l ≡ b = slice-long (y .offset) (y .length) s i ∙ sym q in
     let n : a + b ≤ length s = omega (arith, p, q, i) in
-    (le-leb _ _ n, (λ z. clean (byte (field 8 (sym long z) ∷ []) ∷ copy (slice (p z) (p z + q z) s) ∷ [])) ∙ ap clean (sym (sized-acts l)) ∙ e)
+    (le-leb _ _ n, (λ z. clean (byte (field 8 (sym long z) ∷ []) ∷ copy (slice (p z) (p z + q z) s) ∷ [])) ∙ ap clean (sym (prefixed-acts l)) ∙ e)
 
 pub means-so : {T M : Type 0} (p : Pieces T M) (w : Lawful-pieces p) {s : List ℕ} {g h : Columns} {x : T} → Was p w s g h x → (lent : Lent) → means p g h (filled (tables p x) lent) s ≡ form-means (form p w) s h x
 unfolding form form-means means Form-fits tables opt C.list
@@ -279,19 +279,19 @@ pub inside-so : {T M : Type 0} (p : Pieces T M) (w : Lawful-pieces p) {s : List 
 unfolding inside tables form form-means form-acts Form-fits opt payloads
 inside-so (last l) w d lent = refl
 inside-so (carrying l j o n) w {s} {g} {h} {x} d lent =
-    let (e, _) = clean-both (opt-acts sized (opt-means sized s (x .0))) _ (clean-both (writes l h) _ (d .sound) .1) in
+    let (e, _) = clean-both (opt-acts prefixed (opt-means prefixed s (x .0))) _ (clean-both (writes l h) _ (d .sound) .1) in
     carried-ready s (g o) (g n) (x .0) (eqb (h j) 1) (d .stood .0) (d .stood .1) (d .fits .1 .0) e (d .within) .0
 inside-so (list l k r p) w {s} {g} {h} {x} d lent =
     let y = list-was l k r p w d in
     let n = w .0 .room s (x .0) (y .had) (tables p (x .1)) lent in
-    let k₀ : h k ≤ length (first (filled (r .tables (x .0) ++ tables p (x .1)) lent)) / r .columns = omega (arith, y .counted, n) in
+    let k₀ : h k ≤ length (firstTable (filled (r .tables (x .0) ++ tables p (x .1)) lent)) / r .columns = omega (arith, y .counted, n) in
     both-and (le-leb _ _ k₀) (ap (λ (lent : Lent). inside p g h lent s) (tables-on l k r p w d lent) ∙ inside-so p (w .1) (rest-was l k r p w d) (beyond (r .heeded) lent))
 
 pub ready-so : {T M : Type 0} (p : Pieces T M) (w : Lawful-pieces p) {s : List ℕ} {g h : Columns} {x : T} → Was p w s g h x → (lent : Lent) → Cleans (form p w) (breaks p w g h (filled (tables p x) lent) s)
 unfolding form breaks Cleans tables form-means form-acts Form-fits opt payloads
 ready-so (last l) w d lent = tt
 ready-so (carrying l j o n) w {s} {g} {h} {x} d lent =
-    let (e, _) = clean-both (opt-acts sized (opt-means sized s (x .0))) _ (clean-both (writes l h) _ (d .sound) .1) in
+    let (e, _) = clean-both (opt-acts prefixed (opt-means prefixed s (x .0))) _ (clean-both (writes l h) _ (d .sound) .1) in
     (carried-ready s (g o) (g n) (x .0) (eqb (h j) 1) (d .stood .0) (d .stood .1) (d .fits .1 .0) e (d .within) .1, tt)
 ready-so (list l k r p) w {s} {g} {h} {x} d lent =
     let y = list-was l k r p w d in (

@@ -14,17 +14,17 @@ use Rattle.wire.specs.declared.pen.Fault.the-variants as F
 use Rattle.wire.specs.Pen.{clean}
 use Rattle.wire.specs.Layout.{Layout, Columns, of, at, row, writes, shown, has, mix, kept, blank, columns, demands}
 use Rattle.wire.proofs.Lists.{every-as, every-flat, every-and, every-map, every-firsts, every-left, every-right, every-both}
-use Rattle.wire.proofs.Acts.{and-both, both-and, clean-both}
-use Rattle.wire.proofs.Takes.{Takes, map-takes, Listed, listed-every}
-use Rattle.wire.proofs.Nest.{each-split, flat-length, firsts-length, firsts-below, sum-suc}
-use Rattle.wire.proofs.Codec.{Codec, Spells, spells-rows}
-use Rattle.wire.proofs.Codec as C
-use Rattle.wire.proofs.Cells.{On, Apart, cells-on, on-both, distinct, free, free-apart, clash, or-none, set-else, mix-in, mix-out}
-use Rattle.wire.proofs.Forms.{Form, last, hole, sure, sure-shown, form-read, form-goes, form-means, form-shown, form-all, form-proper, form-shown-in, below, each-every, rows-of, Row-fits, Breaks, woven, Holes, Cleans, means-again, row-ready, row-columns}
-use Rattle.wire.proofs.Rowed.{Wide, Good, row-on, on-all, found, room-for, each-as, each-clean, each-wide, kids-stand, listed-sum}
+use Rattle.wire.proofs.writing.Acts.{and-both, both-and, clean-both}
+use Rattle.wire.proofs.reading.Takes.{Takes, map-takes, Listed, listed-every}
+use Rattle.wire.proofs.reading.Nest.{each-split, flat-length, firsts-length, firsts-below, sum-suc}
+use Rattle.wire.proofs.layouts.Codec.{Codec, Spells, spells-rows}
+use Rattle.wire.proofs.layouts.Codec as C
+use Rattle.wire.proofs.layouts.Cells.{On, Apart, cells-on, on-both, distinct, free, free-apart, clash, or-none, set-else, mix-in, mix-out}
+use Rattle.wire.proofs.layouts.Forms.{Form, last, hole, sure, sure-shown, form-read, form-goes, form-means, form-shown, form-all, form-proper, form-shown-in, below, each-every, rows-of, Row-fits, Breaks, woven, Holes, Cleans, means-again, row-ready, row-columns}
+use Rattle.wire.proofs.layouts.Rowed.{Wide, Good, row-on, on-all, found, room-for, each-as, each-clean, each-wide, kids-stand, listed-sum}
 use Rattle.frame.specs.Kind.{Lent, Rows, Heeded}
 use Rattle.frame.specs.Claims.{Agree}
-use Rattle.frame.specs.Entry.{needs, total, first, others, filled}
+use Rattle.frame.specs.Entry.{needs, total, firstTable, otherTables, filled}
 use Rattle.frame.specs.Body.{RowType, list, tables, payloads, layouts}
 use Rattle.frame.specs.Ranges.{Ranges, tail, range, piecesOf, rowsOf, ranged, allInside, rangedBytes, rangedLists, firstsOf, rangedRow, rangedActs, rangedMeans, rangedHeeds, rangedRows}
 use Rattle.frame.proofs.Lawful.{Shaped, agrees}
@@ -195,7 +195,7 @@ module _ (kid : Heeded) where
   -- what it means and that it is written without a fault, if its rows stand in the table from row m on
   module _ (lent : Lent) where
     abbrev kids : ℕ → List ℕ
-    kids j = row (kid .columns) (at (kid .columns) (first lent) j)
+    kids j = row (kid .columns) (at (kid .columns) (firstTable lent) j)
 
     list-stands : {A C T M : Type 0} (l : Layout) (i k : ℕ) (r : RowType A C) (p : Ranges T M) (w : Lawful-ranges (range l i k r p)) (x : List A × T) (m : ℕ) → each kids m (length (rowsOf (range l i k r p) x)) ≡ rowsOf (range l i k r p) x
         → (each kids m (length (x .0)) ≡ map (w .0 .stored) (x .0)) × (each kids (m + length (x .0)) (length (rowsOf p (x .1))) ≡ rowsOf p (x .1))
@@ -429,21 +429,21 @@ module _ {T M : Type 0} (t u n : ℕ) (p : Ranges T M) (kid : Heeded) (w : Lawfu
             record-ready (piecesOf p) (pieces-lawful kid p w) n blank (tests .proper) (tests .low) (λ j h. refl) (range-breaks kid p w lent s g) (bytes-so kid p w lent s g) (inside-so kid p w g (z .0) (z .1 .1) has-ranges room l) f
             (ready-so kid lent p w (was (z .1) g h) (z .0) has-ranges stand)
 
-    module _ (xs : List Tree) (h : Every Stood-so xs) (behind : List ℕ) (lent : Lent) (beneath : List ℕ) (lower : first lent ≡ flatten (flatMap (λ (a : Tree). rowsOf p (a .1)) xs) ++ beneath) where
+    module _ (xs : List Tree) (h : Every Stood-so xs) (behind : List ℕ) (lent : Lent) (beneath : List ℕ) (lower : firstTable lent ≡ flatten (flatMap (λ (a : Tree). rowsOf p (a .1)) xs) ++ beneath) where
       abbrev upper : List ℕ
       upper = flatten (parents xs) ++ behind
 
       abbrev lists : List (List ℕ)
       lists = flatMap (λ (a : Tree). rowsOf p (a .1)) xs
 
-      abbrev Placed : ℕ × Tree → Type 0
-      Placed z = (Stood-so (z .1) × (z .0 + size (z .1) ≤ 0 + sum size xs)) × (each (kids kid lent) (z .0) (size (z .1)) ≡ rowsOf p (z .1 .1))
+      abbrev Standing : ℕ × Tree → Type 0
+      Standing z = (Stood-so (z .1) × (z .0 + size (z .1) ≤ 0 + sum size xs)) × (each (kids kid lent) (z .0) (size (z .1)) ≡ rowsOf p (z .1 .1))
 
       lists-wide : Every (Wide (kid .columns)) lists
       lists-wide = every-flat (λ (a : Tree). rowsOf p (a .1)) (Wide (kid .columns)) xs (every-as Stood-so (λ a. Every (Wide (kid .columns)) (rowsOf p (a .1))) (λ a g. read-wide kid p w (was a blank g)) h)
 
-      placed : Every Placed (firsts size 0 xs)
-      placed =
+      standing : Every Standing (firsts size 0 xs)
+      standing =
           let B : ℕ × Tree → Type 0 = λ z. z .0 + size (z .1) ≤ 0 + sum size xs in
           let S : ℕ × Tree → Type 0 = λ z. each (kids kid lent) (z .0) (size (z .1)) ≡ rowsOf p (z .1 .1) in
           let f = subst (λ (t : List ℕ). each (λ i. row (kid .columns) (at (kid .columns) t i)) 0 (length lists) ≡ lists) (sym lower) (found (kid .columns) lists lists-wide beneath) in
@@ -455,14 +455,14 @@ module _ {T M : Type 0} (t u n : ℕ) (p : Ranges T M) (kid : Heeded) (w : Lawfu
 
       range-laid : each (λ i. rangedMeans n p lent s (at n upper i)) 0 (length xs) ≡ map (range-codec .means s) xs
       range-laid =
-          each-as Placed (rangedRow n p) (λ i. row n (at n upper i)) (λ i. rangedMeans n p lent s (at n upper i)) (λ z. range-codec .means s (z .1)) (λ i z e g. row-means z (g .0 .0) (at n upper i) e lent (g .1)) 0 (length xs) (firsts size 0 xs) parents-stand placed
+          each-as Standing (rangedRow n p) (λ i. row n (at n upper i)) (λ i. rangedMeans n p lent s (at n upper i)) (λ z. range-codec .means s (z .1)) (λ i z e g. row-means z (g .0 .0) (at n upper i) e lent (g .1)) 0 (length xs) (firsts size 0 xs) parents-stand standing
           ∙ map-first (range-codec .means s) size 0 xs
 
-      range-ready : clean (rows (λ i. rangedActs n p (length (first lent) / kid .columns) lent s (at n upper i)) 0 (length xs)) ≡ true
+      range-ready : clean (rows (λ i. rangedActs n p (length (firstTable lent) / kid .columns) lent s (at n upper i)) 0 (length xs)) ≡ true
       range-ready =
-          let long : sum size xs ≤ length (first lent) / kid .columns = subst (λ (t : List ℕ). sum size xs ≤ length t / kid .columns) (sym lower) (omega (arith, room-for (kid .columns) lists beneath (tests .kid-wide) lists-wide, flat-length (λ (a : Tree). rowsOf p (a .1)) xs)) in
-          each-clean Placed (rangedRow n p) (λ i. row n (at n upper i)) (λ i. rangedActs n p (length (first lent) / kid .columns) lent s (at n upper i)) (λ i z e g. row-clean z (g .0 .0) (at n upper i) e lent (g .1) (length (first lent) / kid .columns) (omega (arith, g .0 .1, long))) 0 (length xs)
-          (firsts size 0 xs) parents-stand placed
+          let long : sum size xs ≤ length (firstTable lent) / kid .columns = subst (λ (t : List ℕ). sum size xs ≤ length t / kid .columns) (sym lower) (omega (arith, room-for (kid .columns) lists beneath (tests .kid-wide) lists-wide, flat-length (λ (a : Tree). rowsOf p (a .1)) xs)) in
+          each-clean Standing (rangedRow n p) (λ i. row n (at n upper i)) (λ i. rangedActs n p (length (firstTable lent) / kid .columns) lent s (at n upper i)) (λ i z e g. row-clean z (g .0 .0) (at n upper i) e lent (g .1) (length (firstTable lent) / kid .columns) (omega (arith, g .0 .1, long))) 0 (length xs)
+          (firsts size 0 xs) parents-stand standing
 
     -- ---- what the code's types can hold
 
@@ -488,35 +488,35 @@ module _ {T M : Type 0} (t u n : ℕ) (p : Ranges T M) (kid : Heeded) (w : Lawfu
   range-heeds hs {lent} {lent′} a =
       let e = agrees a in
       let d = agrees (e .rest) in
-      let f : (store : List ℕ) (g : Columns) → rangedActs n p (length (first (others lent)) / kid .columns) (others lent) store g ≡ rangedActs n p (length (first (others lent′)) / kid .columns) (others lent′) store g = λ store g z.
+      let f : (store : List ℕ) (g : Columns) → rangedActs n p (length (firstTable (otherTables lent)) / kid .columns) (otherTables lent) store g ≡ rangedActs n p (length (firstTable (otherTables lent′)) / kid .columns) (otherTables lent′) store g = λ store g z.
       demand F.Range (allInside p (d .long z / kid .columns) g) ∷ demands (layouts (piecesOf p)) g ++ table-heeds kid p w (e .rest) store g z
       in
       record {
         long = e .long;
         acts = λ store z i.
-            let room = length (first (others lent)) / kid .columns in
-            (range-kept room (others lent) store (at n (first lent) i) ∙ (λ z. rangedActs n p room (others lent) store (of (e .same i z))) ∙ sym (range-kept room (others lent) store (at n (first lent′) i)) ∙ f store (at n (first lent′) i)) z;
+            let room = length (firstTable (otherTables lent)) / kid .columns in
+            (range-kept room (otherTables lent) store (at n (firstTable lent) i) ∙ (λ z. rangedActs n p room (otherTables lent) store (of (e .same i z))) ∙ sym (range-kept room (otherTables lent) store (at n (firstTable lent′) i)) ∙ f store (at n (firstTable lent′) i)) z;
       }
 
   -- what is left of both tables behind their rows
   abbrev behind : List Tree → Lent → List ℕ
-  behind xs lent = drop (length (flatten (parents xs))) (first lent)
+  behind xs lent = drop (length (flatten (parents xs))) (firstTable lent)
 
   abbrev beneath : List Tree → Lent → List ℕ
-  beneath xs lent = drop (length (flatten (flatMap (λ (a : Tree). rowsOf p (a .1)) xs))) (first (others lent))
+  beneath xs lent = drop (length (flatten (flatMap (λ (a : Tree). rowsOf p (a .1)) xs))) (firstTable (otherTables lent))
 
   pub range-lawful : Lawful-rows q
-  unfolding range-codec rows-of filled first others parents
+  unfolding range-codec rows-of filled firstTable otherTables parents
   range-lawful = record {
     codec = range-codec;
     reads = reads-so;
     spans = λ a. spans-so (piecesOf p) (pieces-lawful kid p w) (of (a .0)) (a .1);
-    spells = λ lent store i. range-spells (length (first (others lent)) / kid .columns) (others lent) store (at n (first lent) i);
+    spells = λ lent store i. range-spells (length (firstTable (otherTables lent)) / kid .columns) (otherTables lent) store (at n (firstTable lent) i);
     heeds = range-heeds;
     all-there = λ xs. refl;
     grows = range-took;
-    laid = λ s xs h more lent. range-laid s xs (had s h) (behind xs lent) (others (filled (q .tables xs ++ more) lent)) (beneath xs lent) refl;
-    ready = λ s xs h more lent. range-ready s xs (had s h) (behind xs lent) (others (filled (q .tables xs ++ more) lent)) (beneath xs lent) refl;
+    laid = λ s xs h more lent. range-laid s xs (had s h) (behind xs lent) (otherTables (filled (q .tables xs ++ more) lent)) (beneath xs lent) refl;
+    ready = λ s xs h more lent. range-ready s xs (had s h) (behind xs lent) (otherTables (filled (q .tables xs ++ more) lent)) (beneath xs lent) refl;
     room = λ s xs h more lent. omega (arith, room-for n (parents xs) (behind xs lent) (tests .wide) (parents-wide xs), parents-long xs);
     columns-so = λ s xs h. range-columns s xs (had s h);
   }

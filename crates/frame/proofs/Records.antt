@@ -8,11 +8,11 @@ use Rattle.wire.specs.Act.{Act, demand}
 use Rattle.wire.specs.declared.pen.Fault.the-variants as F
 use Rattle.wire.specs.Pen.{clean, bytes}
 use Rattle.wire.specs.Layout.{Cell, Columns, row, cells, matched, every, flagged, counted, columns, mix, kept, demands}
-use Rattle.wire.proofs.Acts.{and-both, both-and, clean-append, clean-both}
-use Rattle.wire.proofs.Codec.{Codec, Spells}
-use Rattle.wire.proofs.Cells.{On, sound, every-same, both-sound, sound-both}
-use Rattle.wire.proofs.Forms.{Form, form-shown, form-all, form-proper, below, rows-of, means-as, alike, row-spells, Breaks, woven, Holes, Cleans, Faultless}
-use Rattle.wire.proofs.Rowed.{after-demands}
+use Rattle.wire.proofs.writing.Acts.{and-both, both-and, clean-append, clean-both}
+use Rattle.wire.proofs.layouts.Codec.{Codec, Spells}
+use Rattle.wire.proofs.layouts.Cells.{On, sound, every-same, both-sound, sound-both}
+use Rattle.wire.proofs.layouts.Forms.{Form, form-shown, form-all, form-proper, below, rows-of, means-as, alike, row-spells, Breaks, woven, Holes, Cleans, Faultless}
+use Rattle.wire.proofs.layouts.Rowed.{after-demands}
 use Rattle.frame.specs.Body.{Pieces, layouts}
 use Rattle.frame.proofs.Pieces.{Lawful-pieces, form, cells-of, matched-of}
 

@@ -16,15 +16,15 @@ use Rattle.wire.specs.Prog.{done, run, span, Within, passed}
 use Rattle.wire.specs.Act.{image}
 use Rattle.wire.specs.Pen.{clean, bytes}
 use Rattle.wire.proofs.Lists.{every-left, every-both, every-drop}
-use Rattle.wire.proofs.Runs.{extent}
-use Rattle.wire.proofs.Blind.{passed-within}
-use Rattle.wire.proofs.Takes.{Takes, run-takes, takes-run, here-append}
-use Rattle.wire.proofs.Acts.{and-both, both-and, clean-append, clean-both, bytes-append, settles, settled}
-use Rattle.wire.proofs.Codec.{Wrote}
+use Rattle.wire.proofs.reading.Runs.{extent}
+use Rattle.wire.proofs.reading.Blind.{passed-within}
+use Rattle.wire.proofs.reading.Takes.{Takes, run-takes, takes-run, here-append}
+use Rattle.wire.proofs.writing.Acts.{and-both, both-and, clean-append, clean-both, bytes-append, settles, settled}
+use Rattle.wire.proofs.layouts.Codec.{Wrote}
 use Rattle.frame.specs.declared.Written.the-variants as W
 use Rattle.frame.specs.Numbers.{Answer, accepted, number}
 use Rattle.frame.specs.Kind.{Kind, Lent, Rows, Held}
-use Rattle.frame.specs.Entry.{leaves, Sound, Need, needs, first, others, lacking, filled, tail, judging, reading, puts, trail, whole, writing}
+use Rattle.frame.specs.Entry.{leaves, Sound, Need, needs, firstTable, otherTables, lacking, filled, tail, judging, reading, puts, trail, allActs, writing}
 use Rattle.frame.specs.Claims.{Image, Meaning, meaning, Lendable, Writable, Room, Round}
 use Rattle.frame.proofs.Judged.{answers, judged, ran-well, View, is-read, lacks, is-short, is-long, view, reads-so, lacks-so, Was, was}
 use Rattle.frame.proofs.Lawful.{top-of, Taken, Lawful}
@@ -45,14 +45,14 @@ every-flatten [] h = all-nil
 every-flatten (r ∷ rs) (all-cons h k) = every-both Column h (every-flatten rs k)
 
 filled-columns : (rs : List Rows) (lent : Lent) → Every (λ (r : Rows). Every (Every Column) (r .rows)) rs → Every (Every Column) lent → length lent ≡ length rs → Every (Every Column) (filled rs lent)
-unfolding filled first others
+unfolding filled firstTable otherTables
 filled-columns [] lent h k e = k
 filled-columns (r ∷ rs) [] h k e = absurd (omega arith)
 filled-columns (r ∷ rs) (t ∷ ts) (all-cons h hs) (all-cons k ks) e =
     all-cons (every-both Column (every-flatten (r .rows) h) (every-drop Column (length (flatten (r .rows))) t k)) (filled-columns rs ts hs ks (omega arith))
 
 filled-count : (rs : List Rows) (lent : Lent) → length lent ≡ length rs → length (filled rs lent) ≡ length lent
-unfolding filled others
+unfolding filled otherTables
 filled-count [] lent e = refl
 filled-count (r ∷ rs) [] e = absurd (omega arith)
 filled-count (r ∷ rs) (t ∷ ts) e = ap suc (filled-count rs ts (omega arith))
@@ -65,9 +65,9 @@ module _ {Tree Top Value : Type 0} (K : Kind Tree Top Value) where
     joins : b ≡ bytes (K .acts top lent store) ++ trail K top store
 
   wholly : (top : Top) (lent : Lent) (store b : List ℕ) → Image K top lent store b → Wholly top lent store b
-  unfolding whole clean bytes
+  unfolding allActs clean bytes
   wholly top lent store b e =
-      let m = settled (whole K top lent store) 0 e in
+      let m = settled (allActs K top lent store) 0 e in
       let c = and-both (leb (K .trailing top .offset + K .trailing top .length) (length store)) _ (m .sound) .1 in
       record {
         sound = clean-both (K .acts top lent store) _ c .0;
@@ -75,9 +75,9 @@ module _ {Tree Top Value : Type 0} (K : Kind Tree Top Value) where
       }
 
   whole-image : (top : Top) (lent : Lent) (store b : List ℕ) → K .trailing top .offset + K .trailing top .length ≤ length store → Wholly top lent store b → Image K top lent store b
-  unfolding whole clean bytes
+  unfolding allActs clean bytes
   whole-image top lent store b h w =
-      settles (whole K top lent store) 0 (both-and (le-leb _ _ h) (clean-append (K .acts top lent store) _ ∙ both-and (w .sound) refl))
+      settles (allActs K top lent store) 0 (both-and (le-leb _ _ h) (clean-append (K .acts top lent store) _ ∙ both-and (w .sound) refl))
       ∙ ap image (bytes-append (K .acts top lent store) _ ∙ ap (λ (l : List ℕ). bytes (K .acts top lent store) ++ l) (append-nil (trail K top store)) ∙ sym (w .joins))
 
   -- ---- a body in two parts
@@ -123,7 +123,7 @@ module _ {Tree Top Value : Type 0} (K : Kind Tree Top Value) where
 
     -- the payloads of the tree are what the program passes over
     pub passes : (body : List ℕ) (t : Tree) (k : ℕ) → run (K .program) body 0 ≡ done t k → passed (K .program) body 0 ≡ K .payloads t
-    passes body t k e = rw (← L .reads) (L .format .skipped body 0 t k (rw (L .reads) e)) ∙ L .placed t
+    passes body t k e = rw (← L .reads) (L .format .skipped body 0 t k (rw (L .reads) e)) ∙ L .spans-so t
 
     payloads-inside : (t : Tree) (bs rest : List ℕ) → Takes (K .program) 0 t bs → Every (Within (bs ++ rest)) (K .payloads t)
     payloads-inside t bs rest d =

@@ -11,17 +11,17 @@ use Rattle.wire.specs.Act.{Act, rows}
 use Rattle.wire.specs.Pen.{clean}
 use Rattle.wire.specs.Layout.{Layout, Columns, of, at, row, flat, flatActs, Broken, broken, brokenRow, brokenActs, Family, parents, Bearing, Borne, bearing, bearingActs, bearingMeans, bearingHeeds, borneRow}
 use Rattle.wire.proofs.Lists.{every-as, every-flat, every-and, every-map, every-firsts}
-use Rattle.wire.proofs.Takes.{Listed, listed-every, listed-bound}
-use Rattle.wire.proofs.Nest.{flat-length, sum-suc}
-use Rattle.wire.proofs.Codec.{Codec, Spells, seen-as}
-use Rattle.wire.proofs.Cells.{On}
-use Rattle.wire.proofs.Forms.{form-all}
-use Rattle.wire.proofs.Rowed.{Flat, flats, flat-wide, flat-spells, flat-columns, flat-positive, Wide, Good, found, room-for, each-as, each-clean, rows-again, rows-ready, flat-weighs, flat-grows, listed-sum, Nest, broken-form, breaks, broken-on, broken-spells, nest-tests, families, family-grows, parents-long, parents-wide, parents-columns, kids-columns, parents-found, parents-room, families-mean, families-sound}
-use Rattle.wire.proofs.Heeds.{flat-heeds, broken-heeds}
-use Rattle.wire.proofs.Borne.{Bear, bear-form, bears, meant, bear-spells, bear-again, bear-ready, bear-columns, bear-grows, bear-heeds, stands, borne-wide, borne-found, borne-room}
+use Rattle.wire.proofs.reading.Takes.{Listed, listed-every, listed-bound}
+use Rattle.wire.proofs.reading.Nest.{flat-length, sum-suc}
+use Rattle.wire.proofs.layouts.Codec.{Codec, Spells, seen-as}
+use Rattle.wire.proofs.layouts.Cells.{On}
+use Rattle.wire.proofs.layouts.Forms.{form-all}
+use Rattle.wire.proofs.layouts.Rowed.{Flat, flats, flat-wide, flat-spells, flat-columns, flat-positive, Wide, Good, found, room-for, each-as, each-clean, rows-again, rows-ready, flat-weighs, flat-grows, listed-sum, Nest, broken-form, breaks, broken-on, broken-spells, nest-tests, families, family-grows, parents-long, parents-wide, parents-columns, kids-columns, parents-found, parents-room, families-mean, families-sound}
+use Rattle.wire.proofs.layouts.Heeds.{flat-heeds, broken-heeds}
+use Rattle.wire.proofs.layouts.Borne.{Bear, bear-form, bears, meant, bear-spells, bear-again, bear-ready, bear-columns, bear-grows, bear-heeds, stands, borne-wide, borne-found, borne-room}
 use Rattle.frame.specs.Kind.{Lent, Rows, Heeded}
 use Rattle.frame.specs.Claims.{Agree}
-use Rattle.frame.specs.Entry.{needs, total, first, others, filled}
+use Rattle.frame.specs.Entry.{needs, total, firstTable, otherTables, filled}
 use Rattle.frame.specs.Body.{RowType, tabled, heeding, flatRows, familyRows, bearerRows}
 use Rattle.frame.proofs.Lawful.{Shaped, agrees}
 
@@ -32,7 +32,7 @@ pub record Had {A C : Type 0} (r : RowType A C) (m : Codec A C) (s : List ℕ) (
 
 -- tables that are written alike
 pub record Same-rows {A C : Type 0} (r : RowType A C) (lent lent′ : Lent) : Type 0 where
-  pub long : length (first lent) ≡ length (first lent′)
+  pub long : length (firstTable lent) ≡ length (firstTable lent′)
   pub acts : (store : List ℕ) → r .acts lent store ≡ r .acts lent′ store
 
 -- what the tables of rows that a program took need
@@ -53,7 +53,7 @@ pub record Lawful-rows {A C : Type 0} (r : RowType A C) : Type 1 where
   -- a list that was read, in its tables
   pub laid : (s : List ℕ) (l : List A) → Had r codec s l → (more : List Rows) (lent : Lent) → each (r .means (filled (r .tables l ++ more) lent) s) 0 (length l) ≡ map (codec .means s) l
   pub ready : (s : List ℕ) (l : List A) → Had r codec s l → (more : List Rows) (lent : Lent) → clean (rows (r .acts (filled (r .tables l ++ more) lent) s) 0 (length l)) ≡ true
-  pub room : (s : List ℕ) (l : List A) → Had r codec s l → (more : List Rows) (lent : Lent) → length l ≤ length (first (filled (r .tables l ++ more) lent)) / r .columns
+  pub room : (s : List ℕ) (l : List A) → Had r codec s l → (more : List Rows) (lent : Lent) → length l ≤ length (firstTable (filled (r .tables l ++ more) lent)) / r .columns
   pub columns-so : (s : List ℕ) (l : List A) → Had r codec s l → length s < 65536 → total (needs (r .tables l)) < 65536 → Every (λ (q : Rows). Every (Every Column) (q .rows)) (r .tables l)
 
 -- rows of one table, which may stand in it from any row on; kid is what writing reads of a row
@@ -65,8 +65,8 @@ pub record Leaf {A C : Type 0} (r : RowType A C) (kid : Heeded) : Type 1 where
   pub table : (l : List A) → r .tables l ≡ tabled number (kid .columns) (map stored l) ∷ []
   pub wide : (s : List ℕ) (l : List A) → Had r (lawful .codec) s l → Every (Wide (kid .columns)) (map stored l)
   -- a list that was read, in a table that has it from row i on
-  pub laid-at : (s : List ℕ) (l : List A) → Had r (lawful .codec) s l → (lent : Lent) (i : ℕ) → each (λ j. row (kid .columns) (at (kid .columns) (first lent) j)) i (length l) ≡ map stored l → each (r .means lent s) i (length l) ≡ map (lawful .codec .means s) l
-  pub ready-at : (s : List ℕ) (l : List A) → Had r (lawful .codec) s l → (lent : Lent) (i : ℕ) → each (λ j. row (kid .columns) (at (kid .columns) (first lent) j)) i (length l) ≡ map stored l → clean (rows (r .acts lent s) i (length l)) ≡ true
+  pub laid-at : (s : List ℕ) (l : List A) → Had r (lawful .codec) s l → (lent : Lent) (i : ℕ) → each (λ j. row (kid .columns) (at (kid .columns) (firstTable lent) j)) i (length l) ≡ map stored l → each (r .means lent s) i (length l) ≡ map (lawful .codec .means s) l
+  pub ready-at : (s : List ℕ) (l : List A) → Had r (lawful .codec) s l → (lent : Lent) (i : ℕ) → each (λ j. row (kid .columns) (at (kid .columns) (firstTable lent) j)) i (length l) ≡ map stored l → clean (rows (r .acts lent s) i (length l)) ≡ true
 
 -- ---- plain rows
 
@@ -82,18 +82,18 @@ module _ (t : ℕ) (x : Flat) where
   wide-of h = every-as (Good (flats x)) (Wide (x .columns)) (λ y g. flat-wide x y (g .0)) (good-of h)
 
   pub flat-lawful : Lawful-rows r
-  unfolding flats seen-as filled first needs total
+  unfolding flats seen-as filled firstTable needs total
   flat-lawful = record {
     codec = flats x;
     reads = refl;
     spans = λ a. refl;
-    spells = λ lent store i. flat-spells x (at (x .columns) (first lent) i);
-    heeds = λ hs {lent} {lent′} a. let e = agrees a in record { long = e .long; acts = λ store z i. flat-heeds x (at (x .columns) (first lent) i) (at (x .columns) (first lent′) i) (e .same i) z };
+    spells = λ lent store i. flat-spells x (at (x .columns) (firstTable lent) i);
+    heeds = λ hs {lent} {lent′} a. let e = agrees a in record { long = e .long; acts = λ store z i. flat-heeds x (at (x .columns) (firstTable lent) i) (at (x .columns) (firstTable lent′) i) (e .same i) z };
     all-there = λ l. refl;
     grows = λ {k} {at} {l} {bs} k₀. let least = flat-positive x .1 in
         record { shaped = all-cons (listed-every (flat (x .columns) (x .layout)) (Wide (x .columns)) (flat-grows (x .columns) (x .layout)) k₀) all-nil; few = let n = listed-bound (flat (x .columns) (x .layout)) (λ at y bs d. let i = flat-weighs (x .columns) (x .layout) at y bs d in omega (arith, least)) k₀ in omega arith };
-    laid = λ s l h more lent. let t = drop (length (flatten l)) (first lent) in rows-again x (flatten l ++ t) 0 (length l) l (found (x .columns) l (wide-of h) t) (good-of h) ∙ sym (map-id l);
-    ready = λ s l h more lent. let t = drop (length (flatten l)) (first lent) in rows-ready x (flatten l ++ t) 0 (length l) l (found (x .columns) l (wide-of h) t) (good-of h);
+    laid = λ s l h more lent. let t = drop (length (flatten l)) (firstTable lent) in rows-again x (flatten l ++ t) 0 (length l) l (found (x .columns) l (wide-of h) t) (good-of h) ∙ sym (map-id l);
+    ready = λ s l h more lent. let t = drop (length (flatten l)) (firstTable lent) in rows-ready x (flatten l ++ t) 0 (length l) l (found (x .columns) l (wide-of h) t) (good-of h);
     room = λ s l h more lent. room-for (x .columns) l _ (flat-positive x .0) (wide-of h);
     columns-so = λ s l h few more. all-cons (every-as (Good (flats x)) (Every Column) (λ y g. flat-columns x y (g .0) (g .1)) (good-of h)) all-nil;
   }
@@ -148,21 +148,21 @@ module _ (t u : ℕ) (nest : Nest) (seen : Columns → Columns) (kept : (x : Fam
   families-heed hs {lent} {lent′} a =
       let e = agrees a in
       let d = agrees (e .rest) in
-      let kid : Lent → ℕ → List Act = λ lent j. flatActs l (at n (first (others lent)) j) in
-      let k : kid lent ≡ kid lent′ = λ z j. flat-heeds (nest .kid) (at n (first (others lent)) j) (at n (first (others lent′)) j) (d .same j) z in
-      let col : Lent → ℕ → Columns = λ lent i. seen (at (b .width) (first lent) i) in
+      let kid : Lent → ℕ → List Act = λ lent j. flatActs l (at n (firstTable (otherTables lent)) j) in
+      let k : kid lent ≡ kid lent′ = λ z j. flat-heeds (nest .kid) (at n (firstTable (otherTables lent)) j) (at n (firstTable (otherTables lent′)) j) (d .same j) z in
+      let col : Lent → ℕ → Columns = λ lent i. seen (at (b .width) (firstTable lent) i) in
       record {
         long = e .long;
-        acts = λ store z i. (broken-heeds nest (length (first (others lent)) / n) (kid lent) (col lent i) (col lent′ i) (e .same i) ∙ λ z. brokenActs b (d .long z / n) (k z) (col lent′ i)) z;
+        acts = λ store z i. (broken-heeds nest (length (firstTable (otherTables lent)) / n) (kid lent) (col lent i) (col lent′ i) (e .same i) ∙ λ z. brokenActs b (d .long z / n) (k z) (col lent′ i)) z;
       }
 
   pub family-lawful : 0 < b .width → Lawful-rows q
-  unfolding breaks seen-as flats filled first others needs total flatMap
+  unfolding breaks seen-as flats filled firstTable otherTables needs total flatMap
   family-lawful wide = record {
     codec = families nest;
     reads = refl;
     spans = λ x. none (x .1);
-    spells = λ lent store i. broken-spells b (flats (nest .kid)) (nest .passes) _ _ _ (λ j. flat-spells (nest .kid) (at n (first (others lent)) j)) (seen (at (b .width) (first lent) i));
+    spells = λ lent store i. broken-spells b (flats (nest .kid)) (nest .passes) _ _ _ (λ j. flat-spells (nest .kid) (at n (firstTable (otherTables lent)) j)) (seen (at (b .width) (firstTable lent) i));
     heeds = families-heed;
     all-there = λ xs. refl;
     grows = families-took;
@@ -219,17 +219,17 @@ module _ (t : ℕ) (bear : Bear) (seen : Columns → Columns) (kept : (s : List 
         (λ j x q g. ap (λ (k : Columns). clean (bearingActs w s k)) (as-read j x q (g .0)) ∙ bear-ready bear s x (g .0) (g .1) (cols j) q) i (length xs) xs e (bears-within h)
 
   pub bearer-lawful : Lawful-rows v
-  unfolding bears seen-as filled first others needs total
+  unfolding bears seen-as filled firstTable otherTables needs total
   bearer-lawful = record {
     codec = bears bear;
     reads = refl;
     spans = λ x. refl;
-    spells = λ lent store i. bear-spells bear store (seen (at (w .width) (first lent) i));
-    heeds = λ hs {lent} {lent′} a. let e = agrees a in record { long = e .long; acts = λ store z i. bear-heeds bear store (seen (at (w .width) (first lent) i)) (seen (at (w .width) (first lent′) i)) (e .same i) z };
+    spells = λ lent store i. bear-spells bear store (seen (at (w .width) (firstTable lent) i));
+    heeds = λ hs {lent} {lent′} a. let e = agrees a in record { long = e .long; acts = λ store z i. bear-heeds bear store (seen (at (w .width) (firstTable lent) i)) (seen (at (w .width) (firstTable lent′) i)) (e .same i) z };
     all-there = λ xs. refl;
     grows = λ {k} {at} {l = xs} {bs} k₀. record { shaped = all-cons (borne-wide bear xs) all-nil; few = omega (arith, listed-bound (bearing w) (λ at x bs d. bear-grows bear at x bs d .1) k₀, length-map xs (borneRow w)) };
-    laid = λ s xs h more lent. let rs = flatten (map (borneRow w) xs) in let u = drop (length rs) (first lent) in bears-laid s xs h (rs ++ u) 0 (borne-found bear xs u);
-    ready = λ s xs h more lent. let rs = flatten (map (borneRow w) xs) in let u = drop (length rs) (first lent) in bears-ready s xs h (rs ++ u) 0 (borne-found bear xs u);
+    laid = λ s xs h more lent. let rs = flatten (map (borneRow w) xs) in let u = drop (length rs) (firstTable lent) in bears-laid s xs h (rs ++ u) 0 (borne-found bear xs u);
+    ready = λ s xs h more lent. let rs = flatten (map (borneRow w) xs) in let u = drop (length rs) (firstTable lent) in bears-ready s xs h (rs ++ u) 0 (borne-found bear xs u);
     room = λ s xs h more lent. borne-room bear xs _;
     columns-so = λ s xs h small few. all-cons (every-map (borneRow w) (Every Column) xs (every-as (λ x. Stood s x × Within s (x .1)) (λ x. Every Column (borneRow w x)) (λ x g. bear-columns bear s x (g .0) (omega (arith, g .1, small)) (omega (arith, g .1, small))) (bears-within h))) all-nil;
   }
@@ -243,6 +243,6 @@ module _ (t : ℕ) (bear : Bear) (seen : Columns → Columns) (kept : (s : List 
     heeded = refl;
     table = λ xs. refl;
     wide = λ s xs h. borne-wide bear xs;
-    laid-at = λ s xs h lent i e. bears-laid s xs h (first lent) i e;
-    ready-at = λ s xs h lent i e. bears-ready s xs h (first lent) i e;
+    laid-at = λ s xs h lent i e. bears-laid s xs h (firstTable lent) i e;
+    ready-at = λ s xs h lent i e. bears-ready s xs h (firstTable lent) i e;
   }

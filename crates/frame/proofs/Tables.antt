@@ -15,7 +15,7 @@ use Rattle.frame.specs.declared.Room.the-variants as M
 use Rattle.frame.specs.declared.Refusal.the-variants as R
 use Rattle.frame.specs.Kind.{Kind, Lent, Rows}
 use Rattle.frame.specs.Numbers.{accepted, refused, refusal}
-use Rattle.frame.specs.Entry.{Sizes, Need, needs, room, first, others, lacking, filled, sizes, Measures, Reads}
+use Rattle.frame.specs.Entry.{Sizes, Need, needs, room, firstTable, otherTables, lacking, filled, sizes, Measures, Reads}
 use Rattle.frame.specs.Sight.{Roomy, Fills, Opened, andTable, andTables}
 use Rattle.frame.proofs.Entries.{within-measured, roomy, reads-lacking, reads-filled, measures-walked, fills-walked}
 
@@ -39,7 +39,7 @@ module _ (n : Need) (t : List ℕ) where
 stays : (i k : ℕ) (ns : List Need) (lent : Lent) → andTables (M.Lacks i k) ns lent ≡ M.Lacks i k
 unfolding andTables andTable
 stays i k [] lent = refl
-stays i k (n ∷ ns) lent = stays i k ns (others lent)
+stays i k (n ∷ ns) lent = stays i k ns (otherTables lent)
 
 abbrev found : Option Need → Room
 found none = M.Enough
@@ -48,12 +48,12 @@ found (some n) = M.Lacks (n .number) (n .rows)
 all-so : (ns : List Need) (lent : Lent) → andTables M.Enough ns lent ≡ found (lacking ns lent)
 unfolding andTables lacking andTable room
 all-so [] lent = refl
-all-so (n ∷ ns) lent = go (leb (n .rows) (length (first lent) / n .columns)) (all-so ns (others lent))
+all-so (n ∷ ns) lent = go (leb (n .rows) (length (firstTable lent) / n .columns)) (all-so ns (otherTables lent))
   where
-    go : (b : Bool) → andTables M.Enough ns (others lent) ≡ found (lacking ns (others lent))
-        → andTables (elim b [ true ↦ M.Enough | false ↦ M.Lacks (n .number) (n .rows) ]) ns (others lent) ≡ found (elim b [ true ↦ lacking ns (others lent) | false ↦ some n ])
+    go : (b : Bool) → andTables M.Enough ns (otherTables lent) ≡ found (lacking ns (otherTables lent))
+        → andTables (elim b [ true ↦ M.Enough | false ↦ M.Lacks (n .number) (n .rows) ]) ns (otherTables lent) ≡ found (elim b [ true ↦ lacking ns (otherTables lent) | false ↦ some n ])
     go true h = h
-    go false h = stays (n .number) (n .rows) ns (others lent)
+    go false h = stays (n .number) (n .rows) ns (otherTables lent)
 
 -- enough is enough for all, and what is lacking is the lowest
 pub enough : (ns : List Need) (lent : Lent) → andTables M.Enough ns lent ≡ M.Enough → lacking ns lent ≡ none
@@ -110,10 +110,10 @@ Empty r = r .rows ≡ []
 none-lacks : (rs : List Rows) (lent : Lent) → Every Empty rs → lacking (needs rs) lent ≡ none
 unfolding needs lacking
 none-lacks [] lent all-nil = refl
-none-lacks (r ∷ rs) lent (all-cons e w) = rw (e, le-leb 0 (room (record { number = r .number; columns = r .columns; rows = 0 }) lent) (omega arith), lacking) (none-lacks rs (others lent) w)
+none-lacks (r ∷ rs) lent (all-cons e w) = rw (e, le-leb 0 (room (record { number = r .number; columns = r .columns; rows = 0 }) lent) (omega arith), lacking) (none-lacks rs (otherTables lent) w)
 
 all-stay : (rs : List Rows) (lent : Lent) → length rs ≡ length lent → Every Empty rs → filled rs lent ≡ lent
-unfolding filled first others flatten
+unfolding filled firstTable otherTables flatten
 all-stay [] [] q all-nil = refl
 all-stay [] (t ∷ lent) q w = absurd (omega (arith, q))
 all-stay (r ∷ rs) [] q w = absurd (omega (arith, q))

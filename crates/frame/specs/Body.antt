@@ -14,7 +14,7 @@ use Rattle.wire.specs.declared.pen.Fault.the-variants as F
 use Rattle.wire.specs.declared.rows.Payload.{Payload}
 use Rattle.wire.specs.Layout.{Layout, Columns, of, from, at, row, set, reads, writes, demands, tally, kept, blank, flat, flatActs, flatMeans, Broken, broken, brokenHeeds, Family, parents, kids, familyTally, familyActsOf, familyMeansOf, Bearing, Borne, bearing, bearingActs, bearingMeans, bearingHeeds, borneRow, borneTally}
 use Rattle.frame.specs.Kind.{Kind, Lent, Rows, Bound, Heeded}
-use Rattle.frame.specs.Entry.{first, others}
+use Rattle.frame.specs.Entry.{firstTable, otherTables}
 
 -- ---- the rows of a list
 
@@ -48,8 +48,8 @@ flatRows t n l = record {
   zeros = λ r. tally (l ∷ []) (of r);
   tables = λ rs. tabled t n rs ∷ [];
   columns = n;
-  acts = λ lent store i. flatActs l (at n (first lent) i);
-  means = λ lent store i. flatMeans n l (at n (first lent) i);
+  acts = λ lent store i. flatActs l (at n (firstTable lent) i);
+  means = λ lent store i. flatMeans n l (at n (firstTable lent) i);
   heeded = heeding n (flatMeans n l) ∷ [];
 }
 
@@ -61,8 +61,8 @@ familyRows t u seen b n l = record {
   zeros = familyTally b l;
   tables = λ xs. tabled t (b .width) (parents b xs) ∷ tabled u n (kids xs) ∷ [];
   columns = b .width;
-  acts = λ lent store i. familyActsOf b n l (first (others lent)) (seen (at (b .width) (first lent) i));
-  means = λ lent store i. familyMeansOf b n l (first (others lent)) (seen (at (b .width) (first lent) i));
+  acts = λ lent store i. familyActsOf b n l (firstTable (otherTables lent)) (seen (at (b .width) (firstTable lent) i));
+  means = λ lent store i. familyMeansOf b n l (firstTable (otherTables lent)) (seen (at (b .width) (firstTable lent) i));
   heeded = heeding (b .width) (λ g. brokenHeeds b (seen g)) ∷ heeding n (flatMeans n l) ∷ [];
 }
 
@@ -74,8 +74,8 @@ bearerRows t seen b = record {
   zeros = borneTally b;
   tables = λ xs. tabled t (b .width) (map (borneRow b) xs) ∷ [];
   columns = b .width;
-  acts = λ lent store i. bearingActs b store (seen (at (b .width) (first lent) i));
-  means = λ lent store i. bearingMeans b store (seen (at (b .width) (first lent) i));
+  acts = λ lent store i. bearingActs b store (seen (at (b .width) (firstTable lent) i));
+  means = λ lent store i. bearingMeans b store (seen (at (b .width) (firstTable lent) i));
   heeded = heeding (b .width) (λ g. bearingHeeds b (seen g)) ∷ [];
 }
 
@@ -131,10 +131,10 @@ lengthOf none = 0
 lengthOf (some x) = x .length
 
 -- the columns of the record, with the place of its payload
-unfoldable pub placed : {T M : Type 0} → Pieces T M → T → Columns → Columns
-placed (last l) x g = g
-placed (carrying l j o n) x g = set o (offsetOf (x .0)) (set n (lengthOf (x .0)) g)
-placed (list l k r p) x g = placed p (x .1) g
+unfoldable pub withPlace : {T M : Type 0} → Pieces T M → T → Columns → Columns
+withPlace (last l) x g = g
+withPlace (carrying l j o n) x g = set o (offsetOf (x .0)) (set n (lengthOf (x .0)) g)
+withPlace (list l k r p) x g = withPlace p (x .1) g
 
 abbrev pub given : Option Payload → List Payload
 given none = []
@@ -164,12 +164,12 @@ heededRows (list l k r p) = r .heeded ++ heededRows p
 
 -- the tables one by one, and those behind the tables of a list
 abbrev pub table : ℕ → Lent → List ℕ
-table zero lent = first lent
-table (suc k) lent = table k (others lent)
+table zero lent = firstTable lent
+table (suc k) lent = table k (otherTables lent)
 
 unfoldable pub beyond : List Heeded → Lent → Lent
 beyond [] lent = lent
-beyond (h ∷ hs) lent = beyond hs (others lent)
+beyond (h ∷ hs) lent = beyond hs (otherTables lent)
 
 abbrev pub run : Columns → (offset size : ℕ) → List ℕ → List ℕ
 run g o n store = slice (g o) (g o + g n) store
@@ -178,7 +178,7 @@ run g o n store = slice (g o) (g o + g n) store
 unfoldable pub inside : {T M : Type 0} → Pieces T M → Columns → Columns → Lent → List ℕ → Bool
 inside (last l) g m lent store = true
 inside (carrying l j o n) g m lent store = pick (eqb (m j) 1) (leb (g o + g n) (length store)) true
-inside (list l k r p) g m lent store = leb (m k) (length (first lent) / r .columns) && inside p g m (beyond (r .heeded) lent) store
+inside (list l k r p) g m lent store = leb (m k) (length (firstTable lent) / r .columns) && inside p g m (beyond (r .heeded) lent) store
 
 unfoldable pub pieced : {T M : Type 0} → Pieces T M → Columns → Columns → Lent → List ℕ → List Act
 pieced (last l) g m lent store = writes l g
@@ -225,7 +225,7 @@ module _ {T M Top : Type 0} (b : Body T M Top) where
   abbrev pub kind : Kind (List ℕ × T) Top (List ℕ × M)
   kind = record {
     program = parse (b .pieces) (of (b .absent)) (λ g x. ret (row (b .columns) g, x));
-    top = λ t run. b .made (row (b .columns) (placed (b .pieces) (t .1) (of (t .0)))) run;
+    top = λ t run. b .made (row (b .columns) (withPlace (b .pieces) (t .1) (of (t .0)))) run;
     trailing = b .trailing;
     retrail = b .retrail;
     lends = length (heededRows (b .pieces));

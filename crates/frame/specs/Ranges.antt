@@ -11,7 +11,7 @@ use Rattle.wire.specs.Act.{Act, demand, rows}
 use Rattle.wire.specs.declared.pen.Fault.the-variants as F
 use Rattle.wire.specs.Layout.{Layout, Columns, of, at, row, set, writes, demands, tally, mix, kept, blank}
 use Rattle.frame.specs.Kind.{Lent, Rows, Heeded}
-use Rattle.frame.specs.Entry.{first, others}
+use Rattle.frame.specs.Entry.{firstTable, otherTables}
 use Rattle.frame.specs.Body.{RowType, tabled, heeding, Pieces, last, list, layouts, parse, payloads, zeros, tables}
 
 -- T is what is read at the lists, M what it means
@@ -75,7 +75,7 @@ module _ {T M : Type 0} (n : ℕ) (p : Ranges T M) where
     zeros = λ x. tally (layouts (piecesOf p)) (of (x .0)) + zeros (piecesOf p) (x .1);
     tables = λ xs. tabled t n (map rangedRow (firsts (λ x. length (rowsOf p (x .1))) 0 xs)) ∷ tabled u (kid .columns) (flatMap (λ x. rowsOf p (x .1)) xs) ∷ [];
     columns = n;
-    acts = λ lent store i. rangedActs (length (first (others lent)) / kid .columns) (others lent) store (at n (first lent) i);
-    means = λ lent store i. rangedMeans (others lent) store (at n (first lent) i);
+    acts = λ lent store i. rangedActs (length (firstTable (otherTables lent)) / kid .columns) (otherTables lent) store (at n (firstTable lent) i);
+    means = λ lent store i. rangedMeans (otherTables lent) store (at n (firstTable lent) i);
     heeded = heeding n rangedHeeds ∷ kid ∷ [];
   }

@@ -18,15 +18,15 @@ use Rattle.wire.specs.declared.pen.Fault.{Fault}
 use Rattle.wire.specs.declared.pen.Fault.the-variants as F
 use Rattle.wire.specs.declared.pen.Pen.{Pen}
 use Rattle.wire.specs.declared.pen.Pen.the-variants.{At, Stop}
-use Rattle.wire.proofs.Acts.{and-both, both-and, clean-append, clean-both, bytes-append}
+use Rattle.wire.proofs.writing.Acts.{and-both, both-and, clean-append, clean-both, bytes-append}
 use Rattle.wire.proofs.Fields.{fits-cons}
-use Rattle.wire.proofs.Passes.{then, here, quick-clean, quick-odd, fill-none, Filling, fill-start, fill-demand, fill-row, fill-turn, fill-last}
-use Rattle.wire.proofs.Plain.{met, all-checked, bytes-long, clean-all, clean-when, no-quick, going-start, going-end, filled-long, ready-part, fill-part}
-use Rattle.wire.proofs.Cells.{all, distinct, free, eights, proper, suits}
-use Rattle.wire.proofs.Forms.{sure, below, form-proper, form-all}
-use Rattle.wire.proofs.Heeds.{broken-row}
-use Rattle.wire.proofs.Rowed.{Flat, Nest, flat-test, nest-test, weight, loose, matches-loose, after-demands}
-use Rattle.wire.proofs.Families.{frontActs, kidActs, Front, quick-passed, kids-passed, kids-odd, clean-parts, broken-stopped, broken-checked, front-passed, broken-quick, broken-odd-kid, broken-ready, broken-filling, kids-ready, kids-filled}
+use Rattle.wire.proofs.writing.Passes.{then, here, quick-clean, quick-odd, fill-none, Filling, fill-start, fill-demand, fill-row, fill-turn, fill-last}
+use Rattle.wire.proofs.writing.Plain.{met, all-checked, bytes-long, clean-all, clean-when, no-quick, going-start, going-end, filled-long, ready-part, fill-part}
+use Rattle.wire.proofs.layouts.Cells.{all, distinct, free, eights, proper, suits}
+use Rattle.wire.proofs.layouts.Forms.{sure, below, form-proper, form-all}
+use Rattle.wire.proofs.layouts.Heeds.{broken-row}
+use Rattle.wire.proofs.layouts.Rowed.{Flat, Nest, flat-test, nest-test, weight, loose, matches-loose, after-demands}
+use Rattle.wire.proofs.layouts.Families.{frontActs, kidActs, Front, quick-passed, kids-passed, kids-odd, clean-parts, broken-stopped, broken-checked, front-passed, broken-quick, broken-odd-kid, broken-ready, broken-filling, kids-ready, kids-filled}
 use Rattle.pairs.specs.Layout.{pair}
 use Rattle.pairs.specs.Write.{pairActs}
 use Rattle.scopes.specs.Layout.{caseAt, scope}

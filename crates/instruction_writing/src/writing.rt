@@ -7,7 +7,7 @@ ghost use Rattle.wire.specs.Act.{rows};
 ghost use Rattle.wire.specs.Pen.{reach, clean, bytes, Checked, Quick, Ready, Filled};
 ghost use Rattle.wire.specs.Spell.{Spelt, PlainRows};
 ghost use Rattle.wire.specs.declared.pen.Pen.the-variants.{At};
-ghost use Rattle.wire.proofs.Families.{frontActs};
+ghost use Rattle.wire.proofs.layouts.Families.{frontActs};
 ghost use Rattle.instructions.specs.Layout.{instruction};
 ghost use Rattle.instructions.specs.Rows.{instructionCols, instructionOf};
 ghost use Rattle.instruction_writing.specs.Write.{settingsFields, effectFields, limiterFields, effectActs, flagsOf, instructionActs, bareAt, rowActs};
@@ -30,6 +30,7 @@ use target_loudness::writing::target_long;
 use wire::bits::is_flag;
 use wire::pen;
 use wire::pen::Fault;
+use wire::pen::Passed;
 use wire::pen::Pen;
 use wire::rows::in_table;
 use wire::spell::Joined;
@@ -190,11 +191,6 @@ fn row_bytes(t: &[u16], b: usize, additional: &[u16]) -> usize
 }
 
 // The plain rows before the first that is not, and their bytes.
-struct Passed {
-    rows: usize,
-    bytes: usize,
-}
-
 fn plain_rows(instructions: &[u16], additional: &[u16], count: usize) -> Passed
     requires { ⌜ (count * 24 ≤ length (now instructions)) × (count < 64) ⌝ }
     ensures { λ r. ⌜ PlainRows (rowActs (now (instructions .entry)) (now (additional .entry))) 18 count (r .rows) (r .bytes) ⌝ }

@@ -18,12 +18,12 @@ use Rattle.wire.specs.Layout.{num, reserved, Layout, end, line, optional, _▹_
 use Rattle.wire.specs.Straight.{ends, ones, putsAt, took, taken, spans, PartTaken, PartEnds, blanks}
 use Rattle.wire.specs.declared.reads.Short.{Short}
 use Rattle.wire.specs.declared.reads.Sum.the-variants as S
-use Rattle.wire.proofs.Runs.{andThen}
-use Rattle.wire.proofs.Cells.{all, free}
-use Rattle.wire.proofs.Rowed.{weight}
+use Rattle.wire.proofs.reading.Runs.{andThen}
+use Rattle.wire.proofs.layouts.Cells.{all, free}
+use Rattle.wire.proofs.layouts.Rowed.{weight}
 use Rattle.wire.proofs.Fields.{part-below}
-use Rattle.wire.proofs.Straight.{ends-at, ends-within, total-append, total-ones, ones-append, heads, each-off, taken-off, taken-there, taken-none}
-use Rattle.wire.proofs.Families.{headed, tailed, headSizes, tailSizes, kidsOf, behindHead, head-got, head-lacks, broken-got, broken-lacks, singles-pos, singles-before, family-test, kids-ask, tally-ask, tail-tallied, family-placed, placed-count, placed-filled}
+use Rattle.wire.proofs.layouts.Straight.{ends-at, ends-within, total-append, total-ones, ones-append, heads, each-off, taken-off, taken-there, taken-none}
+use Rattle.wire.proofs.layouts.Families.{headed, tailed, headSizes, tailSizes, kidsOf, behindHead, head-got, head-lacks, broken-got, broken-lacks, singles-pos, singles-before, family-test, kids-ask, tally-ask, tail-tallied, family-placed, placed-count, placed-filled}
 use Rattle.pairs.specs.Layout.{pair}
 use Rattle.pairs.proofs.Pairs.{pair-one}
 use Rattle.scopes.specs.Layout.{scope}

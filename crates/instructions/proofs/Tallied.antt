@@ -13,8 +13,8 @@ use Rattle.wire.specs.Reads.{mapOut, rowsOf}
 use Rattle.wire.specs.Act.{pick}
 use Rattle.wire.specs.Layout.{Cell, column, idle, end, optional, _▹_, num, Columns, of, shown, cells, tally, layouts, blank, flat, brokenRow, familyTally, has}
 use Rattle.wire.specs.Straight.{spans}
-use Rattle.wire.proofs.Cells.{all}
-use Rattle.wire.proofs.Families.{placed-tallied}
+use Rattle.wire.proofs.layouts.Cells.{all}
+use Rattle.wire.proofs.layouts.Families.{placed-tallied}
 use Rattle.scopes.specs.Layout.{scope}
 use Rattle.scopes.specs.Tally.{scopeZeros}
 use Rattle.scopes.proofs.Tallied.{row-zeros}

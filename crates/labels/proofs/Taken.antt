@@ -22,14 +22,14 @@ use Rattle.wire.specs.declared.reads.Ends.{Ends}
 use Rattle.wire.specs.declared.reads.Ends.the-variants as E
 use Rattle.wire.specs.declared.reads.Sum.the-variants as S
 use Rattle.wire.specs.declared.rows.Payload.{Payload}
-use Rattle.wire.proofs.Cells.{all, distinct, free, eights, proper}
-use Rattle.wire.proofs.Forms.{form-all, form-proper, below}
+use Rattle.wire.proofs.layouts.Cells.{all, distinct, free, eights, proper}
+use Rattle.wire.proofs.layouts.Forms.{form-all, form-proper, below}
 use Rattle.wire.proofs.Fields.{wider, part-below}
-use Rattle.wire.proofs.Walk.{run-map, map-map, map-done, From, begun, onward, cut-off, cut-off-as, finished, as-done, is-done, byte-taken}
-use Rattle.wire.proofs.Loops.{summed-done, summed-short, many-long, Summing, sum-turn}
-use Rattle.wire.proofs.Straight.{ends-at, ends-within}
-use Rattle.wire.proofs.Borne.{bear-test, Bear}
-use Rattle.wire.proofs.Bearers.{bear-got, bear-lacks, bear-whole, bear-filled}
+use Rattle.wire.proofs.reading.Walk.{run-map, map-map, map-done, From, begun, onward, cut-off, cut-off-as, finished, as-done, is-done, byte-taken}
+use Rattle.wire.proofs.reading.Loops.{summed-done, summed-short, many-long, Summing, sum-turn}
+use Rattle.wire.proofs.layouts.Straight.{ends-at, ends-within}
+use Rattle.wire.proofs.layouts.Borne.{bear-test, Bear}
+use Rattle.wire.proofs.layouts.Bearers.{bear-got, bear-lacks, bear-whole, bear-filled}
 use Rattle.labels.specs.Layout.{label}
 use Rattle.labels.specs.Read.{Labels, labelsOver, labels}
 use Rattle.labels.specs.Rows.{entryRow, range, descriptions, listFrom}

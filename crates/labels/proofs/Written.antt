@@ -19,12 +19,12 @@ use Rattle.wire.specs.declared.pen.Fault.the-variants as F
 use Rattle.wire.specs.declared.pen.Pen.{Pen}
 use Rattle.wire.specs.declared.pen.Pen.the-variants.{At, Stop}
 use Rattle.wire.specs.declared.rows.Range.{Range}
-use Rattle.wire.proofs.Acts.{and-both, both-and}
+use Rattle.wire.proofs.writing.Acts.{and-both, both-and}
 use Rattle.wire.proofs.Fields.{fits-cons, fit-one}
-use Rattle.wire.proofs.Passes.{then, stopped, here, byte-fits, rows-turn, Filling, fill-start, fill-row, fill-turn, fill-last}
-use Rattle.wire.proofs.Passes as P
-use Rattle.wire.proofs.Plain.{Going, going-turn, going-odd, plain-odd, plain-end, rows-from, all-checked, filled-long, ready-part, fill-part, lineActs, line-plain, line-odd, line-checked}
-use Rattle.wire.proofs.Bearers.{headActs, payloadActs, bear-checked, bear-plain, bear-odd, bear-inside, bear-filling, size-ready, bytes-room, bytes-filled}
+use Rattle.wire.proofs.writing.Passes.{then, stopped, here, byte-fits, rows-turn, Filling, fill-start, fill-row, fill-turn, fill-last}
+use Rattle.wire.proofs.writing.Passes as P
+use Rattle.wire.proofs.writing.Plain.{Going, going-turn, going-odd, plain-odd, plain-end, rows-from, all-checked, filled-long, ready-part, fill-part, lineActs, line-plain, line-odd, line-checked}
+use Rattle.wire.proofs.layouts.Bearers.{headActs, payloadActs, bear-checked, bear-plain, bear-odd, bear-inside, bear-filling, size-ready, bytes-room, bytes-filled}
 use Rattle.labels.specs.Layout.{label}
 use Rattle.labels.specs.Rows.{entryCols, entryOf}
 use Rattle.labels.specs.Write.{idByte, entryActs, rowActs, countByte, entriesActs, listActs}

@@ -13,6 +13,7 @@ use super::rows::TextLabelEntry;
 use wire::bits::fits;
 use wire::pen;
 use wire::pen::Fault;
+use wire::pen::Passed;
 use wire::pen::Pen;
 use wire::rows::Range;
 use wire::rows::in_store;
@@ -64,11 +65,6 @@ fn plain_bytes(e: TextLabelEntry, w: u32, store: &[u8]) -> usize
 }
 
 // The plain rows before the first that is not, and their bytes.
-struct Passed {
-    rows: usize,
-    bytes: usize,
-}
-
 fn plain_rows(entries: &[u16], r: Range, w: u32, store: &[u8]) -> Passed
     requires { ⌜ (inTable r (now entries) ≡ true) × (r .count < 128) × (w < 8) ⌝ }
     ensures { λ p. ⌜ PlainRows (λ i. rowActs w (now (entries .entry)) (now (store .entry)) (r .first + i)) 257 (r .count) (p .rows) (p .bytes) ⌝ }

@@ -13,11 +13,11 @@ use Rattle.wire.specs.Layout.{of, row, blank, has, shown, cells, tally, Borne, 
 use Rattle.wire.specs.Straight.{ends, ones, took, taken}
 use Rattle.wire.specs.declared.reads.Short.{Short}
 use Rattle.wire.specs.declared.rows.Payload.{Payload}
-use Rattle.wire.proofs.Cells.{all, distinct, free, eights, proper, suits}
-use Rattle.wire.proofs.Forms.{form-all, form-proper, sure, below}
-use Rattle.wire.proofs.Straight.{total-ones, ones-append, ones-more, ends-at, ends-within, ends-on, ends-cut}
-use Rattle.wire.proofs.Borne.{bear-test, Bear}
-use Rattle.wire.proofs.Bearers.{headSizes, sizeAt, bear-got, bear-lacks, bear-behind, bear-whole, bear-filled, bear-tallied}
+use Rattle.wire.proofs.layouts.Cells.{all, distinct, free, eights, proper, suits}
+use Rattle.wire.proofs.layouts.Forms.{form-all, form-proper, sure, below}
+use Rattle.wire.proofs.layouts.Straight.{total-ones, ones-append, ones-more, ends-at, ends-within, ends-on, ends-cut}
+use Rattle.wire.proofs.layouts.Borne.{bear-test, Bear}
+use Rattle.wire.proofs.layouts.Bearers.{headSizes, sizeAt, bear-got, bear-lacks, bear-behind, bear-whole, bear-filled, bear-tallied}
 use Rattle.scopes.specs.Layout.{scope}
 use Rattle.scopes.specs.Rows.{idBytes, typedRow}
 use Rattle.scopes.specs.Tally.{scopeZeros}

@@ -18,9 +18,9 @@ use Rattle.wire.specs.declared.pen.Pen.{Pen}
 use Rattle.wire.specs.declared.pen.Pen.the-variants.{At}
 use Rattle.wire.specs.declared.rows.Payload.{Payload}
 use Rattle.wire.proofs.Fields.{fit-one}
-use Rattle.wire.proofs.Passes.{then, more, Filling, fill-demand, fill-row, fill-turn}
-use Rattle.wire.proofs.Plain.{met, filled-long}
-use Rattle.wire.proofs.Bearers.{headActs, payloadActs, bear-checked, bear-plain, bear-odd, bear-inside, bear-filling, size-ready, bytes-room, bytes-filled, bear-acts}
+use Rattle.wire.proofs.writing.Passes.{then, more, Filling, fill-demand, fill-row, fill-turn}
+use Rattle.wire.proofs.writing.Plain.{met, filled-long}
+use Rattle.wire.proofs.layouts.Bearers.{headActs, payloadActs, bear-checked, bear-plain, bear-odd, bear-inside, bear-filling, size-ready, bytes-room, bytes-filled, bear-acts}
 use Rattle.scopes.specs.Layout.{scope}
 use Rattle.scopes.specs.Rows.{scopeRow, scopeIs, scoped}
 use Rattle.scopes.specs.Write.{scopeActs, scopeBytes}

@@ -15,6 +15,7 @@ use scopes::writing::plain_scope;
 use wire::bits::fits;
 use wire::pen;
 use wire::pen::Fault;
+use wire::pen::Passed;
 use wire::pen::Pen;
 use wire::rows::in_store;
 
@@ -48,11 +49,6 @@ fn plain_bytes(e: LoudnessInfoEntry, store: &[u8]) -> usize
 }
 
 // The plain rows before the first that is not, and their bytes.
-struct Passed {
-    rows: usize,
-    bytes: usize,
-}
-
 fn plain_rows(entries: &[u16], store: &[u8], count: usize) -> Passed
     requires { ⌜ (count * 7 ≤ length (now entries)) × (count < 64) ⌝ }
     ensures { λ r. ⌜ PlainRows (rowActs (now (entries .entry)) (now (store .entry))) 258 count (r .rows) (r .bytes) ⌝ }

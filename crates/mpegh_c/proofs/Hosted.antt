@@ -7,13 +7,13 @@ use lib.ListN.{length}
 use lib.Dec.{leb}
 use lib.Seq.{sets}
 use borrow.Author.Tests.{le-leb, lt-leb, leb-true, leb-false}
-use Rattle.wire.proofs.Steps.{front-stored}
+use Rattle.wire.proofs.reading.Steps.{front-stored}
 use Rattle.frame.specs.Numbers.{Numbered, Answer, accepted, refused}
 use Rattle.frame.specs.Kind.{Kind, Lent}
 use Rattle.frame.specs.Entry.{Sizes, Output, leaves, onto, no-room, judging, sizes, measuring, Reads, Measures, Tallies, Writes}
 use Rattle.frame.proofs.Entries.{reads-unmeasured}
 use Rattle.mpegh_c.specs.Code.{code, refusedCode, answerCode}
-use Rattle.mpegh_c.specs.Host.{Hosted, hosted, fronted, topped, rowsOf, sized, unread, hostReading, hostMeasuring, HostReads, HostMeasures, HostTallies, HostWrites}
+use Rattle.mpegh_c.specs.Host.{Hosted, hosted, fronted, topped, rowsOf, hostedSizes, unread, hostReading, hostMeasuring, HostReads, HostMeasures, HostTallies, HostWrites}
 
 -- a code and the lent slices afterwards, the code as a number
 abbrev said : ℕ → List ℕ → Lent → Hosted
@@ -42,22 +42,22 @@ module _ {Tree Top Value : Type 0} (K : Kind Tree Top Value) where
   module _ {body rows : List ℕ} where
     pub measures-refused : {x : Numbered} {n : ℕ} → Measures K body (refused x) → n ≡ refusedCode x → HostMeasures K body rows n rows
     unfolding hostMeasuring
-    measures-refused w e = record { promised = ap (λ (n : ℕ). said n rows []) e ∙ ap (sized rows) (w .promised) }
+    measures-refused w e = record { promised = ap (λ (n : ℕ). said n rows []) e ∙ ap (hostedSizes rows) (w .promised) }
 
     module _ {z : Sizes} (w : Measures K body (accepted z)) where
       -- the slice is too short for the counts
       pub measures-unroomed : {n : ℕ} → length rows < length (rowsOf (z .tables)) → n ≡ answerCode (no-room 0 1) → HostMeasures K body rows n rows
       unfolding hostMeasuring
       measures-unroomed h e =
-          let q : sized rows (accepted z) ≡ hosted (no-room 0 1) rows [] = rw (lt-leb _ _ h, sized) refl in
-          record { promised = ap (λ (n : ℕ). said n rows []) e ∙ sym q ∙ ap (sized rows) (w .promised) }
+          let q : hostedSizes rows (accepted z) ≡ hosted (no-room 0 1) rows [] = rw (lt-leb _ _ h, hostedSizes) refl in
+          record { promised = ap (λ (n : ℕ). said n rows []) e ∙ sym q ∙ ap (hostedSizes rows) (w .promised) }
 
       pub measures-sized : {n : ℕ} {after : List ℕ} → length (rowsOf (z .tables)) ≤ length rows → after ≡ sets rows 0 (rowsOf (z .tables)) → n ≡ code 0 (z .before) → HostMeasures K body rows n after
       unfolding hostMeasuring
       measures-sized h f e =
-          let q : sized rows (accepted z) ≡ hosted (accepted (z .before)) (fronted (rowsOf (z .tables)) rows) [] = rw (le-leb _ _ h, sized) refl in
+          let q : hostedSizes rows (accepted z) ≡ hosted (accepted (z .before)) (fronted (rowsOf (z .tables)) rows) [] = rw (le-leb _ _ h, hostedSizes) refl in
           let g = f ∙ front-stored rows (rowsOf (z .tables)) h in
-          record { promised = (λ i. said (e i) (g i) []) ∙ sym q ∙ ap (sized rows) (w .promised) }
+          record { promised = (λ i. said (e i) (g i) []) ∙ sym q ∙ ap (hostedSizes rows) (w .promised) }
 
   -- ---- reading
 

@@ -12,7 +12,7 @@ use Rattle.frame.specs.Kind.{Kind, Lent}
 use Rattle.frame.specs.Entry.{Sizes, no-room, leaves, reading, measuring, tallying, writing}
 use Rattle.frame.proofs.More.{answered}
 use Rattle.mpegh_c.specs.Code.{code, tableCode, valuesCode, answerCode}
-use Rattle.mpegh_c.specs.Host.{Hosted, hosted, topped, rowsOf, sized, hostReading, hostMeasuring, HostReads, HostMeasures, HostTallies, HostWrites}
+use Rattle.mpegh_c.specs.Host.{Hosted, hosted, topped, rowsOf, hostedSizes, hostReading, hostMeasuring, HostReads, HostMeasures, HostTallies, HostWrites}
 
 -- ---- a code
 
@@ -50,9 +50,9 @@ unfolding number
 topped-taken row top (accepted t) after h = number-taken 0 0 h
 topped-taken row top (refused x) after h = values-taken (x .number) (x .values) h
 
-sized-taken : (rows : List ℕ) (a : Answer Sizes) → ((z : Sizes) → a ≡ accepted z → length (rowsOf (z .tables)) ≤ length rows) → number a < 256 → sized rows a .code % 256 ≡ number a
+sized-taken : (rows : List ℕ) (a : Answer Sizes) → ((z : Sizes) → a ≡ accepted z → length (rowsOf (z .tables)) ≤ length rows) → number a < 256 → hostedSizes rows a .code % 256 ≡ number a
 unfolding number
-sized-taken rows (accepted z) h l = rw (le-leb _ _ (h z refl), sized) (number-taken 0 (z .before) l)
+sized-taken rows (accepted z) h l = rw (le-leb _ _ (h z refl), hostedSizes) (number-taken 0 (z .before) l)
 sized-taken rows (refused x) h l = values-taken (x .number) (x .values) l
 
 -- ---- an entry point: of the numbers that it can answer none takes more than 8 bits
@@ -86,6 +86,6 @@ module _ {Tree Top Value : Type 0} (K : Kind Tree Top Value) where
   pub measure-roomless : {body rows rows′ : List ℕ} {n : ℕ} (z : Sizes) → measuring K body ≡ accepted z → length rows < length (rowsOf (z .tables)) → HostMeasures K body rows n rows′ → (n ≡ tableCode 3 0 1) × (rows′ ≡ rows)
   unfolding hostMeasuring
   measure-roomless {rows = rows} z e h w =
-      let r : sized rows (accepted z) ≡ hosted (no-room 0 1) rows [] = rw (lt-leb _ _ h, sized) refl in
-      let q = w .promised ∙ ap (sized rows) e ∙ r in
+      let r : hostedSizes rows (accepted z) ≡ hosted (no-room 0 1) rows [] = rw (lt-leb _ _ h, hostedSizes) refl in
+      let q = w .promised ∙ ap (hostedSizes rows) e ∙ r in
       (ap (λ (o : Hosted). o .code) q, ap (λ (o : Hosted). o .front) q)

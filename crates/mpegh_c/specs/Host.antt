@@ -34,12 +34,12 @@ rowsOf [] = []
 rowsOf (n ∷ ns) = n .rows ∷ rowsOf ns
 
 -- measuring returns k
-abbrev pub sized : List ℕ → Answer Sizes → Hosted
-sized slice (accepted z) = elim (leb (length (rowsOf (z .tables))) (length slice)) [
+abbrev pub hostedSizes : List ℕ → Answer Sizes → Hosted
+hostedSizes slice (accepted z) = elim (leb (length (rowsOf (z .tables))) (length slice)) [
   | true ↦ hosted (accepted (z .before)) (fronted (rowsOf (z .tables)) slice) []
   | false ↦ hosted (no-room 0 1) slice []
 ]
-sized slice (refused x) = hosted (refused x) slice []
+hostedSizes slice (refused x) = hosted (refused x) slice []
 
 module _ {Tree Top Value : Type 0} (K : Kind Tree Top Value) where
   -- with no room for the top record a body is judged all the same: 2, then 1
@@ -51,7 +51,7 @@ module _ {Tree Top Value : Type 0} (K : Kind Tree Top Value) where
   hostReading columns row body top lent = elim (leb columns (length top)) [ true ↦ topped row top (reading K body lent) | false ↦ hosted (unread body) top lent ]
 
   unfoldable pub hostMeasuring : List ℕ → List ℕ → Hosted
-  hostMeasuring body rows = sized rows (measuring K body)
+  hostMeasuring body rows = hostedSizes rows (measuring K body)
 
   -- ---- the promises
 

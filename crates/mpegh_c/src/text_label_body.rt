@@ -7,10 +7,13 @@ ghost use Rattle.text_label.specs.Kind.{kind};
 ghost use Rattle.mpegh_c.specs.Code.{answerCode};
 ghost use Rattle.mpegh_c.specs.Host.{unread, HostReads, HostMeasures, HostTallies, HostWrites};
 use super::codes;
+use frame::Refusal;
 use text_label::Measured;
 use text_label::Reading;
+use text_label::parsing::head_end;
 use text_label::rows::MpegH3dAudioTextLabel;
 use text_label::rows::TOP_COLUMNS;
+use wire::reads::Ends;
 use wire::rows::Payload;
 use wire::rows::put_row;
 
@@ -24,6 +27,11 @@ pub extern "C" fn mpegh_text_label_read(
 ) -> u64
     ensures { λ r. ⌜ HostReads kind topColumns topRow (now (body .entry)) (now (top .entry)) (now (languages .entry) ∷ now (entries .entry) ∷ []) r (now (top .exit)) (now (languages .exit) ∷ now (entries .exit) ∷ []) ⌝ }
 {
+    // A body that ends before its languages is refused whatever is lent, and so before anything else.
+    let a = head_end(body);
+    let Ends::At(_) = a else {
+        return codes::refusal_code(Refusal::Short(a.short()));
+    };
     if top.len() < TOP_COLUMNS {
         return unread(body);
     }

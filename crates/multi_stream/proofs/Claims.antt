@@ -15,12 +15,12 @@ use Rattle.wire.specs.Prog.{Prog, done, run, u8, many, _>>=_}
 use Rattle.wire.specs.declared.rows.Payload.{Payload}
 use Rattle.wire.specs.Layout.{at, row, flat, reads, put, puts, shown, cells, tally, has}
 use Rattle.wire.proofs.Fields.{part-below}
-use Rattle.wire.proofs.Takes.{Takes, run-takes, takes-split, takes-ret, map-takes, many-takes, listed-every}
-use Rattle.wire.proofs.Rowed.{Wide, found, flat-grows}
+use Rattle.wire.proofs.reading.Takes.{Takes, run-takes, takes-split, takes-ret, map-takes, many-takes, listed-every}
+use Rattle.wire.proofs.layouts.Rowed.{Wide, found, flat-grows}
 use Rattle.frame.specs.Kind.{Lent}
 use Rattle.frame.specs.Numbers.{accepted, refuses}
-use Rattle.frame.specs.Entry.{leaves, onto, into, Sizes, Need, needs, lacking, room, first, others, filled, judging, sizes, placing, reading, measuring, tallying, gives, trail, writing}
-use Rattle.frame.specs.Body.{layouts, parse, placed, tables, zeros, heeds, heededRows}
+use Rattle.frame.specs.Entry.{leaves, onto, into, Sizes, Need, needs, lacking, room, firstTable, otherTables, filled, judging, sizes, placing, reading, measuring, tallying, gives, trail, writing}
+use Rattle.frame.specs.Body.{layouts, parse, withPlace, tables, zeros, heeds, heededRows}
 use Rattle.frame.specs.Claims.{Lowest, this, later, rows-agree, none-read, Claims, Fixed}
 use Rattle.frame.proofs.Numbers.{refused-back, answer-by, fixes}
 use Rattle.frame.proofs.Judged.{was, ran-well, measured as was-measured}
@@ -47,7 +47,7 @@ use Rattle.multi_stream.proofs.Mirrored.{group-so}
 use Rattle.multi_stream.proofs.Parsed.{groups, mainPart, main-there, main-aside, body-run}
 
 samples : Samples kind
-unfolding reading into judging placing run measuring onto sizes tallying kind parse reads put puts split total _>>=_ many head group tables zeros tally shown sum needs lacking room first others filled flatten each cells ones placed layouts
+unfolding reading into judging placing run measuring onto sizes tallying kind parse reads put puts split total _>>=_ many head group tables zeros tally shown sum needs lacking room firstTable otherTables filled flatten each cells ones withPlace layouts
 samples = record {
   lent = (9 ∷ 9 ∷ 9 ∷ 9 ∷ 9 ∷ 9 ∷ 9 ∷ 9 ∷ 9 ∷ 9 ∷ 9 ∷ []) ∷ [];
   one = 0x81 ∷ 0x80 ∷ 0x82 ∷ 0x07 ∷ 0x08 ∷ 0x85 ∷ [];
@@ -98,7 +98,7 @@ nothing (this h) e = let z : _≡_ {A = ℕ} 0 1 = cc e in omega arith
 nothing (later h d) e = let z : _≡_ {A = ℕ} 0 1 = cc e in omega arith
 
 low : (n : ℕ) (groups : List ℕ) {t r : ℕ} → Lowest (needed n) (groups ∷ []) t r → (t ≡ 8) × (r ≡ n) × (length groups / 5 < n)
-unfolding room first
+unfolding room firstTable
 low n groups (this h) = (refl, refl, h)
 low n groups (later h d) = absurd (nothing d refl)
 
@@ -108,7 +108,7 @@ sized-so body z e = let (s, j, q) = was-measured kind body z e in (length (s .tr
 
 pub lacks-room : (body groups : List ℕ) (t r : ℕ)
     → (reading kind body (groups ∷ []) ≡ leaves (refuses 3 (t ∷ r ∷ [])) (groups ∷ [])) ↔ ((t ≡ 8) × (k : ℕ) × (measuring kind body ≡ accepted (sized r k)) × (length groups / 5 < r))
-unfolding room first
+unfolding room firstTable
 lacks-room body groups t r = (forth, back)
   where
     forth : reading kind body (groups ∷ []) ≡ leaves (refuses 3 (t ∷ r ∷ [])) (groups ∷ []) → (t ≡ 8) × (k : ℕ) × (measuring kind body ≡ accepted (sized r k)) × (length groups / 5 < r)
@@ -153,7 +153,7 @@ counted body {t} e = let r = body-run body e in subst Counted (sym (r .is)) (go 
         subst (λ (m : Main). Counted (Rust.streamOf (getD body 0 0) m)) (sym (w .is)) (record { count = sym (w .count); wide = listed-every (flat 5 group) (Wide 5) (flat-grows 5 group) l; once = listed-every (flat 5 group) Once group-once l })
 
 pub read-table : (body groups groups′ : List ℕ) (m : MpegH3dAudioMultiStream) → reading kind body (groups ∷ []) ≡ leaves (accepted m) (groups′ ∷ []) → Every Once (each (λ i. row 5 (at 5 groups′ i)) 0 (m .main .part .groups))
-unfolding kind filled tables first others placed each
+unfolding kind filled tables firstTable otherTables withPlace each
 read-table body groups groups′ m e =
     let w = was kind body (groups ∷ []) m (groups′ ∷ []) e in
     let t = w .sound .tree in
@@ -161,7 +161,7 @@ read-table body groups groups′ m e =
     let l = t .1 .0 in
     let behind = drop (length (flatten l)) groups in
     let r : Every Once (each (λ i. row 5 (at 5 (flatten l ++ behind) i)) 0 (length l)) = subst (Every Once) (sym (found 5 l (c .wide) behind)) (c .once) in
-    let a : flatten l ++ behind ≡ groups′ = ap (λ (l : Lent). first l) (w .after-is) in
+    let a : flatten l ++ behind ≡ groups′ = ap (λ (l : Lent). firstTable l) (w .after-is) in
     let n : length l ≡ m .main .part .groups = sym (c .count) ∙ ap (λ (m : MpegH3dAudioMultiStream). m .main .part .groups) (w .top-is) in
     subst (λ (n : ℕ). Every Once (each (λ i. row 5 (at 5 groups′ i)) 0 n)) n (subst (λ (x : List ℕ). Every Once (each (λ i. row 5 (at 5 x i)) 0 (length l))) a r)
 

@@ -13,10 +13,10 @@ use Rattle.wire.specs.Act as A
 use Rattle.wire.specs.Act.{Act, demand, byte, pick, rows}
 use Rattle.wire.specs.declared.pen.Fault.the-variants as F
 use Rattle.wire.specs.Layout.{Columns, end, one, num, reserved, flag, blank, set, put, puts, reads, row, flat, cells, matches, matched, shown, writes, every, has}
-use Rattle.wire.proofs.Runs.{bind-assoc}
+use Rattle.wire.proofs.reading.Runs.{bind-assoc}
 use Rattle.wire.proofs.Fields.{part-below}
 use Rattle.frame.specs.Kind.{Lent}
-use Rattle.frame.specs.Entry.{first}
+use Rattle.frame.specs.Entry.{firstTable}
 use Rattle.frame.specs.Body.{layouts, parse, inside, pieced, beyond}
 use Rattle.frame.proofs.Pieces.{and-true}
 use Rattle.stream_groups.specs.Layout as G
@@ -73,7 +73,7 @@ mirrored = parse-over ∙ (λ i. multiStreamOver (group-so i))
 
 -- ---- and is written as the Rust's `write`
 
-pub written-so : (m : MpegH3dAudioMultiStream) (lent : Lent) (store : List ℕ) → kind .acts m lent store ≡ multiStreamActs m (first lent)
+pub written-so : (m : MpegH3dAudioMultiStream) (lent : Lent) (store : List ℕ) → kind .acts m lent store ≡ multiStreamActs m (firstTable lent)
 unfolding kind layouts inside pieced beyond multiStreamActs mainActs A.within head cells matches matched shown writes every has flatten rows each
 written-so m lent store = go m (m .main .present)
   where
@@ -82,16 +82,16 @@ written-so m lent store = go m (m .main .present)
 
     -- the last piece is empty: neither its rows nor its bytes count
     ends : MpegH3dAudioMultiStream → (Bool → Bool) → (List Act → List Act) → List Act
-    ends m t f = demand F.Range (t (within (m .main) (first lent))) ∷ demand F.Field true ∷ demand F.Empty true ∷ map byte (headFields m) ++ f (mainActs (m .main) (first lent))
+    ends m t f = demand F.Range (t (within (m .main) (firstTable lent))) ∷ demand F.Field true ∷ demand F.Empty true ∷ map byte (headFields m) ++ f (mainActs (m .main) (firstTable lent))
 
     case : (m : MpegH3dAudioMultiStream) (a : Bool) → kind .acts (with m a) lent store ≡ ends (with m a) (λ t. t && true) (λ q. q ++ [])
     case m true = refl
     case m false = refl
 
-    go : (m : MpegH3dAudioMultiStream) (a : Bool) → kind .acts (with m a) lent store ≡ multiStreamActs (with m a) (first lent)
+    go : (m : MpegH3dAudioMultiStream) (a : Bool) → kind .acts (with m a) lent store ≡ multiStreamActs (with m a) (firstTable lent)
     go m a = case m a ∙ λ i. ends (with m a) (λ t. and-true t i) (λ q. append-nil q i)
 
 -- t is table 8
 pub acts-are : (m : MpegH3dAudioMultiStream) (t store : List ℕ) → kind .acts m (t ∷ []) store ≡ multiStreamActs m t
-unfolding first
+unfolding firstTable
 acts-are m t store = written-so m (t ∷ []) store

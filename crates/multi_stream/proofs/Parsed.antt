@@ -15,10 +15,10 @@ use Rattle.wire.specs.Straight.{ends, ones}
 use Rattle.wire.specs.declared.reads.Short.{Short}
 use Rattle.wire.specs.declared.reads.Sum.{Sum}
 use Rattle.wire.specs.declared.reads.Sum.the-variants as S
-use Rattle.wire.proofs.Runs.{run-split, run-ret}
-use Rattle.wire.proofs.Walk.{From, begun, onward, cut-off, cut-off-as, as-done, finished, byte-taken, is-done, run-ret as run-done}
-use Rattle.wire.proofs.Loops.{many-long, summed-done, summed-cut, sum-onward, sum-cut-off, sum-small}
-use Rattle.wire.proofs.Straight.{ones-past, singly, singly-there, singly-cut}
+use Rattle.wire.proofs.reading.Runs.{run-split, run-ret}
+use Rattle.wire.proofs.reading.Walk.{From, begun, onward, cut-off, cut-off-as, as-done, finished, byte-taken, is-done, run-ret as run-done}
+use Rattle.wire.proofs.reading.Loops.{many-long, summed-done, summed-cut, sum-onward, sum-cut-off, sum-small}
+use Rattle.wire.proofs.layouts.Straight.{ones-past, singly, singly-there, singly-cut}
 use Rattle.stream_groups.specs.Layout.{group}
 use Rattle.multi_stream.specs.Rows.{MultiStream}
 use Rattle.multi_stream.specs.Read.{Main, noMain, mainOf, main, streamOf, multiStreamOver}

@@ -15,15 +15,15 @@ use Rattle.wire.specs.Reads.{mapOut, isDone, rowsOf}
 use Rattle.wire.specs.Act.{pick}
 use Rattle.wire.specs.declared.rows.Payload.{Payload}
 use Rattle.wire.specs.Layout.{Cell, num, reserved, flag, column, idle, Columns, of, shown, cells, tally}
-use Rattle.wire.proofs.Rowed.{Wide}
-use Rattle.wire.proofs.Fronts.{flat-front}
+use Rattle.wire.proofs.layouts.Rowed.{Wide}
+use Rattle.wire.proofs.layouts.Fronts.{flat-front}
 use Rattle.frame.specs.declared.Room.{Room}
 use Rattle.frame.specs.declared.Room.the-variants as M
 use Rattle.frame.specs.Numbers.{accepted}
-use Rattle.frame.specs.Entry.{needs, room, first, others, lacking, filled, sizes, tail, Measures}
+use Rattle.frame.specs.Entry.{needs, room, firstTable, otherTables, lacking, filled, sizes, tail, Measures}
 use Rattle.frame.specs.Sight.{andTable, andTables, Tops, Fills}
 use Rattle.frame.specs.Body as B
-use Rattle.frame.specs.Body.{layouts, placed, tables}
+use Rattle.frame.specs.Body.{layouts, withPlace, tables}
 use Rattle.frame.proofs.Lawful.{Shaped}
 use Rattle.frame.proofs.Tables.{enough}
 use Rattle.frame.proofs.MoreRoom.{none-fit, fit-head, shapes}
@@ -46,11 +46,11 @@ sizes-are t k = refl
 
 module _ (n : ℕ) (t : List ℕ) {r : Room} (e : r ≡ andTable M.Enough (record { number = 8; columns = 5; rows = n }) t) where
   pub room-so : r ≡ andTables M.Enough (needed n) (t ∷ [])
-  unfolding andTables first
+  unfolding andTables firstTable
   room-so = e
 
   pub has-room : r ≡ M.Enough → (lacking (needed n) (t ∷ []) ≡ none) × (n ≤ length t / 5)
-  unfolding room first
+  unfolding room firstTable
   has-room d = let h = enough (needed n) (t ∷ []) (sym room-so ∙ d) in (h, fit-head (none-fit (needed n) (t ∷ []) h) .0)
 
 -- ---- the reserved bits: those of the record alone
@@ -77,7 +77,7 @@ groups-tally [] = refl
 groups-tally (r ∷ l) = omega (arith, group-tally (of r), groups-tally l)
 
 pub zeros-are : (t : MultiStream) (p : Payload) → zerosOf (kind .top t p) ≡ kind .zeros t
-unfolding kind placed each B.zeros
+unfolding kind withPlace each B.zeros
 zeros-are t p = omega (arith, top-tally (of (t .0)), groups-tally (t .1 .0))
 
 -- ---- a body that was measured: its groups stand behind the third byte
@@ -101,7 +101,7 @@ module _ (body : List ℕ) {n k : ℕ} (m : Measures kind body (accepted (sized 
 
   count-is : length rows ≡ n
   unfolding rows
-  count-is = ap firstRows (sym (sizes-are (knows .sound .tree) (knows .sound .before)) ∙ knows .sized)
+  count-is = ap firstRows (sym (sizes-are (knows .sound .tree) (knows .sound .before)) ∙ knows .size-is)
 
   stand : 0 < n → Groups body rows (knows .sound .before)
   unfolding rows
@@ -118,7 +118,7 @@ module _ (body : List ℕ) {n k : ℕ} (m : Measures kind body (accepted (sized 
       go (all-cons h all-nil) = h
 
   filled-so : (t after : List ℕ) → after ≡ flatten rows ++ drop (length (flatten rows)) t → Fills kind body (t ∷ []) (after ∷ [])
-  unfolding rows kind filled tables first others
+  unfolding rows kind filled tables firstTable otherTables
   filled-so t after e = fills-known kind knows (ap (λ (a : List ℕ). a ∷ []) e)
 
   pub filled-there : 0 < n → (t after : List ℕ) → n ≤ length t / 5 → after ≡ sets t 0 (flatMap (λ r. r) (Rows-of body n)) → Fills kind body (t ∷ []) (after ∷ [])
@@ -141,7 +141,7 @@ module _ (body : List ℕ) {n k : ℕ} (m : Measures kind body (accepted (sized 
 
   pub tops-are : {id : ℕ} {m : MainStream} {p : Payload} → id ≡ part 0 7 (getD body 0 0) → m .present ≡ eqb (part 7 1 (getD body 0 0)) 1
       → (x : ℕ) → done (mainColumns m) x ≡ mapOut (λ m. m .columns) (run (mainPart (eqb (part 7 1 (getD body 0 0)) 1)) body 1) → p ≡ tail k body → Tops kind body (record { «this_stream_id» = id; main = m; trailing = p })
-  unfolding kind placed each
+  unfolding kind withPlace each
   tops-are {m = m} e h x f g =
       let r = body-run body ran in
       let z : done (mainColumns m) x ≡ done (r .part-of .columns) (knows .sound .before) = f ∙ ap (mapOut (λ (m : Main). m .columns)) (r .reads) in

@@ -6,7 +6,7 @@ ghost use Prim.Native.Nat.{_<_};
 ghost use Rattle.wire.specs.Pen.{reach, Checked, Ready, Filled};
 ghost use Rattle.wire.specs.Spell.{Spelt};
 ghost use Rattle.wire.specs.declared.pen.Pen.the-variants.{At};
-ghost use Rattle.frame.specs.Entry.{whole};
+ghost use Rattle.frame.specs.Entry.{allActs};
 ghost use Rattle.multi_stream.specs.Kind.{kind};
 ghost use Rattle.multi_stream.specs.Write.{headFields, mainFields, within, mainActs, multiStreamActs};
 use super::rows::GROUP_COLUMNS;
@@ -90,7 +90,7 @@ fn check_fields(m: MpegH3dAudioMultiStream, groups: &[u16]) -> Pen
 
 // The whole: its first fault, or its length.
 pub fn check(m: MpegH3dAudioMultiStream, groups: &[u16], store: &[u8]) -> Pen
-    ensures { λ r. ⌜ Checked (whole kind m (now (groups .entry) ∷ []) (now (store .entry))) 196610 (At 0) r ⌝ }
+    ensures { λ r. ⌜ Checked (allActs kind m (now (groups .entry) ∷ []) (now (store .entry))) 196610 (At 0) r ⌝ }
 {
     let trailing = m.trailing;
     if in_store(trailing, store) {
@@ -128,8 +128,8 @@ fn fill_fields(m: MpegH3dAudioMultiStream, groups: &[u16], out: &mut [u8]) -> us
 }
 
 pub fn fill(m: MpegH3dAudioMultiStream, groups: &[u16], store: &[u8], out: &mut [u8]) -> usize
-    requires { ⌜ Ready (whole kind m (now groups ∷ []) (now store)) 0 (now out) ⌝ }
-    ensures { λ r. ⌜ Filled (whole kind m (now (groups .entry) ∷ []) (now (store .entry))) 0 (now (out .entry)) r (now (out .exit)) ⌝ }
+    requires { ⌜ Ready (allActs kind m (now groups ∷ []) (now store)) 0 (now out) ⌝ }
+    ensures { λ r. ⌜ Filled (allActs kind m (now (groups .entry) ∷ []) (now (store .entry))) 0 (now (out .entry)) r (now (out .exit)) ⌝ }
 {
     let from = m.trailing.offset;
     let count = m.trailing.length;

@@ -16,9 +16,9 @@ use Rattle.wire.specs.Straight.{ends, putsAt, took, spans}
 use Rattle.wire.specs.Spell.{fitAll, Spells, none, more, ReadyAll, FillsAll}
 use Rattle.wire.specs.declared.pen.Fault.the-variants as F
 use Rattle.wire.specs.declared.pen.Pen.the-variants.{At, Stop}
-use Rattle.wire.proofs.Loops.{first-done}
-use Rattle.wire.proofs.Straight.{flat-so, flat-done, ends-got}
-use Rattle.wire.proofs.Plain.{lineActs, line-clean, line-plain, line-odd, line-ready, line-filled}
+use Rattle.wire.proofs.reading.Loops.{first-done}
+use Rattle.wire.proofs.layouts.Straight.{flat-so, flat-done, ends-got}
+use Rattle.wire.proofs.writing.Plain.{lineActs, line-clean, line-plain, line-odd, line-ready, line-filled}
 use Rattle.pairs.specs.Layout.{pair}
 use Rattle.pairs.specs.Rows.{pairFrom}
 use Rattle.pairs.specs.Write.{pairFields, pairActs}

@@ -16,10 +16,10 @@ use Rattle.wire.specs.Straight.{ends, ones, putsAt, took}
 use Rattle.wire.specs.Nest.{Fillable, Nested}
 use Rattle.wire.specs.declared.reads.Short.{Short}
 use Rattle.wire.specs.declared.reads.Sum.the-variants as S
-use Rattle.wire.proofs.Cells.{all}
-use Rattle.wire.proofs.Rowed.{weight}
-use Rattle.wire.proofs.Straight.{ends-at, ends-within}
-use Rattle.wire.proofs.Families.{headSizes, kidsOf, behindHead, head-got, head-lacks, kids-got, kids-lack, broken-got, broken-lacks, kids-ask, family-filled, family-test, tally-ask, family-tallied}
+use Rattle.wire.proofs.layouts.Cells.{all}
+use Rattle.wire.proofs.layouts.Rowed.{weight}
+use Rattle.wire.proofs.layouts.Straight.{ends-at, ends-within}
+use Rattle.wire.proofs.layouts.Families.{headSizes, kidsOf, behindHead, head-got, head-lacks, kids-got, kids-lack, broken-got, broken-lacks, kids-ask, family-filled, family-test, tally-ask, family-tallied}
 use Rattle.conditions.specs.Layout.{condition}
 use Rattle.presets.specs.Layout.{preset, presets}
 use Rattle.presets.specs.Rows.{presetRow, presetCols, presetFrom}

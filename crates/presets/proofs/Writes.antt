@@ -14,13 +14,13 @@ use Rattle.wire.specs.Pen.{Checked, Quick, Ready, clean, bytes}
 use Rattle.wire.specs.Layout.{num, reserved, Columns, at, fieldOf, writes, shown, cells, matches, matched, every, has, familyActs, brokenActs}
 use Rattle.wire.specs.Spell.{PlainRows, fieldsOf, fitAll}
 use Rattle.wire.specs.declared.pen.Fault.the-variants as F
-use Rattle.wire.proofs.Acts.{and-both}
-use Rattle.wire.proofs.Plain.{clean-all}
-use Rattle.wire.proofs.Passes.{here, nothing, Filling}
-use Rattle.wire.proofs.Cells.{all, distinct, free, eights, proper}
-use Rattle.wire.proofs.Forms.{sure, below}
-use Rattle.wire.proofs.Rowed.{nest-test, weight}
-use Rattle.wire.proofs.Families.{Front, frontActs, front-passed, plainRow, kids-passed, kids-odd, broken-stopped, broken-checked, broken-quick, broken-odd, broken-odd-kid, broken-ready, broken-filling}
+use Rattle.wire.proofs.writing.Acts.{and-both}
+use Rattle.wire.proofs.writing.Plain.{clean-all}
+use Rattle.wire.proofs.writing.Passes.{here, nothing, Filling}
+use Rattle.wire.proofs.layouts.Cells.{all, distinct, free, eights, proper}
+use Rattle.wire.proofs.layouts.Forms.{sure, below}
+use Rattle.wire.proofs.layouts.Rowed.{nest-test, weight}
+use Rattle.wire.proofs.layouts.Families.{Front, frontActs, front-passed, plainRow, kids-passed, kids-odd, broken-stopped, broken-checked, broken-quick, broken-odd, broken-odd-kid, broken-ready, broken-filling}
 use Rattle.wire.specs.declared.pen.Fault.{Fault}
 use Rattle.wire.specs.declared.pen.Pen.{Pen}
 use Rattle.wire.specs.declared.pen.Pen.the-variants.{At, Stop}

@@ -15,10 +15,10 @@ use Rattle.wire.specs.Act.{pick}
 use Rattle.wire.specs.Straight.{ends, ones}
 use Rattle.wire.specs.declared.reads.Short.{Short}
 use Rattle.wire.specs.Layout.{flat, Family}
-use Rattle.wire.proofs.Acts.{and-both}
-use Rattle.wire.proofs.Walk.{From, onward, cut-off}
-use Rattle.wire.proofs.Cells.{clash}
-use Rattle.wire.proofs.Straight.{ones-lacks, ends-few, Past, ones-past}
+use Rattle.wire.proofs.writing.Acts.{and-both}
+use Rattle.wire.proofs.reading.Walk.{From, onward, cut-off}
+use Rattle.wire.proofs.layouts.Cells.{clash}
+use Rattle.wire.proofs.layouts.Straight.{ones-lacks, ends-few, Past, ones-past}
 use Rattle.frame.specs.Body.{tables}
 use Rattle.frame.specs.Entry.{too-short, Measures}
 use Rattle.frame.proofs.Entries.{measures-short}

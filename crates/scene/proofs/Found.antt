@@ -6,10 +6,10 @@ use lib.ListN.{length, getD}
 use Rattle.wire.specs.Lists.{each}
 use Rattle.wire.specs.Bits.{part}
 use Rattle.wire.specs.Layout.{flat}
-use Rattle.wire.proofs.Walk.{ends}
-use Rattle.wire.proofs.Loops.{many-long}
-use Rattle.wire.proofs.Rowed.{parents-long}
-use Rattle.frame.specs.Body.{placed, tables}
+use Rattle.wire.proofs.reading.Walk.{ends}
+use Rattle.wire.proofs.reading.Loops.{many-long}
+use Rattle.wire.proofs.layouts.Rowed.{parents-long}
+use Rattle.frame.specs.Body.{withPlace, tables}
 use Rattle.frame.specs.Numbers.{accepted}
 use Rattle.frame.specs.Entry.{needs, sizes, tail, Measures}
 use Rattle.frame.specs.Sight.{Tops}
@@ -92,7 +92,7 @@ module _ {s : List ℕ} {p : Places} (f : Found s p) (h : length s < 65536) {g t
   pub recorded : {r : MpegH3dAudioScene} → r .«reserved_flags» ≡ part 0 5 (getD s 0 0) → r .«scene_info_id» ≡ all (getD s 1 0)
       → r .groups ≡ section g (countAt 7 s g 2) → r .«reserved_switch_groups» ≡ reservedAt 3 5 7 s t (p .«switch_groups») → r .«switch_groups» ≡ section t (countAt 5 s t (p .«switch_groups»))
       → r .«reserved_presets» ≡ reservedAt 3 5 7 s q (p .presets) → r .presets ≡ section q (countAt 5 s q (p .presets)) → r .«reserved_groups» ≡ reservedAt 1 7 1 s g 2 → r .trailing ≡ tail (p .k) s → Tops kind s r
-  unfolding kind placed each
+  unfolding kind withPlace each
   recorded {r} a b c d e o j k l =
       let x = groups-stand f .is in
       let y = switches-stand f .is in

@@ -17,10 +17,10 @@ use Rattle.wire.specs.declared.reads.Sum.the-variants as N
 use Rattle.wire.specs.Act.{pick}
 use Rattle.wire.specs.Straight.{ends, ones}
 use Rattle.wire.specs.declared.reads.Short.{Short}
-use Rattle.wire.proofs.Runs.{andThen, run-bind}
-use Rattle.wire.proofs.Walk.{byte-next, as-done}
+use Rattle.wire.proofs.reading.Runs.{andThen, run-bind}
+use Rattle.wire.proofs.reading.Walk.{byte-next, as-done}
 use Rattle.wire.proofs.Fields.{part-below, wider}
-use Rattle.wire.proofs.Straight.{ends-at, ends-within, ones-lacks, size-there}
+use Rattle.wire.proofs.layouts.Straight.{ends-at, ends-within, ones-lacks, size-there}
 use Rattle.scene_kind.specs.Read.{Section, section}
 use Rattle.scene.specs.Walk.{rowsAt, countAt, reservedAt, reservedZeros}
 

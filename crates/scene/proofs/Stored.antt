@@ -11,10 +11,10 @@ use Rattle.wire.specs.Prog.{run, many}
 use Rattle.wire.specs.Reads.{rowsOf, isDone}
 use Rattle.wire.specs.Nest.{Fillable, Nests}
 use Rattle.wire.specs.Layout.{flat, kids, brokenRow}
-use Rattle.wire.proofs.Rowed.{Wide, parents-long}
-use Rattle.wire.proofs.Fronts.{flat-front, Both, both}
+use Rattle.wire.proofs.layouts.Rowed.{Wide, parents-long}
+use Rattle.wire.proofs.layouts.Fronts.{flat-front, Both, both}
 use Rattle.frame.specs.Body.{tables}
-use Rattle.frame.specs.Entry.{needs, room, first, others, filled}
+use Rattle.frame.specs.Entry.{needs, room, firstTable, otherTables, filled}
 use Rattle.frame.specs.Sight.{Roomy, Fills}
 use Rattle.frame.proofs.Entries.{room-walked, fills-walked}
 use Rattle.frame.proofs.Lawful.{Shaped}
@@ -40,7 +40,7 @@ module _ {s : List ℕ} {p : Places} (f : Found s p) (short : length s < 65536) 
     conditions : length (kids (f .in-presets .rows)) * 13 ≤ length t₅
 
   space : Space
-  unfolding needs kind tables room first others
+  unfolding needs kind tables room firstTable otherTables
   space =
       let h₁ = fit-head (none-fit (needs (kind .tables (tree f))) (t₁ ∷ t₂ ∷ t₃ ∷ t₄ ∷ t₅ ∷ []) (room-walked kind s short (found-reads s p f) r)) in
       let h₂ = fit-head (h₁ .1) in
@@ -103,7 +103,7 @@ pub stored : {s : List ℕ} {p : Places} → Found s p → length s < 65536 → 
     → Nests switchGroups (λ x. length (x .1)) (λ n x. brokenRow switchGroup (n, x)) (λ x. flatten (x .1)) s (rowsAt t (p .«switch_groups»)) (countAt 5 s t (p .«switch_groups»)) t₂ t₃ u₂ u₃
     → Nests presets (λ x. length (x .1)) (λ n x. brokenRow preset (n, x)) (λ x. flatten (x .1)) s (rowsAt q (p .presets)) (countAt 5 s q (p .presets)) t₄ t₅ u₄ u₅
     → Fills kind s (t₁ ∷ t₂ ∷ t₃ ∷ t₄ ∷ t₅ ∷ []) (u₁ ∷ u₂ ∷ u₃ ∷ u₄ ∷ u₅ ∷ [])
-unfolding filled kind tables first others
+unfolding filled kind tables firstTable otherTables
 stored {s} {p} f h t₁ t₂ t₃ t₄ t₅ w r a b c =
     let x = groups-stored f h t₁ t₂ t₃ t₄ t₅ r (w .of-groups) a in
     let y = switches-stored f h t₁ t₂ t₃ t₄ t₅ r (w .of-switches) b in

@@ -11,9 +11,9 @@ use Rattle.wire.specs.Layout.{flat, Family, kids}
 use Rattle.wire.specs.declared.reads.Short.{Short}
 use Rattle.wire.specs.declared.reads.Sum.{Sum}
 use Rattle.wire.specs.declared.reads.Sum.the-variants as S
-use Rattle.wire.proofs.Walk.{From, byte-next, onward, Passed, end-onward, end-cut-off, finished}
-use Rattle.wire.proofs.Loops.{Went-on, sum-onward, sum-cut-off, sum-small}
-use Rattle.wire.proofs.Straight.{Past, singly, singly-cut}
+use Rattle.wire.proofs.reading.Walk.{From, byte-next, onward, Passed, end-onward, end-cut-off, finished}
+use Rattle.wire.proofs.reading.Loops.{Went-on, sum-onward, sum-cut-off, sum-small}
+use Rattle.wire.proofs.layouts.Straight.{Past, singly, singly-cut}
 use Rattle.scene_groups.specs.Layout.{group}
 use Rattle.switch_groups.specs.Layout.{switchGroups}
 use Rattle.presets.specs.Layout.{presets}

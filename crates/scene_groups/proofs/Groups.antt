@@ -16,10 +16,10 @@ use Rattle.wire.specs.Reads.{endOf}
 use Rattle.wire.specs.Act.{pick}
 use Rattle.wire.specs.Layout.{Layout, end, optional, Columns, flat, put, blank, has, row}
 use Rattle.wire.specs.Straight.{ends, ones, putsAt, took, taken, spans, sizes, PartTaken, blanks}
-use Rattle.wire.proofs.Cells.{all, free}
-use Rattle.wire.proofs.Steps.{sets-append}
+use Rattle.wire.proofs.layouts.Cells.{all, free}
+use Rattle.wire.proofs.reading.Steps.{sets-append}
 use Rattle.wire.proofs.Fields.{part-below}
-use Rattle.wire.proofs.Straight.{Whole, flat-ends, sizes-so, steered, ends-within, ends-at, ends-on, ends-cut, heads, each-off, taken-none, taken-there}
+use Rattle.wire.proofs.layouts.Straight.{Whole, flat-ends, sizes-so, steered, ends-within, ends-at, ends-on, ends-cut, heads, each-off, taken-none, taken-there}
 use Rattle.wire.specs.declared.reads.Short.{Short}
 use Rattle.scene_groups.specs.Layout.{group, position, gain, language}
 use Rattle.scene_groups.specs.declared.rows.PositionInteractivity.{PositionInteractivity}
@@ -184,10 +184,10 @@ group-long s at {b} e = ap total (group-sizes s at) ∙ rw (← e) (go (eqb (par
 abbrev bytesOf : ℕ → Layout → Columns → List ℕ → ℕ → ℕ
 bytesOf k p f s at = total (pick (eqb (f k) 1) (took p f s at 0) (f, []) .1)
 
-sized : (x : Bool) (n : ℕ) (a : Columns × List ℕ) (f : Columns) → total (a .1) ≡ n → total (pick x a (f, []) .1) ≡ pick x n 0
+spans-long : (x : Bool) (n : ℕ) (a : Columns × List ℕ) (f : Columns) → total (a .1) ≡ n → total (pick x a (f, []) .1) ≡ pick x n 0
 unfolding total
-sized true n a f e = e
-sized false n a f e = refl
+spans-long true n a f e = e
+spans-long false n a f e = refl
 
 -- the columns behind each part
 abbrev with-position : List ℕ → ℕ → Columns
@@ -205,10 +205,10 @@ module _ (s : List ℕ) (at : ℕ) {b m n : ℕ} (e : b ≡ getD s (at + 1) 0) (
   parts-taken =
       let f₀ = headed s at in
       let f₁ = with-position s at in
-      let x : bytesOf 7 position f₀ s (at + 3) ≡ fives (part 2 1 b) = sized (eqb (f₀ 7) 1) 5 (took position f₀ s (at + 3) 0) f₀ refl ∙ ap (λ (b : ℕ). fives (part 2 1 b)) (sym e) in
+      let x : bytesOf 7 position f₀ s (at + 3) ≡ fives (part 2 1 b) = spans-long (eqb (f₀ 7) 1) 5 (took position f₀ s (at + 3) 0) f₀ refl ∙ ap (λ (b : ℕ). fives (part 2 1 b)) (sym e) in
       let q : m ≡ at + 3 + bytesOf 7 position f₀ s (at + 3) = a ∙ ap (λ (k : ℕ). at + 3 + k) (sym x) in
       let g : f₁ 18 ≡ part 1 1 b = heads (each-off (optional 7 position end) f₀ s (at + 3) 0 18 5 refl) ∙ ap (part 1 1) (sym e) in
-      let y : bytesOf 18 gain f₁ s m ≡ twos (part 1 1 b) = sized (eqb (f₁ 18) 1) 2 (took gain f₁ s m 0) f₁ refl ∙ ap twos g in
+      let y : bytesOf 18 gain f₁ s m ≡ twos (part 1 1 b) = spans-long (eqb (f₁ 18) 1) 2 (took gain f₁ s m 0) f₁ refl ∙ ap twos g in
       let r : n ≡ m + bytesOf 18 gain f₁ s m = z ∙ ap (λ (k : ℕ). m + k) (sym y) in
       ap (λ (k : ℕ). with-all s at k (k + bytesOf 18 gain f₁ s k)) (sym q) ∙ ap (λ (k : ℕ). with-all s at m k) (sym r)
 

@@ -14,11 +14,11 @@ use Rattle.wire.specs.Pen.{Quick, Ready, Filled, clean, bytes}
 use Rattle.wire.specs.Layout.{Columns, at, flatActs, writes, shown, cells, matched, every, counted, flagged}
 use Rattle.wire.specs.Spell.{fieldsOf, fitAll, Spelt, ReadyAll, FillsAll}
 use Rattle.wire.specs.declared.pen.Fault.the-variants as F
-use Rattle.wire.proofs.Acts.{and-both, clean-append}
-use Rattle.wire.proofs.Cells.{fit-flags}
-use Rattle.wire.proofs.Passes.{quick-clean, quick-odd}
-use Rattle.wire.proofs.Rowed.{loose, matches-loose}
-use Rattle.wire.proofs.Plain.{clean-when, clean-all, absorb, no-quick}
+use Rattle.wire.proofs.writing.Acts.{and-both, clean-append}
+use Rattle.wire.proofs.layouts.Cells.{fit-flags}
+use Rattle.wire.proofs.writing.Passes.{quick-clean, quick-odd}
+use Rattle.wire.proofs.layouts.Rowed.{loose, matches-loose}
+use Rattle.wire.proofs.writing.Plain.{clean-when, clean-all, absorb, no-quick}
 use Rattle.scene_groups.specs.Layout.{group}
 use Rattle.scene_groups.specs.Write.{partFits, plainFits, noParts, groupActs, rowActs}
 use Rattle.scene_groups.specs.Rows.{groupCols, groupOf, idCells, flagCells, contentCells, positionCells, gainCells, languageCells, partCells}

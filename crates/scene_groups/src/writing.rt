@@ -20,6 +20,7 @@ use super::rows::column;
 use wire::bits::is_flag;
 use wire::pen;
 use wire::pen::Fault;
+use wire::pen::Passed;
 use wire::pen::Pen;
 use wire::spell::Joined;
 use wire::spell::check_all;
@@ -197,11 +198,6 @@ fn plain_bytes(groups: &[u16], b: usize) -> usize
 }
 
 // The plain rows before the first that is not, and their bytes.
-struct Passed {
-    rows: usize,
-    bytes: usize,
-}
-
 fn plain_rows(groups: &[u16], count: usize) -> Passed
     requires { ⌜ (count * 27 ≤ length (now groups)) × (count < 2 ^ 16) ⌝ }
     ensures { λ r. ⌜ PlainRows (rowActs (now (groups .entry))) 13 count (r .rows) (r .bytes) ⌝ }

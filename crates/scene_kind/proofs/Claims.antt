@@ -10,17 +10,17 @@ use lib.Count.{ones}
 use lib.Dec.{eqb, lit<}
 use Rattle.wire.specs.Lists.{Every, all-nil, all-cons, each, sum, firsts, Byte}
 use Rattle.wire.specs.Bits.{split, total, part}
-use Rattle.wire.specs.Prog.{Prog, ret, u8, run, span, bytes, pass, many, _>>=_}
+use Rattle.wire.specs.Prog.{Prog, ret, u8, run, span, u8s, pass, many, _>>=_}
 use Rattle.wire.specs.declared.rows.Payload.{Payload}
 use Rattle.wire.specs.Act.{pick}
 use Rattle.wire.specs.Layout.{at, row, reads, put, puts, shown, cells, tally, has, brokenRow, Family, parents, kids}
-use Rattle.wire.proofs.Takes.{Takes, run-takes, takes-split, takes-ret, map-takes, many-takes, listed-length, listed-every}
-use Rattle.wire.proofs.Rowed.{parents-long}
-use Rattle.wire.proofs.Running.{RunsOn, Told, runs-on}
+use Rattle.wire.proofs.reading.Takes.{Takes, run-takes, takes-split, takes-ret, map-takes, many-takes, listed-length, listed-every}
+use Rattle.wire.proofs.layouts.Rowed.{parents-long}
+use Rattle.wire.proofs.layouts.Running.{RunsOn, Told, runs-on}
 use Rattle.frame.specs.Kind.{Lent}
 use Rattle.frame.specs.Numbers.{accepted, refuses}
-use Rattle.frame.specs.Entry.{leaves, onto, into, Sizes, needs, lacking, room, first, others, filled, judging, sizes, placing, reading, measuring, tallying, gives, trail, writing}
-use Rattle.frame.specs.Body.{layouts, parse, placed, tables, zeros, heeds, heededRows, table}
+use Rattle.frame.specs.Entry.{leaves, onto, into, Sizes, needs, lacking, room, firstTable, otherTables, filled, judging, sizes, placing, reading, measuring, tallying, gives, trail, writing}
+use Rattle.frame.specs.Body.{layouts, parse, withPlace, tables, zeros, heeds, heededRows, table}
 use Rattle.frame.specs.Claims.{Lowest, rows-agree, none-read, Claims}
 use Rattle.frame.proofs.Judged.{was, ran-well, measured as was-measured}
 use Rattle.frame.proofs.Lawful.{Samples}
@@ -69,7 +69,7 @@ abbrev pub sized : (groups switches members presets conditions : ℕ) → ℕ �
 sized g s m p c k = record { tables = needed g s m p c; before = k }
 
 samples : Samples kind
-unfolding reading into judging placing run measuring onto sizes tallying kind parse reads put puts split total bytes pass _>>=_ many pair T.groups T.switchGroups T.presets tables zeros tally shown sum firsts flatMap needs lacking room first others filled flatten each cells ones placed layouts
+unfolding reading into judging placing run measuring onto sizes tallying kind parse reads put puts split total u8s pass _>>=_ many pair T.groups T.switchGroups T.presets tables zeros tally shown sum firsts flatMap needs lacking room firstTable otherTables filled flatten each cells ones withPlace layouts
 samples = record {
   lent = [] ∷ (9 ∷ 9 ∷ 9 ∷ 9 ∷ 9 ∷ 9 ∷ 9 ∷ 9 ∷ 9 ∷ 9 ∷ []) ∷ (9 ∷ 9 ∷ 9 ∷ []) ∷ [] ∷ [] ∷ [];
   one = 0x5F ∷ 0x07 ∷ 0xE1 ∷ 0x85 ∷ 0xE0 ∷ 0x83 ∷ 0x83 ∷ [];
@@ -218,7 +218,7 @@ absent-so t bs run d =
     })
 
 pub absent-read : (body : List ℕ) (lent after : Lent) (m : MpegH3dAudioScene) → reading kind body lent ≡ leaves (accepted m) after → Absent m
-unfolding kind placed each
+unfolding kind withPlace each
 absent-read body lent after m e =
     let w = was kind body lent m after e in
     let d = run-takes (kind .program) body 0 (ran-well kind body (w .sound) (w .judges) .reads) (omega arith) in
@@ -305,7 +305,7 @@ pub record Lists (m : MpegH3dAudioScene) (after : Lent) (members conditions : �
   pub conditions-run : RunsOn preset 0 (each (λ i. row 7 (at 7 (table 3 after) i)) 0 (m .presets .count)) conditions
 
 lists-so : (t : Scene) (lent : Lent) (run : Payload) → Listed-so t → Lists (sceneOf (t .0) run) (filled (tables pieces (t .1)) lent) (length (kids (t .1 .1 .0))) (length (kids (t .1 .1 .1 .0)))
-unfolding filled tables first others
+unfolding filled tables firstTable otherTables
 lists-so t lent run h =
     let ss = parents switchGroup (t .1 .1 .0) in
     let ps = parents preset (t .1 .1 .1 .0) in
@@ -316,7 +316,7 @@ lists-so t lent run h =
 
 pub read-lists : (body : List ℕ) (lent after : Lent) (m : MpegH3dAudioScene) → reading kind body lent ≡ leaves (accepted m) after
     → (members : ℕ) × (conditions : ℕ) × (k : ℕ) × (measuring kind body ≡ accepted (sized (m .groups .count) (m .«switch_groups» .count) members (m .presets .count) conditions k)) × Lists m after members conditions
-unfolding kind measuring onto sizes tables needs placed each
+unfolding kind measuring onto sizes tables needs withPlace each
 read-lists body lent after m e =
     let w = was kind body lent m after e in
     let t = w .sound .tree in

@@ -7,11 +7,11 @@ use lib.ListN.{getD}
 use lib.Dec.{eqb}
 use Rattle.wire.specs.Lists.{each}
 use Rattle.wire.specs.Bits.{part, total, split}
-use Rattle.wire.specs.Prog.{Prog, ret, look, u8, bytes, many, _>>=_}
+use Rattle.wire.specs.Prog.{Prog, ret, look, u8, u8s, many, _>>=_}
 use Rattle.wire.specs.Act.{pick}
 use Rattle.wire.specs.Layout.{end, one, optional, num, reserved, flag, Columns, of, blank, put, puts, reads, row, flat, broken, Family}
 use Rattle.wire.proofs.Lists.{second, third}
-use Rattle.wire.proofs.Runs.{bind-assoc}
+use Rattle.wire.proofs.reading.Runs.{bind-assoc}
 use Rattle.frame.specs.Body.{parse}
 use Rattle.scene_groups.specs.Layout as G
 use Rattle.pairs.specs.Layout.{pair}
@@ -33,7 +33,7 @@ abbrev row27 : Columns → Prog (List ℕ)
 row27 g = ret (row 27 g)
 
 language-so : (F : Columns) → each F 24 3 ≡ none 3 → reads (optional 23 G.language end) F >>= row27 ≡ given (F 23) 3 R.language >>= λ l. ret (each F 0 24 ++ l)
-unfolding reads puts put split total R.language bytes _>>=_ each
+unfolding reads puts put split total R.language u8s _>>=_ each
 language-so F z = go (eqb (F 23) 1)
   where
     go : (x : Bool) → _≡_ {A = Prog (List ℕ)} ((pick x (reads G.language F) (ret F) >>= λ g. ret g) >>= row27) (pick x R.language (ret (none 3)) >>= λ l. ret (each F 0 24 ++ l))

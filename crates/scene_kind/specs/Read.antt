@@ -5,7 +5,7 @@ use lib.ListN.{getD}
 use lib.Dec.{eqb}
 use Rattle.wire.specs.Lists.{each}
 use Rattle.wire.specs.Bits.{part}
-use Rattle.wire.specs.Prog.{Prog, ret, u8, bytes, many, _>>=_}
+use Rattle.wire.specs.Prog.{Prog, ret, u8, u8s, many, _>>=_}
 use Rattle.wire.specs.Act.{pick}
 use Rattle.wire.specs.Layout.{Family, blank}
 use Rattle.scene_kind.specs.Rows.{Scene, sceneIs}
@@ -38,7 +38,7 @@ gain = do
 -- one read of three bytes
 unfoldable pub language : Prog (List ℕ)
 language = do
-  l ← bytes 3
+  l ← u8s 3
   ret (all (getD l 0 0) ∷ all (getD l 1 0) ∷ all (getD l 2 0) ∷ [])
 
 unfoldable pub group : Prog (List ℕ)

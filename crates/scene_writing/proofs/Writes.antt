@@ -12,9 +12,9 @@ use Rattle.wire.specs.Pen.{Checked, Ready}
 use Rattle.wire.specs.declared.pen.Pen.{Pen}
 use Rattle.wire.specs.declared.pen.Pen.the-variants.{At}
 use Rattle.wire.proofs.Fields.{fits-cons}
-use Rattle.wire.proofs.Acts.{and-both}
-use Rattle.wire.proofs.Parts.{part-begins}
-use Rattle.wire.proofs.Passes.{byte-fits, Filling}
+use Rattle.wire.proofs.writing.Acts.{and-both}
+use Rattle.wire.proofs.writing.Parts.{part-begins}
+use Rattle.wire.proofs.writing.Passes.{byte-fits, Filling}
 use Rattle.wire.specs.Layout.{cells, matches, matched, shown, writes, every, has}
 use Rattle.frame.specs.Kind.{Lent}
 use Rattle.frame.specs.Body.{layouts, inside, pieced, beyond, table}

@@ -11,7 +11,7 @@ ghost use Rattle.scene_groups.specs.Write.{rowActs};
 ghost use Rattle.switch_groups.specs.Layout.{member, switchGroup};
 ghost use Rattle.conditions.specs.Layout.{condition};
 ghost use Rattle.presets.specs.Layout.{preset};
-ghost use Rattle.frame.specs.Entry.{whole};
+ghost use Rattle.frame.specs.Entry.{allActs};
 ghost use Rattle.scene_kind.specs.Kind.{kind};
 ghost use Rattle.scene_writing.specs.Write.{flagsByte, headBytes, countByte, groupsActs, switchGroupsActs, presetsActs, sceneActs, within, allWithin};
 use presets::rows::PRESET_COLUMNS;
@@ -174,7 +174,7 @@ pub fn check(
     conditions: &[u16],
     store: &[u8],
 ) -> Pen
-    ensures { λ r. ⌜ Checked (whole kind m (now (groups .entry) ∷ now («switch_groups» .entry) ∷ now (members .entry) ∷ now (presets .entry) ∷ now (conditions .entry) ∷ []) (now (store .entry))) 71345 (At 0) r ⌝ }
+    ensures { λ r. ⌜ Checked (allActs kind m (now (groups .entry) ∷ now («switch_groups» .entry) ∷ now (members .entry) ∷ now (presets .entry) ∷ now (conditions .entry) ∷ []) (now (store .entry))) 71345 (At 0) r ⌝ }
 {
     let trailing = m.trailing;
     if in_store(trailing, store) {
@@ -269,8 +269,8 @@ pub fn fill(
     store: &[u8],
     out: &mut [u8],
 ) -> usize
-    requires { ⌜ Ready (whole kind m (now groups ∷ now «switch_groups» ∷ now members ∷ now presets ∷ now conditions ∷ []) (now store)) 0 (now out) ⌝ }
-    ensures { λ r. ⌜ Filled (whole kind m (now (groups .entry) ∷ now («switch_groups» .entry) ∷ now (members .entry) ∷ now (presets .entry) ∷ now (conditions .entry) ∷ []) (now (store .entry))) 0 (now (out .entry)) r (now (out .exit)) ⌝ }
+    requires { ⌜ Ready (allActs kind m (now groups ∷ now «switch_groups» ∷ now members ∷ now presets ∷ now conditions ∷ []) (now store)) 0 (now out) ⌝ }
+    ensures { λ r. ⌜ Filled (allActs kind m (now (groups .entry) ∷ now («switch_groups» .entry) ∷ now (members .entry) ∷ now (presets .entry) ∷ now (conditions .entry) ∷ []) (now (store .entry))) 0 (now (out .entry)) r (now (out .exit)) ⌝ }
 {
     let n = fill_fields(m, groups, switch_groups, members, presets, conditions, out);
     pen::copy_payload(out, n, store, m.trailing)

@@ -9,8 +9,8 @@ use borrow.Author.Tests.{eqb-true, ltb-true, ltb-false}
 use Rattle.wire.specs.Act.{pick}
 use Rattle.wire.specs.Pen.{clean}
 use Rattle.wire.specs.Layout.{Cell, Layout, num, reserved, judged, Columns, set, shown, matches, columns, has, blank}
-use Rattle.wire.proofs.Acts.{and-both}
-use Rattle.wire.proofs.Cells.{Off, all, columns-none, shown-in}
+use Rattle.wire.proofs.writing.Acts.{and-both}
+use Rattle.wire.proofs.layouts.Cells.{Off, all, columns-none, shown-in}
 use Rattle.scopes.specs.Layout.{caseAt, scope}
 use Rattle.scopes.specs.Rows.{caseIs, kindIs, reservedIs, idIs, scopeIs, scoped}
 use Rattle.scopes.proofs.Taken.{case-at, case-past}

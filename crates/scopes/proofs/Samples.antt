@@ -9,7 +9,7 @@ use Rattle.wire.specs.Act.{settle, ahead, image, fault}
 use Rattle.wire.specs.Layout.{row, blank, has, put, shown, writes, matches}
 use Rattle.wire.specs.Straight.{took, putsAt, taken}
 use Rattle.wire.specs.declared.pen.Fault.the-variants as F
-use Rattle.wire.proofs.Cells.{all, distinct, free, eights, proper, suits}
+use Rattle.wire.proofs.layouts.Cells.{all, distinct, free, eights, proper, suits}
 use Rattle.scopes.specs.Layout.{scope}
 use Rattle.scopes.specs.Write.{scopeActs}
 use Rattle.scopes.specs.declared.rows.DrcScope.the-variants.{Plain, Group, Preset, Unknown}

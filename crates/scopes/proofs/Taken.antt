@@ -62,14 +62,14 @@ module _ (types : List ℕ) (kind : ℕ) (h : kind ≤ 3) {b : Bool} (e : b ≡ 
 
 -- whether an ID follows
 module _ (types : List ℕ) (kind : ℕ) {c : ℕ} (e : c ≡ caseAt types kind) where
-  abbrev sized : ℕ → ℕ
-  sized c = pick (eqb c 0) 0 1
+  abbrev spans-long : ℕ → ℕ
+  spans-long c = pick (eqb c 0) 0 1
 
   pub id-absent : c ≡ 0 → 0 ≡ idBytes types kind
-  id-absent z = sym (ap sized (sym e ∙ z))
+  id-absent z = sym (ap spans-long (sym e ∙ z))
 
   pub id-there : (c ≡ 0 → ⊥) → 1 ≡ idBytes types kind
-  id-there n = sym (ap sized (sym e) ∙ ap (λ (x : Bool). pick x 0 1) (ne-eqb c 0 n))
+  id-there n = sym (ap spans-long (sym e) ∙ ap (λ (x : Bool). pick x 0 1) (ne-eqb c 0 n))
 
   pub id-inside : {at n v : ℕ} → c ≡ v → 0 < v → at + idBytes types kind ≤ n → at < n
   id-inside {v = v} z p h = omega (arith, h, id-there (λ q. let w : v ≡ 0 = sym z ∙ q in absurd (omega arith)))

@@ -11,9 +11,9 @@ use Rattle.wire.specs.Act.{Act, demand, byte, when, pick}
 use Rattle.wire.specs.Pen.{Checked, Quick, Ready, Filled, clean, bytes}
 use Rattle.wire.specs.Spell.{Spells, fitAll, FitsAll, ChecksAll, ReadyAll, FillsAll, none, more}
 use Rattle.wire.specs.declared.pen.Pen.{Pen}
-use Rattle.wire.proofs.Acts.{and-both, both-and}
-use Rattle.wire.proofs.Passes.{then, quick-clean, quick-odd, Filling, fill-start, fill-last}
-use Rattle.wire.proofs.Plain.{all-checked, no-quick, ready-part, fill-part}
+use Rattle.wire.proofs.writing.Acts.{and-both, both-and}
+use Rattle.wire.proofs.writing.Passes.{then, quick-clean, quick-odd, Filling, fill-start, fill-last}
+use Rattle.wire.proofs.writing.Plain.{all-checked, no-quick, ready-part, fill-part}
 use Rattle.wire.specs.Layout.{Cell, num, reserved, end, judged, _▹_, Columns, of, writes, shown, every, matches}
 use Rattle.wire.specs.declared.pen.Fault.the-variants as F
 use Rattle.scopes.specs.Layout.{caseAt, scope}

@@ -7,7 +7,7 @@ use Rattle.wire.specs.Bits.{split, total}
 use Rattle.wire.specs.Layout.{put, puts, reads, shown, cells, tally, has}
 use Rattle.wire.specs.Lists.{each, sum, firsts}
 use Rattle.wire.specs.Prog.{run, u8, pass, many, _>>=_}
-use Rattle.frame.specs.Entry.{onto, into, needs, first, others, room, lacking, filled, judging, placing, reading, tallying}
+use Rattle.frame.specs.Entry.{onto, into, needs, firstTable, otherTables, room, lacking, filled, judging, placing, reading, tallying}
 use Rattle.frame.specs.Body as Body
 use Rattle.frame.specs.Ranges.{ranged}
 use Rattle.base.specs.Layout as BaseLayout
@@ -27,7 +27,7 @@ use Rattle.drc_kind.specs.Kind as Drc
 use Rattle.starred.specs.Starred.{Holds, starred as stars, Starred}
 
 pub starred : Starred
-unfolding reading tallying onto into judging placing run u8 pass many _>>=_ needs first others room lacking filled flatten flatMap sum firsts ones onesIn Base.kind BaseLayout.head each split total put puts reads shown cells tally SceneLayout.groups SceneLayout.switchGroups SceneLayout.presets Body.layouts Body.carried Body.parse Body.placed Body.tables Body.zeros Scene.kind TextLabel.kind TextLabelLayout.head TextLabelLayout.groups TextLabelLayout.switchGroups TextLabelLayout.presets ranged MultiStream.kind MultiStreamLayout.head StreamGroups.group has Scopes.scope Pairs.pair Downmixes.downmix DrcLayout.head Drc.kind
+unfolding reading tallying onto into judging placing run u8 pass many _>>=_ needs firstTable otherTables room lacking filled flatten flatMap sum firsts ones onesIn Base.kind BaseLayout.head each split total put puts reads shown cells tally SceneLayout.groups SceneLayout.switchGroups SceneLayout.presets Body.layouts Body.carried Body.parse Body.withPlace Body.tables Body.zeros Scene.kind TextLabel.kind TextLabelLayout.head TextLabelLayout.groups TextLabelLayout.switchGroups TextLabelLayout.presets ranged MultiStream.kind MultiStreamLayout.head StreamGroups.group has Scopes.scope Pairs.pair Downmixes.downmix DrcLayout.head Drc.kind
 starred = record {
   all = every-each Holds stars (
     record { reads = refl; tallies = refl },

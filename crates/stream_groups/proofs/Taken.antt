@@ -15,8 +15,8 @@ use Rattle.wire.specs.Straight.{ends, ones, putsAt, took}
 use Rattle.wire.specs.declared.reads.Short.{Short}
 use Rattle.wire.specs.declared.pen.Fault.the-variants as F
 use Rattle.wire.proofs.Fields.{part-below}
-use Rattle.wire.proofs.Runs.{run-u8, u8-done}
-use Rattle.wire.proofs.Straight.{Whole, flat-ends, Behind, behind-one, one-cut, one-more}
+use Rattle.wire.proofs.reading.Runs.{run-u8, u8-done}
+use Rattle.wire.proofs.layouts.Straight.{Whole, flat-ends, Behind, behind-one, one-cut, one-more}
 use Rattle.stream_groups.specs.Layout.{group}
 use Rattle.stream_groups.specs.Rows.{located, groupId, inMain, inAuxiliary, groupRow, locationCells}
 

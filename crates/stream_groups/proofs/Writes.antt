@@ -15,13 +15,13 @@ use Rattle.wire.specs.Pen.{Quick, clean, bytes}
 use Rattle.wire.specs.Layout.{Columns, at, fieldOf, flatActs, writes, shown, cells, matches, matched, every, flagged, counted, has}
 use Rattle.wire.specs.Spell.{Spells}
 use Rattle.wire.specs.declared.pen.Fault.the-variants as F
-use Rattle.wire.proofs.Acts.{and-both, both-and}
-use Rattle.wire.proofs.Cells.{all, distinct, free, eights, proper, suits, fit-flags}
+use Rattle.wire.proofs.writing.Acts.{and-both, both-and}
+use Rattle.wire.proofs.layouts.Cells.{all, distinct, free, eights, proper, suits, fit-flags}
 use Rattle.wire.proofs.Fields.{fits-cons, cons-fits}
-use Rattle.wire.proofs.Forms.{form-all, form-proper, below}
-use Rattle.wire.proofs.Passes.{quick-clean, quick-odd}
-use Rattle.wire.proofs.Plain.{no-quick}
-use Rattle.wire.proofs.Rowed.{flat-test, weight}
+use Rattle.wire.proofs.layouts.Forms.{form-all, form-proper, below}
+use Rattle.wire.proofs.writing.Passes.{quick-clean, quick-odd}
+use Rattle.wire.proofs.writing.Plain.{no-quick}
+use Rattle.wire.proofs.layouts.Rowed.{flat-test, weight}
 use Rattle.stream_groups.specs.Layout.{group}
 use Rattle.stream_groups.specs.Rows.{groupCols, groupOf, groupCells, locationCells}
 use Rattle.stream_groups.specs.Write.{flagsOf, placedOnce, groupActs, rowActs}

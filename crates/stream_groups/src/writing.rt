@@ -15,6 +15,7 @@ use wire::bits::is_flag;
 use wire::bits::pair;
 use wire::pen;
 use wire::pen::Fault;
+use wire::pen::Passed;
 use wire::pen::Pen;
 use wire::spell::check_all;
 use wire::spell::fill_all;
@@ -94,11 +95,6 @@ fn plain_bytes(groups: &[u16], b: usize) -> usize
 }
 
 // The plain rows before the first that is not, and their bytes.
-struct Passed {
-    rows: usize,
-    bytes: usize,
-}
-
 fn plain_rows(groups: &[u16], count: usize) -> Passed
     requires { ⌜ (count * 5 ≤ length (now groups)) × (count < 2 ^ 16) ⌝ }
     ensures { λ r. ⌜ PlainRows (rowActs (now (groups .entry))) 2 count (r .rows) (r .bytes) ⌝ }

@@ -16,10 +16,10 @@ use Rattle.wire.specs.Straight.{ends, ones, putsAt, took}
 use Rattle.wire.specs.declared.reads.Short.{Short}
 use Rattle.wire.specs.declared.reads.Sum.the-variants as S
 use Rattle.wire.specs.declared.rows.Range.{Range}
-use Rattle.wire.proofs.Cells.{all}
-use Rattle.wire.proofs.Rowed.{weight}
-use Rattle.wire.proofs.Straight.{ends-at, ends-within}
-use Rattle.wire.proofs.Families.{headSizes, tailSizes, kidsOf, tailed, behindHead, head-got, head-lacks, broken-got, broken-lacks, singles-behind, singles-pos, family-test, kids-ask, tail-there, family-filled, tally-ask, tail-tallied, family-tallied}
+use Rattle.wire.proofs.layouts.Cells.{all}
+use Rattle.wire.proofs.layouts.Rowed.{weight}
+use Rattle.wire.proofs.layouts.Straight.{ends-at, ends-within}
+use Rattle.wire.proofs.layouts.Families.{headSizes, tailSizes, kidsOf, tailed, behindHead, head-got, head-lacks, broken-got, broken-lacks, singles-behind, singles-pos, family-test, kids-ask, tail-there, family-filled, tally-ask, tail-tallied, family-tallied}
 use Rattle.pairs.specs.Layout.{pair}
 use Rattle.pairs.proofs.Pairs.{pair-one}
 use Rattle.switch_groups.specs.Layout.{member, switchGroup, switchGroups}

@@ -17,14 +17,14 @@ use Rattle.wire.specs.declared.pen.Fault.{Fault}
 use Rattle.wire.specs.declared.pen.Fault.the-variants as F
 use Rattle.wire.specs.declared.pen.Pen.{Pen}
 use Rattle.wire.specs.declared.pen.Pen.the-variants.{At, Stop}
-use Rattle.wire.proofs.Acts.{and-both}
+use Rattle.wire.proofs.writing.Acts.{and-both}
 use Rattle.wire.proofs.Fields.{fits-cons}
-use Rattle.wire.proofs.Passes.{then, here, Filling, fill-end}
-use Rattle.wire.proofs.Plain.{all-checked, clean-all, ready-part, fill-part}
-use Rattle.wire.proofs.Cells.{all, distinct, free, eights, proper}
-use Rattle.wire.proofs.Forms.{sure, below}
-use Rattle.wire.proofs.Rowed.{nest-test, weight}
-use Rattle.wire.proofs.Families.{frontActs, kidActs, Front, plainRow, kids-passed, kids-odd, broken-stopped, broken-checked, front-passed, broken-quick, broken-odd, broken-odd-kid, broken-ready, broken-filling, kids-ready, kids-filled}
+use Rattle.wire.proofs.writing.Passes.{then, here, Filling, fill-end}
+use Rattle.wire.proofs.writing.Plain.{all-checked, clean-all, ready-part, fill-part}
+use Rattle.wire.proofs.layouts.Cells.{all, distinct, free, eights, proper}
+use Rattle.wire.proofs.layouts.Forms.{sure, below}
+use Rattle.wire.proofs.layouts.Rowed.{nest-test, weight}
+use Rattle.wire.proofs.layouts.Families.{frontActs, kidActs, Front, plainRow, kids-passed, kids-odd, broken-stopped, broken-checked, front-passed, broken-quick, broken-odd, broken-odd-kid, broken-ready, broken-filling, kids-ready, kids-filled}
 use Rattle.pairs.specs.Write.{pairActs}
 use Rattle.switch_groups.specs.Layout.{member, switchGroup}
 use Rattle.switch_groups.specs.declared.rows.SwitchGroup.{SwitchGroup}

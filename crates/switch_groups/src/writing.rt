@@ -20,6 +20,7 @@ use wire::bits::is_flag;
 use wire::bits::less_one;
 use wire::pen;
 use wire::pen::Fault;
+use wire::pen::Passed;
 use wire::pen::Pen;
 use wire::rows::in_table;
 use wire::spell::Joined;
@@ -90,11 +91,6 @@ fn plain_bytes(g: SwitchGroup, members: &[u16]) -> usize
 }
 
 // The plain rows before the first that is not, and their bytes.
-struct Passed {
-    rows: usize,
-    bytes: usize,
-}
-
 fn plain_rows(switch_groups: &[u16], members: &[u16], count: usize) -> Passed
     requires { ⌜ (count * 9 ≤ length (now «switch_groups»)) × (count < 32) ⌝ }
     ensures { λ r. ⌜ PlainRows (familyActs switchGroup 2 member (now («switch_groups» .entry)) (now (members .entry))) 35 count (r .rows) (r .bytes) ⌝ }

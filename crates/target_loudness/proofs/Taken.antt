@@ -13,9 +13,9 @@ use Rattle.wire.specs.Prog.{Out, done}
 use Rattle.wire.specs.Act.{pick}
 use Rattle.wire.specs.Layout.{end, line, optional, _▹_, Columns, put, has}
 use Rattle.wire.specs.Straight.{ends, ones, putsAt, took, taken, spans, sizes, PartTaken, PartEnds, blanks}
-use Rattle.wire.proofs.Cells.{all, free}
+use Rattle.wire.proofs.layouts.Cells.{all, free}
 use Rattle.wire.proofs.Fields.{part-below}
-use Rattle.wire.proofs.Straight.{total-ones, ones-more, sizes-so, steered, each-off, flag-is, part-there, taken-there}
+use Rattle.wire.proofs.layouts.Straight.{total-ones, ones-more, sizes-so, steered, each-off, flag-is, part-there, taken-there}
 use Rattle.target_loudness.specs.Layout.{lower, target}
 use Rattle.target_loudness.specs.Rows.{targetBytes, upperCells, dependsCells}
 
@@ -70,11 +70,11 @@ pub lower-there : (s : List ℕ) (at : ℕ) {v : ℕ} → v ≡ 1 → PartTaken 
 unfolding took putsAt put split total each blanks
 lower-there s at t = taken-there 18 2 lower s at t refl (λ f z. rw z)
 
-sized : (v : ℕ) → v < 2 → (f : Columns) (s : List ℕ) (at : ℕ) → total (pick (eqb v 1) (took lower f s at 0) (f, []) .1) ≡ v
+spans-long : (v : ℕ) → v < 2 → (f : Columns) (s : List ℕ) (at : ℕ) → total (pick (eqb v 1) (took lower f s at 0) (f, []) .1) ≡ v
 unfolding took total
-sized zero h f s at = refl
-sized (suc zero) h f s at = refl
-sized (suc (suc v)) h f s at = absurd (omega arith)
+spans-long zero h f s at = refl
+spans-long (suc zero) h f s at = refl
+spans-long (suc (suc v)) h f s at = absurd (omega arith)
 
 -- its first byte is b and its last, behind the lower value, d
 module _ (s : List ℕ) (at : ℕ) {b m d : ℕ} (e : b ≡ getD s at 0) (a : m ≡ at + 1 + part 0 1 b) (z : d ≡ getD s m 0) where
@@ -90,7 +90,7 @@ module _ (s : List ℕ) (at : ℕ) {b m d : ℕ} (e : b ≡ getD s at 0) (a : m 
   parts-taken : (f : Columns) → taken target f s at ≡ with-all f m
   unfolding took putsAt put split total
   parts-taken f =
-      let q : m ≡ at + 1 + total (pick (eqb (headed f 18) 1) (took lower (headed f) s (at + 1) 0) (headed f, []) .1) = a ∙ ap (λ (b : ℕ). at + 1 + part 0 1 b) e ∙ ap (λ (k : ℕ). at + 1 + k) (sym (sized (headed f 18) (part-below 0 1 (getD s at 0)) (headed f) s (at + 1))) in
+      let q : m ≡ at + 1 + total (pick (eqb (headed f 18) 1) (took lower (headed f) s (at + 1) 0) (headed f, []) .1) = a ∙ ap (λ (b : ℕ). at + 1 + part 0 1 b) e ∙ ap (λ (k : ℕ). at + 1 + k) (sym (spans-long (headed f 18) (part-below 0 1 (getD s at 0)) (headed f) s (at + 1))) in
       ap (with-all f) (sym q)
 
   pub target-taken : {l : List ℕ} → PartTaken 18 3 lower (part 0 1 b) (blanks 2) s (at + 1) l

@@ -13,10 +13,10 @@ use Rattle.wire.specs.Pen.{Checked, Ready, Filled, clean, bytes}
 use Rattle.wire.specs.Layout.{Cell, end, optional, _▹_, Columns, writes, shown, every, flagged, counted}
 use Rattle.wire.specs.Spell.{fieldsOf, fitAll, Spelt, ReadyAll, FillsAll}
 use Rattle.wire.specs.declared.pen.Pen.{Pen}
-use Rattle.wire.proofs.Acts.{and-both, clean-append}
-use Rattle.wire.proofs.Cells.{fit-flags}
-use Rattle.wire.proofs.Passes.{then, nothing, Filling, fill-start, fill-last, fill-none}
-use Rattle.wire.proofs.Plain.{clean-all, clean-when, bit-size, ready-part, fill-part}
+use Rattle.wire.proofs.writing.Acts.{and-both, clean-append}
+use Rattle.wire.proofs.layouts.Cells.{fit-flags}
+use Rattle.wire.proofs.writing.Passes.{then, nothing, Filling, fill-start, fill-last, fill-none}
+use Rattle.wire.proofs.writing.Plain.{clean-all, clean-when, bit-size, ready-part, fill-part}
 use Rattle.target_loudness.specs.Layout.{target}
 use Rattle.target_loudness.specs.Rows.{upperCells, lowerCells, dependsCells}
 use Rattle.target_loudness.specs.Write.{targetActs, targetFits, targetLong, targetPart}

@@ -15,8 +15,8 @@ use Rattle.wire.specs.Layout.{of, reads, put, puts, shown, cells, tally}
 use Rattle.wire.proofs.Lists.{every-each}
 use Rattle.frame.specs.Kind.{Lent}
 use Rattle.frame.specs.Numbers.{accepted, refuses}
-use Rattle.frame.specs.Entry.{leaves, onto, into, Sizes, Need, needs, lacking, room, first, others, filled, judging, sizes, placing, reading, measuring, tallying, gives, trail, writing}
-use Rattle.frame.specs.Body.{layouts, parse, placed, tables, zeros}
+use Rattle.frame.specs.Entry.{leaves, onto, into, Sizes, Need, needs, lacking, room, firstTable, otherTables, filled, judging, sizes, placing, reading, measuring, tallying, gives, trail, writing}
+use Rattle.frame.specs.Body.{layouts, parse, withPlace, tables, zeros}
 use Rattle.frame.specs.Ranges.{ranged, rangedRow}
 use Rattle.frame.specs.Claims.{Lowest, this, later, Claims, Fixed}
 use Rattle.frame.proofs.Numbers.{refused-back, answer-by, fixes}
@@ -41,7 +41,7 @@ use Rattle.text_label.proofs.Parsed.{entries-long, body-run}
 use Rattle.text_label.proofs.Found.{Counted, all-counted, rowsFrom, rows-counted, languages-found}
 
 samples : Samples kind
-unfolding reading into judging placing run measuring onto sizes tallying kind parse reads put puts split total _>>=_ many u8 pass head groups switchGroups presets tables zeros tally shown sum ones onesIn needs lacking room first others filled flatten flatMap firsts each cells placed layouts ranged
+unfolding reading into judging placing run measuring onto sizes tallying kind parse reads put puts split total _>>=_ many u8 pass head groups switchGroups presets tables zeros tally shown sum ones onesIn needs lacking room firstTable otherTables filled flatten flatMap firsts each cells withPlace layouts ranged
 samples = record {
   lent = (9 ∷ 9 ∷ 9 ∷ 9 ∷ 9 ∷ 9 ∷ 9 ∷ 9 ∷ 9 ∷ 9 ∷ 9 ∷ 9 ∷ 9 ∷ []) ∷ (9 ∷ 9 ∷ 9 ∷ 9 ∷ 9 ∷ []) ∷ [];
   one = 0x07 ∷ 0xF1 ∷ 0x65 ∷ 0x6E ∷ 0x67 ∷ 0x80 ∷ 0xE0 ∷ 0xE1 ∷ 0xE2 ∷ 0x02 ∷ 0x48 ∷ 0x69 ∷ [];
@@ -100,17 +100,17 @@ abbrev need7 : ℕ → Need
 need7 n = record { number = 7; columns = 4; rows = n }
 
 low-entries : (languages entries : List ℕ) (l n : ℕ) {t r : ℕ} → l ≤ length languages / 12 → Lowest (need7 n ∷ []) (entries ∷ []) t r → Lacks languages entries l n t r
-unfolding room first
+unfolding room firstTable
 low-entries languages entries l n h (this k) = in-entries h k
 low-entries languages entries l n h (later k d) = absurd (nothing d refl)
 
 low : (languages entries : List ℕ) (l n : ℕ) {t r : ℕ} → Lowest (needed l n) (languages ∷ entries ∷ []) t r → Lacks languages entries l n t r
-unfolding room first others
+unfolding room firstTable otherTables
 low languages entries l n (this h) = in-languages h
 low languages entries l n (later h d) = low-entries languages entries l n h d
 
 lowest : (languages entries : List ℕ) (l n : ℕ) {t r : ℕ} → Lacks languages entries l n t r → Lowest (needed l n) (languages ∷ entries ∷ []) t r
-unfolding room first others
+unfolding room firstTable otherTables
 lowest languages entries l n (in-languages h) = this h
 lowest languages entries l n (in-entries h k) = later h (this k)
 
@@ -159,7 +159,7 @@ runs-on n (l ∷ ls) (all-cons c h) =
 -- of tables that were read: the rows of table 6 have their entries in table 7 from its front on, and none between; as many rows as measuring counts
 pub read-tables : (body languages entries languages′ entries′ : List ℕ) (m : MpegH3dAudioTextLabel) → reading kind body (languages ∷ entries ∷ []) ≡ leaves (accepted m) (languages′ ∷ entries′ ∷ [])
     → (rows : ℕ) × (k : ℕ) × (measuring kind body ≡ accepted (sized (m .languages) rows k)) × RunsOn 0 (each (λ i. languageOf languages′ (i * 12)) 0 (m .languages)) rows
-unfolding kind filled tables first others measuring onto sizes needs placed each
+unfolding kind filled tables firstTable otherTables measuring onto sizes needs withPlace each
 read-tables body languages entries languages′ entries′ m e =
     let w = was kind body (languages ∷ entries ∷ []) m (languages′ ∷ entries′ ∷ []) e in
     let ls = w .sound .tree .1 .0 in
@@ -167,7 +167,7 @@ read-tables body languages entries languages′ entries′ m e =
     let count = length (flatMap entriesOf ls) in
     let x = flatten (rowsFrom ls) in
     let n : length ls ≡ m .languages = b .counted ∙ sym (ap (λ (r : List ℕ). getD r 2 0) (b .is)) ∙ ap (λ (m : MpegH3dAudioTextLabel). m .languages) (w .top-is) in
-    let a : x ++ drop (length x) languages ≡ languages′ = ap (λ (l : Lent). first l) (w .after-is) in
+    let a : x ++ drop (length x) languages ≡ languages′ = ap (λ (l : Lent). firstTable l) (w .after-is) in
     let r : RunsOn 0 (languagesFrom 0 ls) count = subst (RunsOn 0 (languagesFrom 0 ls)) (zero-add count) (runs-on 0 ls (all-counted body b)) in
     let q : languagesFrom 0 ls ≡ each (λ i. languageOf languages′ (i * 12)) 0 (length ls) = sym (languages-found ls (drop (length x) languages)) ∙ ap (λ (t : List ℕ). each (λ i. languageOf t (i * 12)) 0 (length ls)) a in
     let z : measuring kind body ≡ accepted (sized (length ls) count (w .sound .before)) = ap (onto (sizes kind)) (w .judges) ∙ λ i. accepted (sized (rows-counted ls i) count (w .sound .before)) in (

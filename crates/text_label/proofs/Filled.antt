@@ -9,10 +9,10 @@ use Rattle.wire.specs.Lists.{each}
 use Rattle.wire.specs.Prog.{done, run, many}
 use Rattle.wire.specs.Layout.{of, row, Borne, borne, borneRow}
 use Rattle.wire.specs.Nest.{Fillable, Nested, Nests}
-use Rattle.wire.proofs.Steps.{sets-append}
+use Rattle.wire.proofs.reading.Steps.{sets-append}
 use Rattle.wire.proofs.Tables.{flat-map}
-use Rattle.wire.proofs.Nest.{Stored, nested-as, Nesting, nest-start, nest-ready, nest-turn, nest-end}
-use Rattle.wire.proofs.Rowed.{each-wide, rows-long}
+use Rattle.wire.proofs.reading.Nest.{Stored, nested-as, Nesting, nest-start, nest-ready, nest-turn, nest-end}
+use Rattle.wire.proofs.layouts.Rowed.{each-wide, rows-long}
 use Rattle.wire.proofs.Lists.{flatten-append}
 use Rattle.frame.specs.Body.{tables}
 use Rattle.frame.specs.Ranges.{ranged}

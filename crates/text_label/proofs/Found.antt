@@ -7,9 +7,9 @@ use lib.ListN.{length, getD, length-map}
 use Rattle.wire.specs.Lists.{Every, all-nil, all-cons, each, firsts}
 use Rattle.wire.specs.Prog.{done, run, many}
 use Rattle.wire.specs.Layout.{of, at, row}
-use Rattle.wire.proofs.Nest.{firsts-length}
-use Rattle.wire.proofs.Loops.{many-next, many-none}
-use Rattle.wire.proofs.Rowed.{Wide, each-as, each-wide, found}
+use Rattle.wire.proofs.reading.Nest.{firsts-length}
+use Rattle.wire.proofs.reading.Loops.{many-next, many-none}
+use Rattle.wire.proofs.layouts.Rowed.{Wide, each-as, each-wide, found}
 use Rattle.frame.specs.Ranges.{ranged, rangedRow}
 use Rattle.text_label.specs.Rows.{languageOf, Language, TextLabel}
 use Rattle.text_label.specs.Read.{language}

@@ -12,11 +12,11 @@ use Rattle.wire.specs.Act.{Act}
 use Rattle.wire.specs.Pen.{clean, bytes}
 use Rattle.wire.specs.Layout.{at}
 use Rattle.wire.proofs.Fields.{fits-cons}
-use Rattle.wire.proofs.Acts.{and-both, clean-both}
-use Rattle.wire.proofs.Most.{both-long, most, rows-most, bearing-most}
+use Rattle.wire.proofs.writing.Acts.{and-both, clean-both}
+use Rattle.wire.proofs.layouts.Most.{both-long, most, rows-most, bearing-most}
 use Rattle.frame.specs.Kind.{Lent}
 use Rattle.frame.specs.Numbers.{refuses}
-use Rattle.frame.specs.Entry.{Writes, first, others}
+use Rattle.frame.specs.Entry.{Writes, firstTable, otherTables}
 use Rattle.frame.proofs.Largest.{longest}
 use Rattle.labels.specs.Layout.{label}
 use Rattle.labels.specs.Write.{rowActs as entryRow, countByte, listActs}
@@ -67,4 +67,4 @@ body-most m t u store c =
 -- where writing answers 10, the length is at most 794,222
 pub largest : (m : MpegH3dAudioTextLabel) (lent : Lent) (store out after : List ℕ) (n : ℕ) → m .trailing .length < 65536 → Writes kind m lent store out (refuses 10 (n ∷ [])) after → n ≤ 794222
 unfolding kind
-largest m lent store out after n h w = longest kind m lent store 728687 (subst (λ (q : List Act). clean q ≡ true → length (bytes q) ≤ 728687) (sym (written-so m lent store)) (body-most m (first lent) (first (others lent)) store)) h out after n w
+largest m lent store out after n h w = longest kind m lent store 728687 (subst (λ (q : List Act). clean q ≡ true → length (bytes q) ≤ 728687) (sym (written-so m lent store)) (body-most m (firstTable lent) (firstTable (otherTables lent)) store)) h out after n w

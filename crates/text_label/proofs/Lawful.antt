@@ -8,9 +8,9 @@ use Rattle.wire.specs.Lists.{all-nil, all-cons, each}
 use Rattle.wire.specs.Bits.{total}
 use Rattle.wire.specs.declared.rows.Payload.{Payload}
 use Rattle.wire.specs.Layout.{Columns, of, row, shown, cells, every, flagged, has, bearingHeeds}
-use Rattle.wire.proofs.Cells.{all, distinct, free, eights, proper, bytewide, in-bytes}
-use Rattle.wire.proofs.Forms.{form-all, form-proper, form-in-bytes, sure, below}
-use Rattle.wire.proofs.Rowed.{weight}
+use Rattle.wire.proofs.layouts.Cells.{all, distinct, free, eights, proper, bytewide, in-bytes}
+use Rattle.wire.proofs.layouts.Forms.{form-all, form-proper, form-in-bytes, sure, below}
+use Rattle.wire.proofs.layouts.Rowed.{weight}
 use Rattle.frame.specs.Kind.{Heeded}
 use Rattle.frame.specs.Body.{heeding, plainly, layouts, heeds, heedsOf}
 use Rattle.frame.specs.Ranges.{firstsOf}

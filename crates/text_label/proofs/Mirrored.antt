@@ -10,18 +10,18 @@ use lib.Seq.{getD-drop}
 use lib.Dec.{leb}
 use Rattle.wire.specs.Lists.{each}
 use Rattle.wire.specs.Bits.{part, total, split}
-use Rattle.wire.specs.Prog.{Prog, ret, look, u8, bytes, pass, many, _>>=_}
+use Rattle.wire.specs.Prog.{Prog, ret, look, u8, u8s, pass, many, _>>=_}
 use Rattle.wire.specs.Act.{Act, demand, byte, rows}
 use Rattle.wire.specs.declared.pen.Fault.the-variants as F
 use Rattle.wire.specs.Layout.{Columns, from, put, puts, reads, cells, matches, matched, shown, writes, every, has, Borne, bearing}
 use Rattle.wire.proofs.Lists.{second, third}
-use Rattle.wire.proofs.Runs.{bind-assoc}
+use Rattle.wire.proofs.reading.Runs.{bind-assoc}
 use Rattle.labels.specs.Layout.{label}
 use Rattle.labels.specs.Read.{entry, Labels, labelsOver}
 use Rattle.labels.specs.Rows.{range, descriptions}
 use Rattle.labels.specs.Write.{inTable, countByte, entriesActs, listActs}
 use Rattle.frame.specs.Kind.{Lent}
-use Rattle.frame.specs.Entry.{first, others}
+use Rattle.frame.specs.Entry.{firstTable, otherTables}
 use Rattle.frame.specs.Body.{layouts, parse, inside, pieced, beyond}
 use Rattle.frame.specs.Ranges.{allInside, rangedBytes, rangedActs}
 use Rattle.frame.proofs.Pieces.{and-true}
@@ -53,7 +53,7 @@ unfolding labelsOver u8 _>>=_
 list-so w p k = λ i. look 1 (λ b. sym (bind-assoc (many (part 0 w (getD b 0 0)) p) (λ l. ret (labelsOf w (getD b 0 0) l)) k) i)
 
 pub language-so : languageRows .reads ≡ language
-unfolding parse groups switchGroups presets reads puts put split total languageOver bytes _>>=_ each
+unfolding parse groups switchGroups presets reads puts put split total languageOver u8s _>>=_ each
 language-so =
     let p : ℕ → Prog Borne = λ w. bearing (label w) in
     let is : List ℕ → Labels → Labels → Labels → Prog Language = λ l g s q. ret (languageIs l g s q) in
@@ -72,7 +72,7 @@ parse-over = λ i. look 1 (λ a. look 1 (λ b. many (part 0 4 (getD b 0 0)) (lan
 -- and with that of its labels
 pub mirrored : kind .program ≡ textLabel
 unfolding languageOver
-mirrored = parse-over ∙ (λ i. textLabelOver (bytes 3 >>= λ l. labelsOver 7 (seven-so i) >>= λ g. labelsOver 5 (five-so i) >>= λ s. labelsOver 5 (five-so i) >>= λ p. ret (languageIs l g s p)))
+mirrored = parse-over ∙ (λ i. textLabelOver (u8s 3 >>= λ l. labelsOver 7 (seven-so i) >>= λ g. labelsOver 5 (five-so i) >>= λ s. labelsOver 5 (five-so i) >>= λ p. ret (languageIs l g s p)))
 
 -- ---- and is written as the Rust's `write`
 
@@ -96,12 +96,12 @@ columns-so t b =
     }
 
 -- behind its last list stands nothing
-row-so : (lent : Lent) (store : List ℕ) (g : Columns) → rangedActs 12 lists (length (first lent) / 4) lent store g ≡ languageActs (first lent) store (languageAt g)
+row-so : (lent : Lent) (store : List ℕ) (g : Columns) → rangedActs 12 lists (length (firstTable lent) / 4) lent store g ≡ languageActs (firstTable lent) store (languageAt g)
 unfolding allInside rangedBytes layouts groups switchGroups presets cells matches matched shown writes every flatten languageActs listActs
 row-so lent store g = λ i. ends (λ t. and-true t i) (λ q. append-nil q i)
   where
     u : List ℕ
-    u = first lent
+    u = firstTable lent
 
     l : TextLabelLanguage
     l = languageAt g
@@ -116,21 +116,21 @@ row-so lent store g = λ i. ends (λ t. and-true t i) (λ q. append-nil q i)
         ++ (listActs 7 u store (l .groups) ++ (listActs 5 u store (l .«switch_groups») ++ (byte (countByte 5 (l .presets)) ∷ f (entriesActs 5 u store (l .presets .entries)))))
 
 module _ (m : MpegH3dAudioTextLabel) (lent : Lent) (store : List ℕ) where
-  languages-so : rows (languageRows .acts lent store) 0 (m .languages) ≡ rows (rowActs (first lent) (first (others lent)) store) 0 (m .languages)
-  languages-so = λ i. rows (λ j. (row-so (others lent) store (from (first lent) (j * 12)) ∙ ap (languageActs (first (others lent)) store) (columns-so (first lent) (j * 12))) i) 0 (m .languages)
+  languages-so : rows (languageRows .acts lent store) 0 (m .languages) ≡ rows (rowActs (firstTable lent) (firstTable (otherTables lent)) store) 0 (m .languages)
+  languages-so = λ i. rows (λ j. (row-so (otherTables lent) store (from (firstTable lent) (j * 12)) ∙ ap (languageActs (firstTable (otherTables lent)) store) (columns-so (firstTable lent) (j * 12))) i) 0 (m .languages)
 
   -- neither a range nor a byte stands behind the languages
-  pub written-so : kind .acts m lent store ≡ textLabelActs m (first lent) (first (others lent)) store
+  pub written-so : kind .acts m lent store ≡ textLabelActs m (firstTable lent) (firstTable (otherTables lent)) store
   unfolding kind layouts inside pieced beyond textLabelActs head cells matches matched shown writes every flatten has
   written-so = case ∙ λ i. ends (λ t. and-true t i) (λ q. append-nil q i) (languages-so i)
     where
       ends : (Bool → Bool) → (List Act → List Act) → List Act → List Act
-      ends t f q = demand F.Range (t (leb (m .languages) (length (first lent) / 12))) ∷ demand F.Field true ∷ demand F.Empty true ∷ map byte (headFields m) ++ f q
+      ends t f q = demand F.Range (t (leb (m .languages) (length (firstTable lent) / 12))) ∷ demand F.Field true ∷ demand F.Empty true ∷ map byte (headFields m) ++ f q
 
       case : kind .acts m lent store ≡ ends (λ t. t && true) (λ q. q ++ []) (rows (languageRows .acts lent store) 0 (m .languages))
       case = refl
 
 -- t and u are tables 6 and 7
 pub acts-are : (m : MpegH3dAudioTextLabel) (t u store : List ℕ) → kind .acts m (t ∷ u ∷ []) store ≡ textLabelActs m t u store
-unfolding first others
+unfolding firstTable otherTables
 acts-are m t u store = written-so m (t ∷ u ∷ []) store

@@ -8,7 +8,7 @@ use lib.ListN.{length, getD, length-append, length-map, take}
 use lib.Seq.{slice, getD-drop, getD-take}
 use Rattle.wire.specs.Lists.{each, sum}
 use Rattle.wire.specs.Bits.{part, total}
-use Rattle.wire.specs.Prog.{Prog, ret, Out, done, short, run, u8, bytes, pass, many, _>>=_}
+use Rattle.wire.specs.Prog.{Prog, ret, Out, done, short, run, u8, u8s, pass, many, _>>=_}
 use Rattle.wire.specs.Reads.{runOut, endsOut, shortOf, endOf, Summed}
 use Rattle.wire.specs.Layout.{Borne, bearing, borneRow}
 use Rattle.wire.specs.Straight.{ends, ones}
@@ -19,14 +19,16 @@ use Rattle.wire.specs.declared.reads.Ends.{Ends}
 use Rattle.wire.specs.declared.reads.Ends.the-variants as E
 use Rattle.wire.specs.declared.reads.Sum.{Sum}
 use Rattle.wire.specs.declared.reads.Sum.the-variants as S
-use Rattle.wire.proofs.Runs.{run-split, run-ret}
-use Rattle.wire.proofs.Walk.{From, begun, onward, finished, as-done, cut-off-as, bytes-end, byte-taken, bytes-taken}
-use Rattle.wire.proofs.Loops.{many-long, many-weighs, Went-on, sum-onward, sum-cut-off, summed-done, summed-short, summed-cut, sum-small}
-use Rattle.wire.proofs.Nest.{flat-length, sum-suc}
-use Rattle.wire.proofs.Straight.{singly, singly-there, singly-cut, ends-at, ends-within, total-append}
-use Rattle.wire.proofs.Bearers.{headSizes, sizeIs, bear-ends}
+use Rattle.wire.proofs.reading.Runs.{run-split, run-ret}
+use Rattle.wire.proofs.reading.Walk.{From, begun, onward, finished, as-done, cut-off-as, bytes-end, byte-taken, bytes-taken}
+use Rattle.wire.proofs.reading.Loops.{many-long, many-weighs, Went-on, sum-onward, sum-cut-off, summed-done, summed-short, summed-cut, sum-small}
+use Rattle.wire.proofs.reading.Nest.{flat-length, sum-suc}
+use Rattle.wire.proofs.layouts.Straight.{singly, singly-there, singly-cut, ends-at, ends-within, ends-few, total-append}
+use Rattle.wire.proofs.layouts.Bearers.{headSizes, sizeIs, bear-ends}
 use Rattle.wire.proofs.Fields.{part-below}
+use Rattle.frame.specs.Entry.{too-short, Measures}
 use Rattle.frame.specs.Body.{tables}
+use Rattle.frame.proofs.Entries.{measures-short}
 use Rattle.labels.specs.Layout.{label}
 use Rattle.labels.specs.Read.{Labels, labelsOver, labels}
 use Rattle.text_label.specs.Rows.{letters, Language, TextLabel}
@@ -97,7 +99,7 @@ entries-long l =
       length-map (l .1 .1 .1 .0) (borneRow (label 5)),
     )
 
-ends-three : (s : List ℕ) (at : ℕ) {o : Out ℕ} → o ≡ run (pass 3) s at → endOf o ≡ endOf (run (bytes 3) s at)
+ends-three : (s : List ℕ) (at : ℕ) {o : Out ℕ} → o ≡ run (pass 3) s at → endOf o ≡ endOf (run (u8s 3) s at)
 ends-three s at e = ap endOf e ∙ sym (bytes-end 3 s at)
 
 -- measured: its three bytes, then list after list
@@ -106,12 +108,12 @@ module _ (s : List ℕ) (at : ℕ) (h : at ≤ length s) {o : Run} (e : runOut o
   unfolding languageOver
   letters-lack d q =
       let z : shortOf (endOf (runOut o)) ≡ shortOf (runOut o) = ap (λ (o : Run). shortOf (endOf (runOut o))) d ∙ sym (ap (λ (o : Run). shortOf (runOut o)) d) in
-      summed-short (cut-off-as (bytes 3) (λ l. tt) afterLetters (begun language s at h) (ends-three s at e) (ap (λ (o : Run). endOf (runOut o)) d) (q ∙ sym z))
+      summed-short (cut-off-as (u8s 3) (λ l. tt) afterLetters (begun language s at h) (ends-three s at e) (ap (λ (o : Run). endOf (runOut o)) d) (q ∙ sym z))
 
   module _ {p n : ℕ} (d : o ≡ R.Got p n) where
     three : (l : List ℕ) × From language s at (afterLetters l) n
     unfolding languageOver
-    three = let (l, r, _) = as-done (λ (l : List ℕ). tt) (run (bytes 3) s at) (sym (ends-three s at e) ∙ ap (λ (o : Run). endOf (runOut o)) d) in (l, onward (bytes 3) afterLetters (begun language s at h) refl r)
+    three = let (l, r, _) = as-done (λ (l : List ℕ). tt) (run (u8s 3) s at) (sym (ends-three s at e) ∙ ap (λ (o : Run). endOf (runOut o)) d) in (l, onward (u8s 3) afterLetters (begun language s at h) refl r)
 
     pub letters-got : n ≤ length s
     letters-got = three .1 .inside
@@ -263,6 +265,13 @@ module _ (s : List ℕ) {o : Ends} (q : endsOut o ≡ ends (ones 2) s 0) where
             let g = sum-onward (many c language) (λ l. ret (bodyIs (getD s 0 0) (getD s 1 0) l)) (head-there s second-there) x q in
             rw q (summed-done (finished (g .place) refl) (sym (g .is)) (omega (arith, sum-small x q, count-four (getD s 1 0) {count = c} refl)))
         go (S.Short y) q x = summed-cut q (sum-cut-off (many c language) (λ l. ret (bodyIs (getD s 0 0) (getD s 1 0) l)) (head-there s second-there) x q)
+
+-- a body that ends before its languages is refused
+pub headless : (s : List ℕ) {o : Out (Unit {0})} → o ≡ ends (ones 2) s 0 → {x : Short} → o ≡ short x → Measures kind s (too-short (shortOf o))
+unfolding textLabelOver singly ones total
+headless s e d =
+    let q = as-program s (singly-cut 2 (λ l. afterHead (getD l 0 0) (getD l 1 0)) s 0 (sym e ∙ d)) in
+    subst (λ (y : Short). Measures kind s (too-short y)) (sym (ap shortOf d)) (measures-short kind s (omega (arith, ends-few (ones 2) s 0 (sym e ∙ d))) q)
 
 -- the languages of a body that was read begin behind the second byte
 pub record BodyRun (s : List ℕ) (t : TextLabel) (k : ℕ) : Type 0 where

@@ -1,49 +1,56 @@
 -- What is known of a body that was measured: its sizes, its record, its tally, and that filling tables 6 and 7 gives the rows of the tree.
-use Prim.Native.Nat.{ℕ, _+_, _*_, _≤_, _<_}
+use Prim.Native.Nat.{ℕ, _+_, _*_, _/_, _≤_, _<_}
 use mathlib.Core.Path.{_≡_, refl, sym, ap, subst, _∙_}
 use mathlib.Core.List.{List, [], _∷_, _++_, map, flatten, flatMap}
-use mathlib.Core.Bool.{true}
+use mathlib.Core.Bool.{Bool, true, false}
 use mathlib.Core.Option.{none}
 use native.Mathlib.Omega.{arith}
 use lib.ListN.{length, getD, drop}
 use lib.Seq.{sets}
+use lib.Dec.{eqb}
+use borrow.Author.Tests.{eqb-true, le-leb}
 use Rattle.wire.specs.Lists.{Every, all-cons, each, sum, firsts}
 use Rattle.wire.specs.Bits.{part, zeros}
-use Rattle.wire.specs.Prog.{done, run, many}
-use Rattle.wire.specs.Reads.{sumOut, mapOut, isDone, Summed}
+use Rattle.wire.specs.Prog.{ret, done, run, many, _>>=_}
+use Rattle.wire.specs.Reads.{endsOut, sumOut, mapOut, isDone, Summed}
+use Rattle.wire.specs.Straight.{ends, ones}
 use Rattle.wire.specs.Layout.{shown, cells, tally}
 use Rattle.wire.specs.Nest.{Fillable, Nests}
 use Rattle.wire.specs.declared.rows.Payload.{Payload}
+use Rattle.wire.specs.declared.reads.Ends.{Ends}
+use Rattle.wire.specs.declared.reads.Ends.the-variants as E
 use Rattle.wire.specs.declared.reads.Short.{Short}
 use Rattle.wire.specs.declared.reads.Sum.{Sum}
 use Rattle.wire.specs.declared.reads.Sum.the-variants as S
 use Rattle.wire.proofs.Tables.{flat-map}
 use Rattle.wire.proofs.Fields.{part-below}
-use Rattle.wire.proofs.Walk.{as-done}
-use Rattle.wire.proofs.Takes.{run-takes}
-use Rattle.wire.proofs.Loops.{sum-small}
-use Rattle.wire.proofs.Rowed.{Wide}
+use Rattle.wire.proofs.reading.Walk.{step, run-ret, as-done}
+use Rattle.wire.proofs.reading.Takes.{run-takes}
+use Rattle.wire.proofs.reading.Loops.{none-left, sum-small}
+use Rattle.wire.proofs.layouts.Rowed.{Wide}
 use Rattle.wire.proofs.Lists.{flat-rows}
-use Rattle.wire.proofs.Fronts.{front}
+use Rattle.wire.proofs.layouts.Fronts.{front}
 use Rattle.frame.specs.declared.Room.{Room}
 use Rattle.frame.specs.declared.Room.the-variants as M
 use Rattle.frame.specs.Numbers.{accepted}
-use Rattle.frame.specs.Entry.{too-short, onto, Sizes, needs, room, first, others, lacking, filled, sizes, tail, Measures, Tallies}
+use Rattle.frame.specs.Entry.{too-short, onto, Sizes, needs, room, firstTable, otherTables, lacking, filled, sizes, tail, Measures, Tallies, Reads}
 use Rattle.frame.specs.Sight.{andTable, andTables, Tops, Roomy, Fills}
 use Rattle.frame.specs.Body as B
-use Rattle.frame.specs.Body.{layouts, placed, tables}
+use Rattle.frame.specs.Body.{layouts, withPlace, tables}
 use Rattle.frame.specs.Ranges.{rangedRow}
 use Rattle.frame.proofs.Lawful.{Shaped}
-use Rattle.frame.proofs.Tables.{rowsAt, enough}
+use Rattle.frame.proofs.Tables.{rowsAt, has-table, enough}
 use Rattle.frame.proofs.MoreRoom.{none-fit, fit-head}
-use Rattle.frame.proofs.Entries.{measures-done, measures-cut, tallies, Known, known, tops-known, fills-known}
+use Rattle.frame.proofs.Entries.{measures-done, measures-cut, tallies, Known, known, tops-known, fills-known, reads-filled}
+use Rattle.text_label.specs.declared.rows.MpegH3dAudioTextLabel.{MpegH3dAudioTextLabel}
 use Rattle.text_label.specs.Layout.{head}
 use Rattle.text_label.specs.Rows.{Language, TextLabel}
 use Rattle.text_label.specs.Read.{language}
 use Rattle.text_label.specs.Kind.{lists, entriesOf, languageRows, pieces, kind}
-use Rattle.text_label.specs.Contract.{needed, sized, rowFrom}
+use Rattle.text_label.specs.Contract.{needed, sized, Bare, rowFrom}
 use Rattle.text_label.proofs.Lawful.{lawful}
-use Rattle.text_label.proofs.Parsed.{sizeOf, rowsIn, BodyRun, body-run}
+use Rattle.text_label.proofs.Parsed as P
+use Rattle.text_label.proofs.Parsed.{second-there, bodyIs, sizeOf, rowsIn, BodyRun, body-run}
 use Rattle.text_label.proofs.Filled.{cells as columnsIn}
 use Rattle.text_label.proofs.Found.{rowsFrom, rows-counted, rows-wide}
 
@@ -72,11 +79,26 @@ module _ (body : List ℕ) (h : length body ≤ 65535) {r : Sum} (w : Summed (ki
 pub measured-short : (body : List ℕ) → length body ≤ 65535 → {r : Sum} → Summed (kind .program) rowsIn 5715 body 0 r → {x : Short} → r ≡ S.Short x → Measures kind body (too-short x)
 measured-short body h w e = measures-cut kind rowsIn body h (sym (ap sumOut e) ∙ w .is)
 
+-- ---- without languages
+
+pub not-bare : (body : List ℕ) → Bare body false
+not-bare body = record { sizes = λ e. absurd (let z : _≡_ {A = ℕ} 0 1 = cc e in omega arith) }
+
+pub bare-so : (body : List ℕ) {o : Ends} {n count : ℕ} → length body ≤ 65535 → endsOut o ≡ ends (ones 2) body 0 → o ≡ E.At n → count ≡ part 0 4 (getD body 1 0) → Bare body (eqb count 0)
+unfolding flatMap _>>=_
+bare-so body {count = count} h e d c = record {
+  sizes = λ q.
+      let z : part 0 4 (getD body 1 0) ≡ 0 = sym c ∙ eqb-true count 0 q in
+      let w = P.head-there body (second-there body e d) in
+      let r : run (kind .program) body 0 ≡ done (bodyIs (getD body 0 0) (getD body 1 0) []) 2 = w .same ∙ step (many (part 0 4 (getD body 1 0)) language) (λ l. ret (bodyIs (getD body 0 0) (getD body 1 0) l)) body 2 refl (ap (λ (k : ℕ). run (many k language) body 2) z ∙ none-left language body 0 2 (omega arith)) ∙ run-ret (bodyIs (getD body 0 0) (getD body 1 0) []) body 2 in
+      subst (λ (z : Sizes). Measures kind body (accepted z)) (sizes-are (bodyIs (getD body 0 0) (getD body 1 0) []) 2) (measures-done kind body h r);
+}
+
 -- ---- the room of both tables
 
 module _ (l n : ℕ) (t u : List ℕ) {a r : Room} (d : a ≡ andTable M.Enough (record { number = 6; columns = 12; rows = l }) t) (e : r ≡ andTable a (record { number = 7; columns = 4; rows = n }) u) where
   pub room-so : r ≡ andTables M.Enough (needed l n) (t ∷ u ∷ [])
-  unfolding andTables first others
+  unfolding andTables firstTable otherTables
   room-so = e ∙ ap (λ (a : Room). andTable a (record { number = 7; columns = 4; rows = n }) u) d
 
   pub has-room : r ≡ M.Enough → lacking (needed l n) (t ∷ u ∷ []) ≡ none
@@ -95,7 +117,7 @@ module _ (body : List ℕ) {l n k : ℕ} (m : Measures kind body (accepted (size
   ls = knows .sound .tree .1 .0
 
   sized-so : sized (length ls) (rowsIn (knows .sound .tree)) (knows .sound .before) ≡ sized l n k
-  sized-so = sym (sizes-are (knows .sound .tree) (knows .sound .before)) ∙ knows .sized
+  sized-so = sym (sizes-are (knows .sound .tree) (knows .sound .before)) ∙ knows .size-is
 
   count-is : length ls ≡ l
   count-is = ap (λ (z : Sizes). rowsAt 0 (z .tables)) sized-so
@@ -110,7 +132,7 @@ module _ (body : List ℕ) {l n k : ℕ} (m : Measures kind body (accepted (size
   two-measured = runs .inside
 
   tops-are : {a b : ℕ} {p : Payload} → a ≡ part 0 8 (getD body 0 0) → b ≡ part 4 4 (getD body 1 0) → p ≡ tail k body → Tops kind body (record { «scene_info_id» = a; reserved = b; languages = l; trailing = p })
-  unfolding kind placed each
+  unfolding kind withPlace each
   tops-are e f g =
       let q : (j : ℕ) → getD (part 0 8 (getD body 0 0) ∷ part 4 4 (getD body 1 0) ∷ part 0 4 (getD body 1 0) ∷ []) j 0 ≡ getD (knows .sound .tree .0) j 0 = λ j. ap (λ (r : List ℕ). getD r j 0) (sym (runs .is)) in
       tops-known kind knows (λ i. record { «scene_info_id» = (e ∙ q 0) i; reserved = (f ∙ q 1) i; languages = (sym count-is ∙ runs .counted ∙ q 2) i; trailing = g i })
@@ -142,9 +164,9 @@ module _ (body : List ℕ) {l n k : ℕ} (m : Measures kind body (accepted (size
 
   module _ (t u : List ℕ) (r : Roomy kind body (t ∷ u ∷ [])) where
     both-fit : (l * 12 ≤ length t) × (n * 4 ≤ length u)
-    unfolding kind sizes room first others
+    unfolding kind sizes room firstTable otherTables
     both-fit =
-        let e : lacking (needed l n) (t ∷ u ∷ []) ≡ none = ap (λ (z : Sizes). lacking (z .tables) (t ∷ u ∷ [])) (sym (knows .sized)) ∙ r .room (knows .sound) (knows .judges) in
+        let e : lacking (needed l n) (t ∷ u ∷ []) ≡ none = ap (λ (z : Sizes). lacking (z .tables) (t ∷ u ∷ [])) (sym (knows .size-is)) ∙ r .room (knows .sound) (knows .judges) in
         let (a, f) = fit-head (none-fit (needed l n) (t ∷ u ∷ []) e) in
         let (b, _) = fit-head f in
         (omega (arith, a), omega (arith, b))
@@ -163,7 +185,7 @@ module _ (body : List ℕ) {l n k : ℕ} (m : Measures kind body (accepted (size
         go (all-cons a (all-cons b c)) = b
 
     pub languages-filled : {t′ u′ : List ℕ} → Nests language sizeOf rowFrom columnsIn body 2 l t u t′ u′ → Fills kind body (t ∷ u ∷ []) (t′ ∷ u′ ∷ [])
-    unfolding kind tables filled first others
+    unfolding kind tables filled firstTable otherTables
     languages-filled {t′} {u′} v =
         let z : done (v .value) (v .end) ≡ done ls (knows .sound .before) = sym (v .reads) ∙ languages-read in
         let e : v .value ≡ ls = cc z in
@@ -173,3 +195,23 @@ module _ (body : List ℕ) {l n k : ℕ} (m : Measures kind body (accepted (size
         in
         let b : u′ ≡ flatten es ++ drop (length (flatten es)) u = v .inner ∙ ap (λ (l : List Language). sets u 0 (flatMap columnsIn l)) e ∙ ap (sets u 0) (flat-rows entriesOf ls) ∙ front 4 es u entries-wide (omega (arith, both-fit .1, rows-are)) in
         fills-known kind knows (λ i. a i ∷ b i ∷ [])
+
+-- ---- without languages no room is asked, and the tables stay
+
+bare-room : (t u : List ℕ) → lacking (needed 0 0) (t ∷ u ∷ []) ≡ none
+bare-room t u = has-room 0 0 t u (has-table _ t refl (le-leb 0 (length t / 12) (omega arith))) (has-table _ u refl (le-leb 0 (length u / 4) (omega arith))) refl
+
+bare-fills : (body : List ℕ) → Measures kind body (accepted (sized 0 0 2)) → (t u : List ℕ) → Fills kind body (t ∷ u ∷ []) (t ∷ u ∷ [])
+unfolding kind tables filled firstTable otherTables flatten firsts flatMap
+bare-fills body m t u = fills-known kind (knows body m) (go (knows body m .sound .tree .1 .0) (count-is body m))
+  where
+    go : (ls : List Language) → length ls ≡ 0 → t ∷ u ∷ [] ≡ filled (tables pieces (ls, tt)) (t ∷ u ∷ [])
+    go [] e = refl
+    go (l ∷ ls) e = absurd (omega arith)
+
+module _ {body : List ℕ} {r : Bool} (b : Bare body r) (e : r ≡ true) where
+  pub bare-sizes : Measures kind body (accepted (sized 0 0 2))
+  bare-sizes = b .sizes e
+
+  pub bare-reads : {p : MpegH3dAudioTextLabel} → Tops kind body p → (t u : List ℕ) → Reads kind body (t ∷ u ∷ []) (accepted p) (t ∷ u ∷ [])
+  bare-reads p t u = reads-filled kind body bare-sizes (t ∷ u ∷ []) (t ∷ u ∷ []) (bare-room t u) (bare-fills body bare-sizes t u) p

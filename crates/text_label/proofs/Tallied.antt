@@ -10,8 +10,8 @@ use Rattle.wire.specs.Lists.{sum}
 use Rattle.wire.specs.Prog.{done, run}
 use Rattle.wire.specs.Reads.{mapOut, isDone}
 use Rattle.wire.specs.Layout.{cells, shown, tally}
-use Rattle.wire.proofs.Walk.{as-done, is-done}
-use Rattle.wire.proofs.Loops.{Summing, sum-turn, summed-done}
+use Rattle.wire.proofs.reading.Walk.{as-done, is-done}
+use Rattle.wire.proofs.reading.Loops.{Summing, sum-turn, summed-done}
 use Rattle.frame.specs.Body.{layouts, zeros}
 use Rattle.labels.specs.Read.{Labels, labels}
 use Rattle.labels.specs.Contract.{labelsTally}

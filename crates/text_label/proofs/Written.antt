@@ -13,8 +13,8 @@ use Rattle.wire.specs.Pen.{Checked, clean}
 use Rattle.wire.specs.declared.pen.Pen.{Pen}
 use Rattle.wire.specs.declared.pen.Pen.the-variants.{At}
 use Rattle.wire.proofs.Fields.{fits-cons}
-use Rattle.wire.proofs.Acts.{and-both}
-use Rattle.wire.proofs.Families.{passed-clean}
+use Rattle.wire.proofs.writing.Acts.{and-both}
+use Rattle.wire.proofs.writing.Passes.{passed-clean}
 use Rattle.labels.specs.Write.{inTable}
 use Rattle.text_label.specs.declared.rows.TextLabelLanguage.{TextLabelLanguage}
 use Rattle.text_label.specs.declared.rows.MpegH3dAudioTextLabel.{MpegH3dAudioTextLabel}
@@ -34,8 +34,8 @@ all-three l u e =
 -- a count of languages that was checked
 pub languages-few : (m : MpegH3dAudioTextLabel) {k n₀ n : ℕ} {r : Pen} → Checked (map byte (headFields m)) k (At n₀) r → r ≡ At n → m .languages < 16
 unfolding clean
-languages-few m w e =
-    let (_, c) = and-both (fit (field 8 (m .«scene_info_id») ∷ [])) _ (passed-clean (map byte (headFields m)) w e) in
+languages-few m {n₀ = n₀} w e =
+    let (_, c) = and-both (fit (field 8 (m .«scene_info_id») ∷ [])) _ (passed-clean (map byte (headFields m)) (At n₀) w e) in
     let (f, _) = and-both (fit (field 4 (m .reserved) ∷ field 4 (m .languages) ∷ [])) _ c in
     fits-cons 4 (m .languages) [] (fits-cons 4 (m .reserved) _ f .1) .0
 

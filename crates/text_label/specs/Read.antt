@@ -3,7 +3,7 @@ use Prim.Native.Nat.{ℕ, _+_}
 use mathlib.Core.List.{List, [], _∷_}
 use lib.ListN.{getD}
 use Rattle.wire.specs.Bits.{part}
-use Rattle.wire.specs.Prog.{Prog, ret, u8, bytes, many, _>>=_}
+use Rattle.wire.specs.Prog.{Prog, ret, u8, u8s, many, _>>=_}
 use Rattle.wire.specs.Layout.{Borne, bearing}
 use Rattle.labels.specs.Layout.{label}
 use Rattle.labels.specs.Read.{entry, Labels, labelsOver}
@@ -24,7 +24,7 @@ languageIs l g s p = (
 -- over any readers of an entry, by the width of its ID; the three bytes of a language are one read
 unfoldable pub languageOver : (ℕ → Prog Borne) → Prog Language
 languageOver e = do
-  l ← bytes 3
+  l ← u8s 3
   g ← labelsOver 7 (e 7)
   s ← labelsOver 5 (e 5)
   p ← labelsOver 5 (e 5)

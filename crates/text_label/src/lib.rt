@@ -1,5 +1,5 @@
 // The text label body (kind 3; H.222.0 2.6.112, Table 2-124): read, measure, tally and write. Its languages are the rows of table 6, their entries those of table 7.
-mod parsing;
+pub mod parsing;
 pub mod rows;
 mod tallying;
 mod writing;
@@ -59,6 +59,14 @@ pub fn measure(body: &[u8]) -> Measured
 pub fn read(body: &[u8], languages: &mut [u16], entries: &mut [u16]) -> Reading
     ensures { λ r. ⌜ Reads kind (now (body .entry)) (now (languages .entry) ∷ now (entries .entry) ∷ []) (read r) (now (languages .exit) ∷ now (entries .exit) ∷ []) ⌝ }
 {
+    if parsing::is_bare(body) {
+        let s = Sizes {
+            languages: 0,
+            entries: 0,
+            k: 2,
+        };
+        return Reading::Done(parsing::record_at(body, s));
+    }
     let m = measure(body);
     match m {
         Measured::Refused(r) => Reading::Refused(r),

@@ -5,14 +5,15 @@ ghost use Prim.Native.Nat.{_+_, _*_, _<_, _≤_};
 ghost use lib.ListN.{length, getD};
 ghost use Rattle.wire.specs.Bits.{part};
 ghost use Rattle.wire.specs.Prog.{many};
-ghost use Rattle.wire.specs.Reads.{Summed};
+ghost use Rattle.wire.specs.Reads.{endsOut, Summed};
+ghost use Rattle.wire.specs.Straight.{ends, ones};
 ghost use Rattle.wire.specs.Nest.{Fillable, Nested, Nests};
 ghost use Rattle.frame.specs.Numbers.{accepted};
 ghost use Rattle.frame.specs.Entry.{Measures};
 ghost use Rattle.frame.specs.Sight.{Tops, Roomy, Fills};
 ghost use Rattle.text_label.specs.Read.{lettersAt, language};
 ghost use Rattle.text_label.specs.Kind.{entriesOf, kind};
-ghost use Rattle.text_label.specs.Contract.{sized, rowFrom, languageFrom};
+ghost use Rattle.text_label.specs.Contract.{sized, Bare, rowFrom, languageFrom};
 use super::Sizes;
 use super::rows::DescriptionLanguage;
 use super::rows::LANGUAGE_COLUMNS;
@@ -77,16 +78,37 @@ fn languages_rows(body: &[u8], at: usize, count: usize) -> Sum
     Sum::Got(rows, pos)
 }
 
+// Where the two bytes before the languages end.
+pub fn head_end(body: &[u8]) -> Ends
+    ensures { λ r. ⌜ endsOut r ≡ ends (ones 2) (now (body .entry)) 0 ⌝ }
+{
+    head(body, 0, 2)
+}
+
 // The entries of a body, and k.
 pub fn rows(body: &[u8]) -> Sum
     ensures { λ r. ⌜ Summed (kind .program) (λ t. length (flatMap entriesOf (t .1 .0))) 5715 (now (body .entry)) 0 r ⌝ }
 {
-    let a = head(body, 0, 2);
+    let a = head_end(body);
     let Ends::At(n) = a else {
         return Sum::Short(a.short());
     };
     let count = part(wide(body[1]), 0, 4) as usize;
     languages_rows(body, n, count)
+}
+
+// Whether a body is at once seen to have no languages: then nothing is walked, and no room is asked.
+pub fn is_bare(body: &[u8]) -> bool
+    ensures { λ r. ⌜ Bare (now (body .entry)) r ⌝ }
+{
+    if 65535 < body.len() {
+        return false;
+    }
+    let a = head_end(body);
+    let Ends::At(_) = a else {
+        return false;
+    };
+    count_at(body) == 0
 }
 
 // ---- filled, once measured

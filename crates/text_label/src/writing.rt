@@ -7,7 +7,7 @@ ghost use Rattle.wire.specs.Act.{rows};
 ghost use Rattle.wire.specs.Pen.{Checked, Ready, Filled};
 ghost use Rattle.wire.specs.Spell.{Spelt};
 ghost use Rattle.wire.specs.declared.pen.Pen.the-variants.{At};
-ghost use Rattle.frame.specs.Entry.{whole};
+ghost use Rattle.frame.specs.Entry.{allActs};
 ghost use Rattle.text_label.specs.Write.{allWithin, letterFields, languageActs, rowActs, headFields, textLabelActs};
 ghost use Rattle.text_label.specs.Kind.{kind};
 use super::rows::DescriptionLanguage;
@@ -110,7 +110,7 @@ fn check_fields(m: MpegH3dAudioTextLabel, languages: &[u16], entries: &[u16], st
 
 // The whole: its first fault, or its length, which is at most 794,222: 2, 15 languages, and the longest trailing run.
 pub fn check(m: MpegH3dAudioTextLabel, languages: &[u16], entries: &[u16], store: &[u8]) -> Pen
-    ensures { λ r. ⌜ Checked (whole kind m (now (languages .entry) ∷ now (entries .entry) ∷ []) (now (store .entry))) 794222 (At 0) r ⌝ }
+    ensures { λ r. ⌜ Checked (allActs kind m (now (languages .entry) ∷ now (entries .entry) ∷ []) (now (store .entry))) 794222 (At 0) r ⌝ }
 {
     let trailing = m.trailing;
     if in_store(trailing, store) {
@@ -184,8 +184,8 @@ pub fn fill(
     store: &[u8],
     out: &mut [u8],
 ) -> usize
-    requires { ⌜ Ready (whole kind m (now languages ∷ now entries ∷ []) (now store)) 0 (now out) ⌝ }
-    ensures { λ r. ⌜ Filled (whole kind m (now (languages .entry) ∷ now (entries .entry) ∷ []) (now (store .entry))) 0 (now (out .entry)) r (now (out .exit)) ⌝ }
+    requires { ⌜ Ready (allActs kind m (now languages ∷ now entries ∷ []) (now store)) 0 (now out) ⌝ }
+    ensures { λ r. ⌜ Filled (allActs kind m (now (languages .entry) ∷ now (entries .entry) ∷ []) (now (store .entry))) 0 (now (out .entry)) r (now (out .exit)) ⌝ }
 {
     let from = m.trailing.offset;
     let count = m.trailing.length;

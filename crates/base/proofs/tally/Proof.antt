@@ -4,7 +4,7 @@ use mathlib.Core.Path.{sym}
 use native.Mathlib.Nat.{add-zero}
 use Rattle.wire.specs.Lists.{sum, each}
 use Rattle.wire.specs.Layout.{of, shown, cells, tally}
-use Rattle.frame.specs.Body.{layouts, placed, zeros}
+use Rattle.frame.specs.Body.{layouts, withPlace, zeros}
 use Rattle.frame.proofs.Entries.{tallies-unmeasured, tallies-topped}
 use Rattle.base.specs.Layout.{head}
 use Rattle.base.specs.Rows.{fields}
@@ -29,7 +29,7 @@ enum-known-m-2 : tie.Need-enum-known-m-2
 enum-known-m-2 c = search needs
 
 returns : tie.Need-returns
-unfolding kind placed each tally cells layouts head shown flatten sum zeros
+unfolding kind withPlace each tally cells layouts head shown flatten sum zeros
 returns c =
     rw (c .zero-bits .ensures) (tallies-topped kind _ (rw (c .before .before .before .m .given .1) at (c .before .before .before .before .before .measure .ensures)) (λ m. tally (layouts pieces) (of (fields m))) (λ t p. sym (add-zero (tally (layouts pieces) (of (t .0))))) (c .before .record-at .ensures))
 

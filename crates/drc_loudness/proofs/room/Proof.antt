@@ -1,6 +1,6 @@
 -- `drc_loudness::room` meets its contract: table after table.
 use mathlib.Core.Path.{refl}
-use Rattle.frame.specs.Entry.{first, others}
+use Rattle.frame.specs.Entry.{firstTable, otherTables}
 use Rattle.frame.specs.Sight.{andTables}
 use borrow.Author.Needs.{needs}
 use Rattle.drc_loudness.proofs.room.Statement.{statement}
@@ -31,7 +31,7 @@ and-table-requires-4 : tie.Need-and-table-requires-4
 and-table-requires-4 c κs = search needs
 
 returns : tie.Need-returns
-unfolding andTables first others
+unfolding andTables firstTable otherTables
 returns c =
     rw (c .and-table4 .ensures, c .before .before .and-table3 .ensures, c .before .before .before .before .and-table2 .ensures, c .before .before .before .before .before .before .and-table .ensures) refl
 

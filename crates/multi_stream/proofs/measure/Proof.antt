@@ -3,7 +3,7 @@ use mathlib.Core.Path.{sym, ap, _∙_}
 use native.Mathlib.Omega.{arith}
 use lib.ListN.{length}
 use Rattle.wire.specs.Reads.{sumOut}
-use Rattle.wire.proofs.Loops.{sum-small}
+use Rattle.wire.proofs.reading.Loops.{sum-small}
 use Rattle.frame.proofs.Entries.{measures-long, measures-by, measures-cut}
 use Rattle.multi_stream.specs.Rows.{MultiStream}
 use Rattle.multi_stream.specs.Kind.{kind}

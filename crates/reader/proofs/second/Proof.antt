@@ -38,7 +38,7 @@ use Rattle.wire.specs.Prog.{Out, done as did, short, needing, run}
 use Rattle.wire.specs.Prog as Prog
 use Rattle.wire.specs.Reads.{byteOut}
 use Rattle.wire.specs.declared.reads.Byte.{Byte}
-use Rattle.wire.proofs.Runs.{andThen, run-bind, run-u8}
+use Rattle.wire.proofs.reading.Runs.{andThen, run-bind, run-u8}
 use Rattle.wire.proofs.reads.Byte as B
 use Rattle.wire.proofs.reads.Byte.Laws as B′
 use Rattle.reader.specs.Reading.{told, after, ReadsByte, secondByte}

@@ -4,7 +4,7 @@ use native.Mathlib.Omega.{arith}
 use Rattle.wire.specs.Bits.{part}
 use Rattle.wire.specs.Prog.{short}
 use Rattle.wire.specs.Reads.{shortOf, endsOut}
-use Rattle.wire.proofs.Straight.{Past}
+use Rattle.wire.proofs.layouts.Straight.{Past}
 use Rattle.base.proofs.Parsed.{three-cut, three-there, three-sets}
 use borrow.Author.Needs.{needs}
 use Rattle.base.proofs.parsing.end.Statement.{statement}

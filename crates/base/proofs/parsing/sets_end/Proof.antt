@@ -6,7 +6,7 @@ use mathlib.Core.List.{List}
 use lib.ListN.{length}
 use Rattle.wire.specs.Prog.{u8, pass, _>>=_, run}
 use Rattle.wire.specs.Reads.{byteOut, runOut, endOf}
-use Rattle.wire.proofs.Walk.{From, onward, cut-off, finished}
+use Rattle.wire.proofs.reading.Walk.{From, onward, cut-off, finished}
 use Rattle.base.specs.Read.{sets}
 use Rattle.base.proofs.Parsed.{afterCount}
 use borrow.Author.Needs.{needs}

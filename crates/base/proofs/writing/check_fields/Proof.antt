@@ -1,8 +1,8 @@
 -- `base::writing::check_fields` meets its contract: the range of the sets, the three bytes, and the sets.
 use mathlib.Core.Path.{sym, _∙_}
 use native.Mathlib.Omega.{arith}
-use Rattle.wire.proofs.Passes.{then, more, passed, refused}
-use Rattle.wire.proofs.Plain.{all-checked}
+use Rattle.wire.proofs.writing.Passes.{then, more, passed, refused}
+use Rattle.wire.proofs.writing.Plain.{all-checked}
 use Rattle.base.specs.Write.{baseActs}
 use Rattle.base.proofs.Stored.{listed-long}
 use borrow.Author.Needs.{needs}

@@ -6,7 +6,7 @@ use Rattle.wire.specs.Bits.{field}
 use Rattle.wire.specs.Act.{byte}
 use Rattle.wire.specs.Pen.{Checked}
 use Rattle.wire.proofs.Fields.{fit-one}
-use Rattle.wire.proofs.Passes.{then, more, nothing}
+use Rattle.wire.proofs.writing.Passes.{then, more, nothing}
 use Rattle.base.specs.Write.{setsActs}
 use borrow.Author.Needs.{needs}
 use Rattle.base.proofs.writing.check_sets.Statement.{statement}

@@ -2,8 +2,8 @@
 use mathlib.Core.List.{List, _++_, map}
 use mathlib.Core.Bool.{true}
 use Rattle.wire.specs.Act.{Act, byte, when}
-use Rattle.wire.proofs.Passes.{Filling, fill-start, fill-demand, fill-last, demanded}
-use Rattle.wire.proofs.Plain.{ready-part, fill-part}
+use Rattle.wire.proofs.writing.Passes.{Filling, fill-start, fill-demand, fill-last, demanded}
+use Rattle.wire.proofs.writing.Plain.{ready-part, fill-part}
 use Rattle.base.specs.Write.{headFields, listed, setsActs, baseActs}
 use borrow.Author.Needs.{needs}
 use Rattle.base.proofs.writing.fill_fields.Statement.{statement}

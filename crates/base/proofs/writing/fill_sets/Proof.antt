@@ -8,7 +8,7 @@ use Rattle.wire.specs.Prog.{Within}
 use Rattle.wire.specs.Act.{Act, byte, copy}
 use Rattle.wire.specs.Pen.{Ready}
 use Rattle.wire.proofs.Fields.{fits-cons, join-first}
-use Rattle.wire.proofs.Passes.{Filling, fill-start, fill-byte, fill-last, fill-none, byte-ready, run-room}
+use Rattle.wire.proofs.writing.Passes.{Filling, fill-start, fill-byte, fill-last, fill-none, byte-ready, run-room}
 use Rattle.base.specs.Write.{listed, setsActs}
 use borrow.Author.Needs.{needs}
 use Rattle.base.proofs.writing.fill_sets.Statement.{statement}

@@ -1,7 +1,7 @@
 -- `parsing::condition_at` meets its contract.
 use mathlib.Core.Path.{_∙_, ap}
 use native.Mathlib.Omega.{arith}
-use Rattle.wire.proofs.Straight.{Whole, flat-done}
+use Rattle.wire.proofs.layouts.Straight.{Whole, flat-done}
 use Rattle.wire.specs.Straight.{blanks}
 use Rattle.conditions.specs.Layout.{condition}
 use Rattle.conditions.specs.Rows.{behind}

@@ -2,7 +2,7 @@
 use mathlib.Core.Path.{refl, sym, ap, _∙_}
 use Rattle.wire.specs.Reads.{endsOut}
 use Rattle.wire.specs.Straight.{ones}
-use Rattle.wire.proofs.Straight.{Behind, behind-one, ends-cut}
+use Rattle.wire.proofs.layouts.Straight.{Behind, behind-one, ends-cut}
 use Rattle.conditions.proofs.Taken.{condition-ends, with-detail, no-detail}
 use borrow.Author.Needs.{needs}
 use Rattle.conditions.proofs.parsing.condition_end.Statement.{statement}

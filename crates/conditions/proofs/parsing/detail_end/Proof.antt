@@ -2,7 +2,7 @@
 use mathlib.Core.Path.{ap, _∙_}
 use native.Mathlib.Omega.{arith}
 use Rattle.wire.specs.Reads.{endsOut}
-use Rattle.wire.proofs.Straight.{Behind, behind-one, one-cut, one-more}
+use Rattle.wire.proofs.layouts.Straight.{Behind, behind-one, one-cut, one-more}
 use Rattle.conditions.specs.Rows.{behind}
 use borrow.Author.Needs.{needs}
 use Rattle.conditions.proofs.parsing.detail_end.Statement.{statement}

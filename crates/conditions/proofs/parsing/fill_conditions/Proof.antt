@@ -1,7 +1,7 @@
 -- `parsing::fill_conditions` meets its contract.
 use mathlib.Core.Path.{refl}
 use Rattle.wire.specs.Layout.{flat}
-use Rattle.wire.proofs.Loops.{Filling, fill-next, fill-end, first-done}
+use Rattle.wire.proofs.reading.Loops.{Filling, fill-next, fill-end, first-done}
 use Rattle.conditions.specs.Layout.{condition}
 use borrow.Author.Needs.{needs}
 use Rattle.conditions.proofs.parsing.fill_conditions.Statement.{statement}

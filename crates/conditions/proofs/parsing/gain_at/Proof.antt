@@ -1,6 +1,6 @@
 -- `parsing::gain_at` meets its contract.
 use Rattle.wire.specs.Straight.{blanks}
-use Rattle.wire.proofs.Straight.{taken-none}
+use Rattle.wire.proofs.layouts.Straight.{taken-none}
 use Rattle.conditions.specs.Rows.{gain}
 use Rattle.conditions.proofs.Taken.{gain-there}
 use borrow.Author.Needs.{needs}

@@ -1,6 +1,6 @@
 -- `parsing::position_at` meets its contract.
 use Rattle.wire.specs.Straight.{blanks}
-use Rattle.wire.proofs.Straight.{taken-none}
+use Rattle.wire.proofs.layouts.Straight.{taken-none}
 use Rattle.conditions.specs.Layout.{position}
 use Rattle.conditions.proofs.Taken.{position-there}
 use borrow.Author.Needs.{needs}

@@ -1,6 +1,6 @@
 -- `tallying::tally_conditions` meets its contract.
-use Rattle.wire.proofs.Loops.{first-done}
-use Rattle.wire.proofs.Families.{Walking, walk-start, walk-turn, walk-end}
+use Rattle.wire.proofs.reading.Loops.{first-done}
+use Rattle.wire.proofs.layouts.Families.{Walking, walk-start, walk-turn, walk-end}
 use mathlib.Core.List.{[], _∷_}
 use native.Mathlib.Omega.{arith}
 use Rattle.wire.specs.Layout.{flat, of, tally}

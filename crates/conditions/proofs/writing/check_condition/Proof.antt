@@ -7,8 +7,8 @@ use Rattle.wire.specs.Pen.{Checked}
 use Rattle.wire.specs.Spell.{none, more}
 use Rattle.wire.specs.declared.pen.Fault.the-variants as F
 use Rattle.wire.specs.declared.pen.Pen.the-variants.{At}
-use Rattle.wire.proofs.Passes.{then, nothing}
-use Rattle.wire.proofs.Plain.{met, all-checked}
+use Rattle.wire.proofs.writing.Passes.{then, nothing}
+use Rattle.wire.proofs.writing.Plain.{met, all-checked}
 use Rattle.conditions.specs.Rows.{conditionCols}
 use Rattle.conditions.specs.Write.{flagsOf}
 use Rattle.conditions.proofs.Writes.{condition-acts, idBytes, when-there, when-absent}

@@ -1,5 +1,5 @@
 -- `writing::check_conditions` meets its contract.
-use Rattle.wire.proofs.Families.{kids-checked, kids-stopped}
+use Rattle.wire.proofs.layouts.Families.{kids-checked, kids-stopped}
 use Rattle.conditions.specs.Write.{rowActs}
 use Rattle.conditions.proofs.Writes.{row-acts}
 use borrow.Author.Needs.{needs}

@@ -5,8 +5,8 @@ use native.Mathlib.Omega.{arith}
 use Rattle.wire.specs.Act.{byte, when}
 use Rattle.wire.specs.Pen.{Checked}
 use Rattle.wire.specs.Spell.{none, more, fieldsOf}
-use Rattle.wire.proofs.Passes.{then, nothing}
-use Rattle.wire.proofs.Plain.{all-checked}
+use Rattle.wire.proofs.writing.Passes.{then, nothing}
+use Rattle.wire.proofs.writing.Plain.{all-checked}
 use Rattle.conditions.specs.Rows.{flagCells, gainCells}
 use Rattle.conditions.specs.Write.{detailCols}
 use borrow.Author.Needs.{needs}

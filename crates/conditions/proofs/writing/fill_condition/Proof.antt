@@ -1,7 +1,7 @@
 -- `writing::fill_condition` meets its contract.
 use Rattle.wire.specs.Spell.{none, more}
-use Rattle.wire.proofs.Passes.{fill-last, fill-end}
-use Rattle.wire.proofs.Plain.{ready-part}
+use Rattle.wire.proofs.writing.Passes.{fill-last, fill-end}
+use Rattle.wire.proofs.writing.Plain.{ready-part}
 use Rattle.conditions.specs.Write.{colsAt}
 use Rattle.conditions.proofs.Writes.{condition-acts, row-begun, id-filled, fill-there, when-absent}
 use borrow.Author.Needs.{needs}

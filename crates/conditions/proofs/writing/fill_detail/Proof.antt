@@ -1,8 +1,8 @@
 -- `writing::fill_detail` meets its contract.
 use mathlib.Core.Path.{refl}
 use Rattle.wire.specs.Spell.{none, more}
-use Rattle.wire.proofs.Passes.{fill-start, fill-row}
-use Rattle.wire.proofs.Plain.{ready-part}
+use Rattle.wire.proofs.writing.Passes.{fill-start, fill-row}
+use Rattle.wire.proofs.writing.Plain.{ready-part}
 use Rattle.conditions.specs.Write.{colsAt}
 use Rattle.conditions.proofs.Writes.{flags-filled, gain-filled, position-filled}
 use borrow.Author.Needs.{needs}

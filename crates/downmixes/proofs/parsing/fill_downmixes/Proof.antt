@@ -2,7 +2,7 @@
 use mathlib.Core.Path.{refl, ap, _∙_}
 use native.Mathlib.Omega.{arith}
 use Rattle.wire.specs.Layout.{flat}
-use Rattle.wire.proofs.Loops.{Filling, fill-next, fill-end}
+use Rattle.wire.proofs.reading.Loops.{Filling, fill-next, fill-end}
 use Rattle.downmixes.specs.Layout.{downmix}
 use Rattle.downmixes.specs.Rows.{downmixRow}
 use Rattle.downmixes.proofs.Downmixes.{downmix-there, downmix-run}

@@ -1,5 +1,5 @@
 -- `writing::check_downmixes` meets its contract: it counts the plain rows, and names the fault of the first that is not.
-use Rattle.wire.proofs.Plain.{plain-odd, plain-end}
+use Rattle.wire.proofs.writing.Plain.{plain-odd, plain-end}
 use Rattle.downmixes.proofs.Downmixes.{row-checked}
 use borrow.Author.Needs.{needs}
 use Rattle.downmixes.proofs.writing.check_downmixes.Statement.{statement}

@@ -3,8 +3,8 @@ use Prim.Native.Nat.{_-_, _≤_}
 use native.Mathlib.Omega.{arith}
 use native.Mathlib.Nat.{sub-zero}
 use Rattle.wire.specs.Act.{rows}
-use Rattle.wire.proofs.Passes.{Filling, rows-turn, rows-end, fill-start, fill-row, fill-turn, fill-end}
-use Rattle.wire.proofs.Plain.{filled-long}
+use Rattle.wire.proofs.writing.Passes.{Filling, rows-turn, rows-end, fill-start, fill-row, fill-turn, fill-end}
+use Rattle.wire.proofs.writing.Plain.{filled-long}
 use Rattle.downmixes.specs.Write.{rowActs}
 use Rattle.downmixes.proofs.Downmixes.{row-ready, row-filled}
 use borrow.Author.Needs.{needs}

@@ -2,7 +2,7 @@
 use Prim.Native.Nat.{_-_, _+_, _*_}
 use mathlib.Core.Path.{_≡_, refl}
 use native.Mathlib.Omega.{arith}
-use Rattle.wire.proofs.Plain.{Going, going-start, going-turn, going-odd, going-end}
+use Rattle.wire.proofs.writing.Plain.{Going, going-start, going-turn, going-odd, going-end}
 use Rattle.downmixes.specs.Write.{rowActs}
 use borrow.Author.Tests.{not-true, not-false}
 use Rattle.downmixes.proofs.Downmixes.{row-plain, row-odd}

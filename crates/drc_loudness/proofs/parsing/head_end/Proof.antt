@@ -2,7 +2,7 @@
 use mathlib.Core.Path.{sym, ap, _∙_}
 use native.Mathlib.Omega.{arith}
 use Rattle.wire.specs.Reads.{endsOut}
-use Rattle.wire.proofs.Straight.{ones-past}
+use Rattle.wire.proofs.layouts.Straight.{ones-past}
 use Rattle.drc_loudness.proofs.Walked.{flag-taken, flag-left, head-short, head-alone, head-whole}
 use borrow.Author.Needs.{needs}
 use Rattle.drc_loudness.proofs.parsing.head_end.Statement.{statement}

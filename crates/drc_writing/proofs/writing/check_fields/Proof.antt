@@ -1,9 +1,9 @@
 -- `drc_writing::writing::check_fields` meets its contract: the ranges, the byte of the record, and the info.
 use mathlib.Core.Path.{sym, _∙_}
 use native.Mathlib.Omega.{arith}
-use Rattle.wire.proofs.Passes.{then, more, passed, refused}
-use Rattle.wire.proofs.Plain.{all-checked}
-use Rattle.frame.specs.Entry.{first, others}
+use Rattle.wire.proofs.writing.Passes.{then, more, passed, refused}
+use Rattle.wire.proofs.writing.Plain.{all-checked}
+use Rattle.frame.specs.Entry.{firstTable, otherTables}
 use Rattle.drc_writing.specs.Write.{drcActs}
 use borrow.Author.Needs.{needs}
 use Rattle.drc_writing.proofs.writing.check_fields.Statement.{statement}
@@ -26,12 +26,12 @@ check-info-requires c κs =
     (sym (c .before .before .before .before .all-within .ensures) ∙ c .before .before .before .if1 .taken, omega (arith, all-checked (c .before .before .head-bytes .ensures) (c .check-all .ensures) .near))
 
 returns : tie.Need-returns
-unfolding drcActs first others
+unfolding drcActs firstTable otherTables
 returns c =
     rw (sym (c .before .before .before .before .before .all-within .ensures) ∙ c .before .before .before .before .if1 .taken) (passed _ 0 (passed _ 0 (passed _ 0 (more 17454 (then (all-checked (c .before .before .before .head-bytes .ensures) (c .before .check-all .ensures)) (c .check-info .ensures)) (omega arith)))))
 
 returns-2 : tie.Need-returns-2
-unfolding drcActs first others
+unfolding drcActs firstTable otherTables
 returns-2 c =
     rw (sym (c .before .all-within .ensures) ∙ c .if1 .left) (refused _ 0 _ _)
 

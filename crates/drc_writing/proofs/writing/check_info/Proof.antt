@@ -1,8 +1,8 @@
 -- `drc_writing::writing::check_info` meets its contract: the bytes of the counts, then the lists, whose counts are small since their bytes fit.
 use native.Mathlib.Omega.{arith}
-use Rattle.wire.proofs.Passes.{passed-clean}
-use Rattle.wire.proofs.Plain.{all-checked}
-use Rattle.wire.proofs.Parts.{part-stops, part-goes, part-absent}
+use Rattle.wire.proofs.writing.Passes.{passed-clean}
+use Rattle.wire.proofs.writing.Plain.{all-checked}
+use Rattle.wire.proofs.writing.Parts.{part-stops, part-goes, part-absent}
 use Rattle.drc_writing.specs.Write.{infoActs}
 use Rattle.drc_writing.proofs.Writes.{listed}
 use borrow.Author.Needs.{needs}

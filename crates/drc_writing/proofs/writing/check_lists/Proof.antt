@@ -1,7 +1,7 @@
 -- `drc_writing::writing::check_lists` meets its contract: list after list, none behind a fault.
 use native.Mathlib.Omega.{arith}
-use Rattle.wire.proofs.Passes.{then, more, here, stopped}
-use Rattle.frame.specs.Entry.{first, others}
+use Rattle.wire.proofs.writing.Passes.{then, more, here, stopped}
+use Rattle.frame.specs.Entry.{firstTable, otherTables}
 use Rattle.drc_writing.proofs.Writes.{instructions-stand, entries-stand, downmixes-stand}
 use borrow.Author.Needs.{needs}
 use Rattle.drc_writing.proofs.writing.check_lists.Statement.{statement}
@@ -21,7 +21,7 @@ enum-told : tie.Need-enum-told
 enum-told c = search needs
 
 returns : tie.Need-returns
-unfolding first others
+unfolding firstTable otherTables
 returns c =
     more 17450 (then (c .before .before .check-instructions .ensures) (stopped _ 0 (c .enum-told .given .1))) (omega (arith, c .before .before .before .before .before .before .before .before .before .pre .0 .instructions-few))
 
@@ -40,7 +40,7 @@ enum-told-2 : tie.Need-enum-told-2
 enum-told-2 c = search needs
 
 returns-2 : tie.Need-returns-2
-unfolding first others
+unfolding firstTable otherTables
 returns-2 c =
     more 17450 (then (c .before .before .before .before .before .before .before .check-instructions .ensures) (here (c .before .before .before .before .before .p1 .given .1) (then (c .before .before .check-entries .ensures) (stopped _ 0 (c .enum-told2 .given .1))))) (omega (arith, c .before .before .before .before .before .before .before .before .before .before .before .before .before .before .pre .0 .instructions-few, c .before .before .before .before .before .before .before .before .before .before .before .before .before .before .pre .0 .entries-few))
 
@@ -54,7 +54,7 @@ check-downmixes-requires c κs =
     (downmixes-stand (c .before .before .before .before .before .before .before .before .before .before .before .before .before .before .before .before .pre .0), omega (arith, c .before .before .before .before .before .before .before .before .before .before .before .before .before .before .before .before .pre .0 .downmixes-few), omega (arith, n, m, c .before .before .before .before .before .before .before .before .before .before .before .before .before .before .before .before .pre .1, c .before .before .before .before .before .before .before .before .before .before .before .before .before .before .before .before .pre .0 .instructions-few, c .before .before .before .before .before .before .before .before .before .before .before .before .before .before .before .before .pre .0 .entries-few))
 
 returns-3 : tie.Need-returns-3
-unfolding first others
+unfolding firstTable otherTables
 returns-3 c =
     more 17450 (then (c .before .before .before .before .before .before .before .before .before .before .check-instructions .ensures) (here (c .before .before .before .before .before .before .before .before .p1 .given .1) (then (c .before .before .before .before .before .check-entries .ensures) (here (c .before .before .before .p2 .given .1) (c .check-downmixes .ensures))))) (omega (arith, c .before .before .before .before .before .before .before .before .before .before .before .before .before .before .before .before .before .pre .0 .instructions-few, c .before .before .before .before .before .before .before .before .before .before .before .before .before .before .before .before .before .pre .0 .entries-few, c .before .before .before .before .before .before .before .before .before .before .before .before .before .before .before .before .before .pre .0 .downmixes-few))
 

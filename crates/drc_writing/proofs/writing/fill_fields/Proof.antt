@@ -2,10 +2,10 @@
 use mathlib.Core.List.{List, [], _∷_, _++_, map}
 use mathlib.Core.Bool.{true}
 use Rattle.wire.specs.Act.{Act, byte, when}
-use Rattle.wire.proofs.Passes.{Filling, fill-start, fill-demand, fill-last, demanded}
-use Rattle.wire.proofs.Plain.{ready-part, fill-part}
+use Rattle.wire.proofs.writing.Passes.{Filling, fill-start, fill-demand, fill-last, demanded}
+use Rattle.wire.proofs.writing.Plain.{ready-part, fill-part}
 use Rattle.frame.specs.Kind.{Lent}
-use Rattle.frame.specs.Entry.{first, others}
+use Rattle.frame.specs.Entry.{firstTable, otherTables}
 use Rattle.drc_writing.specs.Write.{headFields, infoActs, drcActs}
 use borrow.Author.Needs.{needs}
 use Rattle.drc_writing.proofs.writing.fill_fields.Statement.{statement}
@@ -40,7 +40,7 @@ fill-all-requires : tie.Need-fill-all-requires
 fill-all-requires c κs = ready-part _ (c .before .head-bytes .ensures) (begin (c .before .before .before .before .before .before .before .before .before))
 
 fill-info-requires : tie.Need-fill-info-requires
-unfolding drcActs first others
+unfolding drcActs firstTable otherTables
 fill-info-requires c κs =
     let d = c .before .before .before .before in
     (demanded (start d .pre), behind d .ready)

@@ -1,11 +1,11 @@
 -- `drc_writing::writing::fill_info` meets its contract: the bytes of the counts, then the lists.
 use mathlib.Core.List.{List, [], _∷_}
 use Rattle.wire.specs.Act.{Act}
-use Rattle.wire.proofs.Passes.{Filling, fill-last}
-use Rattle.wire.proofs.Plain.{ready-part, fill-part}
+use Rattle.wire.proofs.writing.Passes.{Filling, fill-last}
+use Rattle.wire.proofs.writing.Plain.{ready-part, fill-part}
 use Rattle.frame.specs.Kind.{Lent}
 use Rattle.drc_writing.specs.Write.{listsActs, infoActs}
-use Rattle.wire.proofs.Parts.{part-empty}
+use Rattle.wire.proofs.writing.Parts.{part-empty}
 use Rattle.drc_writing.proofs.Writes.{listed, info-begins, info-clean}
 use borrow.Author.Needs.{needs}
 use Rattle.drc_writing.proofs.writing.fill_info.Statement.{statement}

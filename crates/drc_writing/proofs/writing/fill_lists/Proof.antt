@@ -3,9 +3,9 @@ use mathlib.Core.List.{List, [], _∷_, _++_}
 use mathlib.Core.Path.{refl}
 use native.Mathlib.Omega.{arith}
 use Rattle.wire.specs.Act.{Act, rows}
-use Rattle.wire.proofs.Passes.{Filling, fill-start, fill-row, fill-turn, fill-last}
+use Rattle.wire.proofs.writing.Passes.{Filling, fill-start, fill-row, fill-turn, fill-last}
 use Rattle.frame.specs.Kind.{Lent}
-use Rattle.frame.specs.Entry.{first, others}
+use Rattle.frame.specs.Entry.{firstTable, otherTables}
 use Rattle.instruction_writing.specs.Write as I
 use Rattle.loudness.specs.Write as L
 use Rattle.downmixes.specs.Write as D
@@ -33,7 +33,7 @@ abbrev in-downmixes : tie.Start → List Act
 in-downmixes c = rows (D.rowActs (c .args .downmixes .now)) 0 (c .args .i .«downmix_definitions»)
 
 begin : (c : tie.Start) → Filling (all c) (in-instructions c ++ (in-entries c ++ in-downmixes c)) (c .args .n) (c .args .out .now) (c .args .n) (c .args .out .now)
-unfolding first others
+unfolding firstTable otherTables
 begin c = fill-start (c .pre .1)
 
 -- ---- places

@@ -3,8 +3,8 @@ use mathlib.Core.List.{map}
 use native.Mathlib.Omega.{arith}
 use Rattle.wire.specs.Act.{byte}
 use Rattle.wire.specs.Pen.{Checked}
-use Rattle.wire.proofs.Passes.{then}
-use Rattle.wire.proofs.Plain.{all-checked}
+use Rattle.wire.proofs.writing.Passes.{then}
+use Rattle.wire.proofs.writing.Plain.{all-checked}
 use Rattle.instruction_writing.specs.Write.{effectFields, limiterPart}
 use borrow.Author.Needs.{needs}
 use Rattle.instruction_writing.proofs.writing.check_effect.Statement.{statement}

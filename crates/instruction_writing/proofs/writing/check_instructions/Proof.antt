@@ -1,5 +1,5 @@
 -- `writing::check_instructions` meets its contract.
-use Rattle.wire.proofs.Plain.{plain-odd, plain-end}
+use Rattle.wire.proofs.writing.Plain.{plain-odd, plain-end}
 use Rattle.instruction_writing.proofs.Writes.{row-looked}
 use borrow.Author.Needs.{needs}
 use Rattle.instruction_writing.proofs.writing.check_instructions.Statement.{statement}

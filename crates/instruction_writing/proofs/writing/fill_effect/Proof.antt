@@ -1,5 +1,5 @@
 -- `writing::fill_effect` meets its contract.
-use Rattle.wire.proofs.Plain.{filled-long}
+use Rattle.wire.proofs.writing.Plain.{filled-long}
 use Rattle.instruction_writing.proofs.Writes.{word-ready, limiter-ready, loud-ready, effect-filled}
 use borrow.Author.Needs.{needs}
 use Rattle.instruction_writing.proofs.writing.fill_effect.Statement.{statement}

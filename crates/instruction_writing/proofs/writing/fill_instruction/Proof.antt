@@ -1,5 +1,5 @@
 -- `writing::fill_instruction` meets its contract: its scope, its settings, its additional IDs, and what stands behind them.
-use Rattle.wire.proofs.Plain.{filled-long}
+use Rattle.wire.proofs.writing.Plain.{filled-long}
 use Rattle.instruction_writing.proofs.Writes.{row-ready, scope-ready, settings-ready, ids-ready, effect-ready, row-filled}
 use borrow.Author.Needs.{needs}
 use Rattle.instruction_writing.proofs.writing.fill_instruction.Statement.{statement}

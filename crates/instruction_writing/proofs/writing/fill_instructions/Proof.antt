@@ -4,8 +4,8 @@ use mathlib.Core.Path.{refl}
 use native.Mathlib.Omega.{arith}
 use native.Mathlib.Nat.{sub-zero}
 use Rattle.wire.specs.Act.{rows}
-use Rattle.wire.proofs.Passes.{Filling, rows-turn, rows-end, fill-start, fill-row, fill-turn, fill-end}
-use Rattle.wire.proofs.Plain.{filled-long}
+use Rattle.wire.proofs.writing.Passes.{Filling, rows-turn, rows-end, fill-start, fill-row, fill-turn, fill-end}
+use Rattle.wire.proofs.writing.Plain.{filled-long}
 use Rattle.instruction_writing.specs.Write.{rowActs}
 use Rattle.instruction_writing.proofs.Writes.{row-asked, row-stored}
 use borrow.Author.Needs.{needs}

@@ -2,7 +2,7 @@
 use Prim.Native.Nat.{_-_}
 use mathlib.Core.Path.{refl}
 use native.Mathlib.Omega.{arith}
-use Rattle.wire.proofs.Plain.{Going, going-start, going-turn, going-odd, going-end}
+use Rattle.wire.proofs.writing.Plain.{Going, going-start, going-turn, going-odd, going-end}
 use Rattle.instruction_writing.specs.Write.{rowActs}
 use Rattle.instruction_writing.proofs.Writes.{row-quick}
 use borrow.Author.Needs.{needs}

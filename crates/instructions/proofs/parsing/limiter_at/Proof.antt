@@ -1,6 +1,6 @@
 -- `parsing::limiter_at` meets its contract.
 use Rattle.wire.specs.Straight.{blanks}
-use Rattle.wire.proofs.Straight.{taken-none}
+use Rattle.wire.proofs.layouts.Straight.{taken-none}
 use Rattle.instructions.specs.Layout.{limiter}
 use Rattle.instructions.proofs.Taken.{limiter-there}
 use borrow.Author.Needs.{needs}

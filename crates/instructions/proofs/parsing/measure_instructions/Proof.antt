@@ -1,8 +1,8 @@
 -- `parsing::measure_instructions` meets its contract: the additional IDs so far, and those of the instructions that are left.
 use native.Mathlib.Omega.{arith}
 use lib.ListN.{length}
-use Rattle.wire.proofs.Loops.{Summing, sum-start, sum-turn, sum-cut, sum-end, sum-small, summed-as}
-use Rattle.wire.proofs.Families.{kids-summed}
+use Rattle.wire.proofs.reading.Loops.{Summing, sum-start, sum-turn, sum-cut, sum-end, sum-small, summed-as}
+use Rattle.wire.proofs.layouts.Families.{kids-summed}
 use Rattle.instructions.specs.Layout.{instructions}
 use borrow.Author.Needs.{needs}
 use Rattle.instructions.proofs.parsing.measure_instructions.Statement.{statement}

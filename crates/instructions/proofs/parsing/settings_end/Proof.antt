@@ -6,7 +6,7 @@ use mathlib.Core.List.{List}
 use Rattle.wire.specs.Bits.{part}
 use Rattle.wire.specs.Reads.{endsOut}
 use Rattle.wire.specs.Straight.{ends}
-use Rattle.wire.proofs.Straight.{Behind, behind-one, one-cut, one-more}
+use Rattle.wire.proofs.layouts.Straight.{Behind, behind-one, one-cut, one-more}
 use Rattle.scopes.specs.Rows.{idBytes}
 use Rattle.instructions.specs.Layout.{types}
 use Rattle.instructions.proofs.Taken.{settings-spans}

@@ -1,7 +1,7 @@
 -- `parsing::fill_entries` meets its contract: what is still to store from here is what was to store from the start.
 use mathlib.Core.Path.{refl}
 use Rattle.wire.specs.Layout.{borneRow}
-use Rattle.wire.proofs.Loops.{fill-as, Filling, fill-end, first-done}
+use Rattle.wire.proofs.reading.Loops.{fill-as, Filling, fill-end, first-done}
 use Rattle.labels.specs.Layout.{label}
 use Rattle.labels.proofs.Taken.{anEntry}
 use borrow.Author.Needs.{needs}

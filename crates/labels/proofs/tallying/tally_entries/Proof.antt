@@ -1,7 +1,7 @@
 -- `tallying::tally_entries` meets its contract: what is summed up, and what is left, come to the whole.
 use native.Mathlib.Omega.{arith}
 use Rattle.wire.specs.Layout.{borneTally}
-use Rattle.wire.proofs.Loops.{Summing, sum-start, sum-next, sum-end}
+use Rattle.wire.proofs.reading.Loops.{Summing, sum-start, sum-next, sum-end}
 use Rattle.labels.specs.Layout.{label}
 use Rattle.labels.proofs.Taken.{anEntry, entry-summed}
 use borrow.Author.Needs.{needs}

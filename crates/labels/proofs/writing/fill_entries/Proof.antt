@@ -3,7 +3,7 @@ use Prim.Native.Nat.{_-_, _≤_}
 use native.Mathlib.Omega.{arith}
 use native.Mathlib.Nat.{add-sub-cancel-left}
 use Rattle.wire.specs.Act.{rows}
-use Rattle.wire.proofs.Passes.{Filling, rows-end, fill-start, fill-end, all-filled}
+use Rattle.wire.proofs.writing.Passes.{Filling, rows-end, fill-start, fill-end, all-filled}
 use Rattle.labels.specs.Write.{rowActs}
 use Rattle.labels.proofs.Written.{row-inside, row-ready, row-filled}
 use borrow.Author.Needs.{needs}

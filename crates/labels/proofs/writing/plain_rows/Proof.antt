@@ -1,7 +1,7 @@
 -- `writing::plain_rows` meets its contract: the rows before the first that is not plain, and their bytes.
 use Prim.Native.Nat.{_+_, _-_}
 use native.Mathlib.Omega.{arith}
-use Rattle.wire.proofs.Plain.{Going, going-start, going-end, quick-few}
+use Rattle.wire.proofs.writing.Plain.{Going, going-start, going-end, quick-few}
 use Rattle.labels.specs.Write.{rowActs}
 use Rattle.labels.proofs.Written.{list-inside, row-plain, row-odd}
 use borrow.Author.Needs.{needs}

@@ -2,8 +2,8 @@
 use mathlib.Core.Path.{refl, sym, _∙_}
 use Rattle.wire.specs.Prog.{run}
 use Rattle.wire.specs.Layout.{borneRow}
-use Rattle.wire.proofs.Walk.{as-done}
-use Rattle.wire.proofs.Loops.{Filling, fill-next, fill-end, first-done}
+use Rattle.wire.proofs.reading.Walk.{as-done}
+use Rattle.wire.proofs.reading.Loops.{Filling, fill-next, fill-end, first-done}
 use Rattle.wire.proofs.Tables.{each-length}
 use Rattle.loudness.specs.Layout as L
 use borrow.Author.Needs.{needs}

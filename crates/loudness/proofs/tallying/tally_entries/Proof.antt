@@ -3,9 +3,9 @@ use mathlib.Core.Path.{sym, _∙_}
 use native.Mathlib.Omega.{arith}
 use Rattle.wire.specs.Prog.{run}
 use Rattle.wire.specs.Layout.{borneRow, borneTally}
-use Rattle.wire.proofs.Walk.{as-done}
-use Rattle.wire.proofs.Loops.{first-done}
-use Rattle.wire.proofs.Adding.{Adding, adding-start, adding-turn, adding-end}
+use Rattle.wire.proofs.reading.Walk.{as-done}
+use Rattle.wire.proofs.reading.Loops.{first-done}
+use Rattle.wire.proofs.reading.Adding.{Adding, adding-start, adding-turn, adding-end}
 use Rattle.loudness.specs.Layout.{entry, entries}
 use Rattle.loudness.proofs.Taken.{entry-tally}
 use borrow.Author.Needs.{needs}

@@ -1,5 +1,5 @@
 -- `writing::check_entries` meets its contract: it counts the plain rows, and names the fault of the first that is not.
-use Rattle.wire.proofs.Plain.{plain-odd, plain-end}
+use Rattle.wire.proofs.writing.Plain.{plain-odd, plain-end}
 use Rattle.loudness.proofs.Written.{row-acts}
 use borrow.Author.Needs.{needs}
 use Rattle.loudness.proofs.writing.check_entries.Statement.{statement}

@@ -1,5 +1,5 @@
 -- `writing::fill_entry` meets its contract: the bytes of the scope, the length, and the bytes from the store.
-use Rattle.wire.proofs.Plain.{filled-long}
+use Rattle.wire.proofs.writing.Plain.{filled-long}
 use Rattle.loudness.proofs.Written.{scope-ready, info-inside, length-ready, info-room, entry-filled}
 use borrow.Author.Needs.{needs}
 use Rattle.loudness.proofs.writing.fill_entry.Statement.{statement}

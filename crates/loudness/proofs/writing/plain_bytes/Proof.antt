@@ -1,6 +1,6 @@
 -- `writing::plain_bytes` meets its contract: a range, a scope and a length without a fault, and what they make.
 use native.Mathlib.Omega.{arith}
-use Rattle.wire.proofs.Plain.{quick-few}
+use Rattle.wire.proofs.writing.Plain.{quick-few}
 use Rattle.loudness.proofs.Written.{entry-plain, entry-odd}
 use borrow.Author.Needs.{needs}
 use Rattle.loudness.proofs.writing.plain_bytes.Statement.{statement}

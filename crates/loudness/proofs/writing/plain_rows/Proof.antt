@@ -2,7 +2,7 @@
 use Prim.Native.Nat.{_+_, _-_}
 use native.Mathlib.Omega.{arith}
 use Rattle.wire.specs.Pen.{Quick}
-use Rattle.wire.proofs.Plain.{Going, going-start, going-turn, going-odd, going-end}
+use Rattle.wire.proofs.writing.Plain.{Going, going-start, going-turn, going-odd, going-end}
 use Rattle.loudness.specs.Write.{rowActs}
 use Rattle.loudness.proofs.Written.{row-acts}
 use borrow.Author.Needs.{needs}

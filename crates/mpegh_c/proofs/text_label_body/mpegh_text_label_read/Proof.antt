@@ -1,17 +1,42 @@
 -- `mpegh_c::text_label_body::mpegh_text_label_read` meets its contract.
-use mathlib.Core.Path.{refl}
+use mathlib.Core.Path.{refl, ap, _∙_}
+use Rattle.wire.specs.Reads.{endsOut}
+use Rattle.wire.specs.declared.reads.Short.{Short}
+use Rattle.frame.specs.declared.Refusal.the-variants as R
+use Rattle.frame.specs.Numbers.{refusal}
+use Rattle.mpegh_c.specs.Code.{refusedCode}
 use Rattle.text_label.specs.Rows.{topRow}
 use Rattle.text_label.specs.Kind.{kind}
-use Rattle.mpegh_c.proofs.Hosted.{reads-unroomed, reads-refused, reads-done}
+use Rattle.text_label.proofs.Parsed.{headless}
+use Rattle.mpegh_c.proofs.Hosted.{reads-neither, reads-unroomed, reads-refused, reads-done}
 use borrow.Author.Needs.{needs}
 use Rattle.mpegh_c.proofs.text_label_body.mpegh_text_label_read.Statement.{statement}
 use Rattle.mpegh_c.proofs.text_label_body.mpegh_text_label_read.Tie as tie
 
-unread-requires : tie.Need-unread-requires
-unread-requires c κs = search needs
+head-end-requires : tie.Need-head-end-requires
+head-end-requires c κs = search needs
+
+enum-told : tie.Need-enum-told
+enum-told c = search needs
+
+enum-told-2 : tie.Need-enum-told-2
+enum-told-2 c = search needs
+
+short-requires : tie.Need-short-requires
+short-requires c κs = search needs
+
+refusal-code-requires : tie.Need-refusal-code-requires
+refusal-code-requires c κs = search needs
 
 returns : tie.Need-returns
 returns c =
+    reads-neither kind _ topRow (headless _ (c .before .before .before .before .head-end .ensures) (ap endsOut (c .before .before .enum-told2 .given .1))) (c .refusal-code .ensures ∙ ap (λ (x : Short). refusedCode (refusal (R.Short x))) (c .before .short .ensures))
+
+unread-requires : tie.Need-unread-requires
+unread-requires c κs = search needs
+
+returns-2 : tie.Need-returns-2
+returns-2 c =
     reads-unroomed kind _ topRow (c .before .if1 .taken) (c .unread .ensures)
 
 read-requires : tie.Need-read-requires
@@ -32,8 +57,8 @@ put-row-requires c κs = search needs
 enum-known-r-2 : tie.Need-enum-known-r-2
 enum-known-r-2 c = search needs
 
-refusal-code-requires : tie.Need-refusal-code-requires
-refusal-code-requires c κs = search needs
+refusal-code-requires-2 : tie.Need-refusal-code-requires-2
+refusal-code-requires-2 c κs = search needs
 
 same-length : tie.Need-same-length
 same-length c = search needs
@@ -44,8 +69,8 @@ same-length-2 c = search needs
 same-length-3 : tie.Need-same-length-3
 same-length-3 c = search needs
 
-returns-2 : tie.Need-returns-2
-returns-2 c =
+returns-3 : tie.Need-returns-3
+returns-3 c =
     reads-done kind _ topRow (c .before .before .before .before .before .before .before .before .before .before .before .before .before .before .before .before .if1 .left) (rw (c .before .before .before .before .before .before .before .r .given .1) at (c .before .before .before .before .before .before .before .before .before .before .before .before .before .read .ensures)) refl (rw (c .before .before .before .before .before .columns .ensures) at (c .before .before .put-row .ensures))
 
 same-length-4 : tie.Need-same-length-4
@@ -54,27 +79,33 @@ same-length-4 c = search needs
 same-length-5 : tie.Need-same-length-5
 same-length-5 c = search needs
 
-returns-3 : tie.Need-returns-3
-returns-3 c =
-    reads-refused kind _ topRow (c .before .before .before .before .before .before .before .before .before .before .before .if1 .left) (rw (c .before .before .r2 .given .1) at (c .before .before .before .before .before .before .before .before .read .ensures)) (c .refusal-code .ensures)
+returns-4 : tie.Need-returns-4
+returns-4 c =
+    reads-refused kind _ topRow (c .before .before .before .before .before .before .before .before .before .before .before .if1 .left) (rw (c .before .before .r2 .given .1) at (c .before .before .before .before .before .before .before .before .read .ensures)) (c .refusal-code2 .ensures)
 
 pub mpegh-text-label-read-spec : {M : Type 1} → statement M
 mpegh-text-label-read-spec =
     tie.close
     (tie.spec
-    unread-requires
+    head-end-requires
+    enum-told
+    enum-told-2
+    short-requires
+    refusal-code-requires
     returns
+    unread-requires
+    returns-2
     read-requires
     enum-known-r
     columns-requires
     slice-aggregate-put-row
     put-row-requires
     enum-known-r-2
-    refusal-code-requires
+    refusal-code-requires-2
     same-length
     same-length-2
     same-length-3
-    returns-2
+    returns-3
     same-length-4
     same-length-5
-    returns-3)
+    returns-4)

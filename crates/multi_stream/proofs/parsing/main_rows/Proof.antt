@@ -4,9 +4,9 @@ use native.Mathlib.Omega.{arith}
 use Rattle.wire.specs.Prog.{short}
 use Rattle.wire.specs.Reads.{shortOf, endsOut}
 use Rattle.wire.specs.declared.reads.Ends.{Ends}
-use Rattle.wire.proofs.Walk.{run-ret}
-use Rattle.wire.proofs.Loops.{summed-done, summed-short}
-use Rattle.wire.proofs.Straight.{ones-past}
+use Rattle.wire.proofs.reading.Walk.{run-ret}
+use Rattle.wire.proofs.reading.Loops.{summed-done, summed-short}
+use Rattle.wire.proofs.layouts.Straight.{ones-past}
 use Rattle.multi_stream.specs.Read.{main}
 use Rattle.multi_stream.proofs.Parsed.{main-cut, groups-cut, groups-summed}
 use borrow.Author.Needs.{needs}

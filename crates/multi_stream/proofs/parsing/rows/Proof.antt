@@ -1,7 +1,7 @@
 -- `multi_stream::parsing::rows` meets its contract: the first byte, and the main part that it steers.
 use mathlib.Core.Path.{ap}
 use Rattle.wire.specs.Reads.{byteOut}
-use Rattle.wire.proofs.Loops.{summed-short}
+use Rattle.wire.proofs.reading.Loops.{summed-short}
 use Rattle.multi_stream.proofs.Parsed.{first-there, first-cut, body-summed}
 use borrow.Author.Needs.{needs}
 use Rattle.multi_stream.proofs.parsing.rows.Statement.{statement}

@@ -1,7 +1,7 @@
 -- `multi_stream::writing::check` meets its contract: the fields, and the trailing run behind them.
 use mathlib.Core.Path.{sym, _∙_}
 use native.Mathlib.Omega.{arith}
-use Rattle.wire.proofs.Passes.{more}
+use Rattle.wire.proofs.writing.Passes.{more}
 use Rattle.frame.proofs.Passes.{run-outside, all-looked}
 use Rattle.multi_stream.specs.Kind.{kind}
 use Rattle.multi_stream.proofs.Mirrored.{acts-are}

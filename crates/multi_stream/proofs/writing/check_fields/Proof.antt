@@ -1,8 +1,8 @@
 -- `multi_stream::writing::check_fields` meets its contract: the range, the byte of the record, and the main part.
 use mathlib.Core.Path.{sym, _∙_}
 use native.Mathlib.Omega.{arith}
-use Rattle.wire.proofs.Passes.{then, more, passed, refused}
-use Rattle.wire.proofs.Plain.{all-checked}
+use Rattle.wire.proofs.writing.Passes.{then, more, passed, refused}
+use Rattle.wire.proofs.writing.Plain.{all-checked}
 use Rattle.multi_stream.specs.Write.{multiStreamActs}
 use borrow.Author.Needs.{needs}
 use Rattle.multi_stream.proofs.writing.check_fields.Statement.{statement}

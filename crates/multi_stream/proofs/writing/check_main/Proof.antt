@@ -1,7 +1,7 @@
 -- `multi_stream::writing::check_main` meets its contract: two bytes, then the groups.
 use native.Mathlib.Omega.{arith}
-use Rattle.wire.proofs.Plain.{all-checked}
-use Rattle.wire.proofs.Parts.{part-stops, part-goes, part-absent, rows-there}
+use Rattle.wire.proofs.writing.Plain.{all-checked}
+use Rattle.wire.proofs.writing.Parts.{part-stops, part-goes, part-absent, rows-there}
 use Rattle.multi_stream.specs.Write.{mainActs}
 use borrow.Author.Needs.{needs}
 use Rattle.multi_stream.proofs.writing.check_main.Statement.{statement}

@@ -2,8 +2,8 @@
 use mathlib.Core.List.{List, map, _++_}
 use mathlib.Core.Bool.{true}
 use Rattle.wire.specs.Act.{Act, byte, when}
-use Rattle.wire.proofs.Passes.{Filling, fill-start, fill-demand, fill-last, demanded}
-use Rattle.wire.proofs.Plain.{ready-part, fill-part}
+use Rattle.wire.proofs.writing.Passes.{Filling, fill-start, fill-demand, fill-last, demanded}
+use Rattle.wire.proofs.writing.Plain.{ready-part, fill-part}
 use Rattle.multi_stream.specs.Write.{headFields, mainActs, multiStreamActs}
 use borrow.Author.Needs.{needs}
 use Rattle.multi_stream.proofs.writing.fill_fields.Statement.{statement}

@@ -2,9 +2,9 @@
 use mathlib.Core.List.{List, map, _++_}
 use native.Mathlib.Omega.{arith}
 use Rattle.wire.specs.Act.{Act, byte, when, rows}
-use Rattle.wire.proofs.Passes.{Filling, fill-last}
-use Rattle.wire.proofs.Plain.{ready-part, fill-part}
-use Rattle.wire.proofs.Parts.{part-begins, part-empty, rows-there}
+use Rattle.wire.proofs.writing.Passes.{Filling, fill-last}
+use Rattle.wire.proofs.writing.Plain.{ready-part, fill-part}
+use Rattle.wire.proofs.writing.Parts.{part-begins, part-empty, rows-there}
 use mathlib.Core.Bool.{true}
 use mathlib.Core.Path.{_≡_}
 use Rattle.stream_groups.specs.Write.{rowActs}

@@ -1,5 +1,5 @@
 -- `multi_stream::writing::groups_within` meets its contract.
-use Rattle.wire.proofs.Parts.{within-there, within-absent}
+use Rattle.wire.proofs.writing.Parts.{within-there, within-absent}
 use borrow.Author.Needs.{needs}
 use Rattle.multi_stream.proofs.writing.groups_within.Statement.{statement}
 use Rattle.multi_stream.proofs.writing.groups_within.Tie as tie

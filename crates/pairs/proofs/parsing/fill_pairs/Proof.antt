@@ -2,7 +2,7 @@
 use mathlib.Core.Path.{refl}
 use native.Mathlib.Omega.{arith}
 use Rattle.wire.specs.Layout.{flat}
-use Rattle.wire.proofs.Loops.{Filling, fill-next, fill-end}
+use Rattle.wire.proofs.reading.Loops.{Filling, fill-next, fill-end}
 use Rattle.pairs.specs.Layout.{pair}
 use Rattle.pairs.proofs.Pairs.{pair-run, pair-there}
 use borrow.Author.Needs.{needs}

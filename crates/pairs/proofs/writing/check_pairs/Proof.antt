@@ -1,6 +1,6 @@
 -- `writing::check_pairs` meets its contract: all rows were passed, or a field of one does not fit.
 use native.Mathlib.Nat.{one-mul}
-use Rattle.wire.proofs.Families.{kids-checked, kids-stopped}
+use Rattle.wire.proofs.layouts.Families.{kids-checked, kids-stopped}
 use Rattle.pairs.specs.Write.{pairActs}
 use Rattle.pairs.proofs.Pairs.{pair-stopped}
 use borrow.Author.Needs.{needs}

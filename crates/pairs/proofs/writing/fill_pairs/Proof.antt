@@ -3,8 +3,8 @@ use Prim.Native.Nat.{_-_, _≤_}
 use native.Mathlib.Omega.{arith}
 use native.Mathlib.Nat.{add-sub-cancel-left}
 use Rattle.wire.specs.Act.{rows}
-use Rattle.wire.proofs.Passes.{Filling, rows-turn, rows-end, all-filled, fill-start, fill-row, fill-turn, fill-end}
-use Rattle.wire.proofs.Plain.{filled-long}
+use Rattle.wire.proofs.writing.Passes.{Filling, rows-turn, rows-end, all-filled, fill-start, fill-row, fill-turn, fill-end}
+use Rattle.wire.proofs.writing.Plain.{filled-long}
 use Rattle.pairs.specs.Write.{pairActs}
 use Rattle.pairs.proofs.Pairs.{pair-ready, pair-filled}
 use borrow.Author.Needs.{needs}

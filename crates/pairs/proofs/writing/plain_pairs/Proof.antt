@@ -2,7 +2,7 @@
 use Prim.Native.Nat.{_-_, _+_}
 use mathlib.Core.Path.{refl}
 use native.Mathlib.Omega.{arith}
-use Rattle.wire.proofs.Plain.{Going, going-start, going-turn, going-odd, going-end}
+use Rattle.wire.proofs.writing.Plain.{Going, going-start, going-turn, going-odd, going-end}
 use Rattle.pairs.specs.Write.{pairActs}
 use Rattle.pairs.proofs.Pairs.{pair-plain, pair-odd}
 use borrow.Author.Needs.{needs}

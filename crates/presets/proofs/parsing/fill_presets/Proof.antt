@@ -1,7 +1,7 @@
 -- `parsing::fill_presets` meets its contract.
 use mathlib.Core.Path.{refl}
 use native.Mathlib.Omega.{arith}
-use Rattle.wire.proofs.Families.{Families, families-start, family-ask, families-turn, families-end}
+use Rattle.wire.proofs.layouts.Families.{Families, families-start, family-ask, families-turn, families-end}
 use Rattle.conditions.specs.Layout.{condition}
 use Rattle.presets.specs.Layout.{preset}
 use Rattle.presets.proofs.Taken.{test-so}

@@ -1,8 +1,8 @@
 -- `parsing::measure_presets` meets its contract.
 use native.Mathlib.Omega.{arith}
 use lib.ListN.{length}
-use Rattle.wire.proofs.Loops.{Summing, sum-start, sum-turn, sum-cut, sum-end, sum-small, summed-as}
-use Rattle.wire.proofs.Families.{kids-summed}
+use Rattle.wire.proofs.reading.Loops.{Summing, sum-start, sum-turn, sum-cut, sum-end, sum-small, summed-as}
+use Rattle.wire.proofs.layouts.Families.{kids-summed}
 use Rattle.presets.specs.Layout.{presets}
 use borrow.Author.Needs.{needs}
 use Rattle.presets.proofs.parsing.measure_presets.Statement.{statement}

@@ -6,9 +6,9 @@ use lib.ListN.{length}
 use Rattle.wire.specs.Pen.{Checked}
 use Rattle.wire.specs.declared.pen.Fault.the-variants as F
 use Rattle.wire.specs.declared.pen.Pen.the-variants.{At}
-use Rattle.wire.proofs.Passes.{then}
-use Rattle.wire.proofs.Plain.{met, all-checked}
-use Rattle.wire.proofs.Families.{frontActs}
+use Rattle.wire.proofs.writing.Passes.{then}
+use Rattle.wire.proofs.writing.Plain.{met, all-checked}
+use Rattle.wire.proofs.layouts.Families.{frontActs}
 use Rattle.presets.specs.Layout.{preset}
 use Rattle.presets.specs.Rows.{presetCols}
 use borrow.Author.Needs.{needs}

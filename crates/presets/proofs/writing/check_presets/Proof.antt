@@ -1,5 +1,5 @@
 -- `writing::check_presets` meets its contract.
-use Rattle.wire.proofs.Plain.{plain-odd, plain-end}
+use Rattle.wire.proofs.writing.Plain.{plain-odd, plain-end}
 use Rattle.presets.proofs.Writes.{row-acts}
 use borrow.Author.Needs.{needs}
 use Rattle.presets.proofs.writing.check_presets.Statement.{statement}

@@ -5,9 +5,9 @@ use mathlib.Core.Path.{refl}
 use lib.ListN.{length}
 use Rattle.wire.specs.Act.{rows}
 use Rattle.wire.specs.Layout.{writes}
-use Rattle.wire.proofs.Passes.{Filling, fill-end}
-use Rattle.wire.proofs.Plain.{ready-part, fill-part}
-use Rattle.wire.proofs.Families.{kids-ready, kids-filled}
+use Rattle.wire.proofs.writing.Passes.{Filling, fill-end}
+use Rattle.wire.proofs.writing.Plain.{ready-part, fill-part}
+use Rattle.wire.proofs.layouts.Families.{kids-ready, kids-filled}
 use Rattle.conditions.specs.Write.{rowActs}
 use Rattle.presets.specs.Layout.{preset}
 use Rattle.presets.specs.Rows.{presetCols}

@@ -3,7 +3,7 @@ use Prim.Native.Nat.{_-_, _*_, _≤_}
 use mathlib.Core.Path.{_≡_}
 use native.Mathlib.Omega.{arith}
 use Rattle.wire.specs.Layout.{familyActs}
-use Rattle.wire.proofs.Plain.{Going}
+use Rattle.wire.proofs.writing.Plain.{Going}
 use Rattle.conditions.specs.Layout.{condition}
 use Rattle.conditions.proofs.Counted.{start-going, turn-going, odd-going, end-going}
 use Rattle.presets.specs.Layout.{preset}

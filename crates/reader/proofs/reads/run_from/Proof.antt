@@ -3,7 +3,7 @@ use Prim.Native.Nat.{_+_}
 use mathlib.Core.Path.{_≡_, sym, ap, _∙_}
 use native.Mathlib.Omega.{arith}
 use borrow.Author.Needs.{needs}
-use Rattle.wire.proofs.Steps.{got-run, lacks-run}
+use Rattle.wire.proofs.reading.Steps.{got-run, lacks-run}
 use Rattle.wire.specs.Prog.{done, short, needing}
 use Rattle.reader.specs.Reading.{told, after}
 use Rattle.reader.proofs.reads.run_from.Statement.{statement}

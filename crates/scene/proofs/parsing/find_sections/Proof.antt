@@ -4,7 +4,7 @@ use native.Mathlib.Omega.{arith}
 use Rattle.wire.specs.Bits.{part}
 use Rattle.wire.specs.Prog.{short}
 use Rattle.wire.specs.Reads.{endsOut, sumOut, shortOf}
-use Rattle.wire.proofs.Straight.{Past, ones-past}
+use Rattle.wire.proofs.layouts.Straight.{Past, ones-past}
 use Rattle.scene.proofs.Walked.{head-cut, InGroups, groups-found, groups-cut, InSwitches, switches-found, switches-cut, all-found, presets-cut}
 use borrow.Author.Needs.{needs}
 use Rattle.scene.proofs.parsing.find_sections.Statement.{statement}

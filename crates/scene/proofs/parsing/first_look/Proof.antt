@@ -3,7 +3,7 @@ use mathlib.Core.Path.{sym, ap, _∙_}
 use native.Mathlib.Omega.{arith}
 use Rattle.wire.specs.Prog.{short}
 use Rattle.wire.specs.Reads.{endsOut, shortOf}
-use Rattle.wire.proofs.Straight.{ones-past}
+use Rattle.wire.proofs.layouts.Straight.{ones-past}
 use Rattle.scene.proofs.Walked.{head-cut}
 use Rattle.scene.proofs.Found.{flags-so}
 use Rattle.scene.proofs.Bare.{none-so}

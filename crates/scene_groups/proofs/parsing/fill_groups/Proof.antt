@@ -1,6 +1,6 @@
 -- `fill_groups` stores each row: what is still to store from here is what was to store from the start.
 use mathlib.Core.Path.{refl}
-use Rattle.wire.proofs.Loops.{Filling, fill-next, fill-end, first-done}
+use Rattle.wire.proofs.reading.Loops.{Filling, fill-next, fill-end, first-done}
 use Rattle.wire.specs.Layout.{flat}
 use Rattle.scene_groups.specs.Layout.{group}
 use borrow.Author.Needs.{needs}

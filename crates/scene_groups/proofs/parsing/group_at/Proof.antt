@@ -5,7 +5,7 @@ use mathlib.Core.Path.{_≡_, refl, ap, _∙_}
 use native.Mathlib.Omega.{arith}
 use lib.ListN.{length, getD}
 use Rattle.wire.specs.Bits.{part}
-use Rattle.wire.proofs.Straight.{Whole, flat-done}
+use Rattle.wire.proofs.layouts.Straight.{Whole, flat-done}
 use Rattle.scene_groups.specs.Layout.{group}
 use Rattle.scene_groups.specs.Rows.{headOf}
 use Rattle.scene_groups.proofs.Groups.{fives, twos, threes, group-room, group-done, flag-below}

@@ -5,7 +5,7 @@ use Prim.Native.Nat.{_+_}
 use native.Mathlib.Omega.{arith}
 use Rattle.wire.specs.Reads.{endsOut}
 use Rattle.wire.specs.Straight.{ones}
-use Rattle.wire.proofs.Straight.{ends-cut}
+use Rattle.wire.proofs.layouts.Straight.{ends-cut}
 use Rattle.scene_groups.proofs.Groups.{group-ends, Three, three, Singly, singly, singly-cut, with-language, no-language}
 use borrow.Author.Needs.{needs}
 use Rattle.scene_groups.proofs.parsing.group_end.Statement.{statement}

@@ -1,5 +1,5 @@
 -- `language_at` takes the language that is there; of one that is not, the columns stay 0.
-use Rattle.wire.proofs.Straight.{size-there, taken-none}
+use Rattle.wire.proofs.layouts.Straight.{size-there, taken-none}
 use Rattle.wire.specs.Straight.{blanks}
 use Rattle.scene_groups.specs.Layout.{language}
 use Rattle.scene_groups.proofs.Groups.{language-there}

@@ -2,8 +2,8 @@
 use mathlib.Core.List.{[], _∷_}
 use native.Mathlib.Omega.{arith}
 use Rattle.wire.specs.Layout.{flat, of, tally}
-use Rattle.wire.proofs.Loops.{first-done}
-use Rattle.wire.proofs.Adding.{Adding, adding-start, adding-turn, adding-end}
+use Rattle.wire.proofs.reading.Loops.{first-done}
+use Rattle.wire.proofs.reading.Adding.{Adding, adding-start, adding-turn, adding-end}
 use Rattle.scene_groups.specs.Layout.{group}
 use borrow.Author.Needs.{needs}
 use Rattle.scene_groups.proofs.tallying.tally_groups.Statement.{statement}

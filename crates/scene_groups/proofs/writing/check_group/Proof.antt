@@ -8,11 +8,11 @@ use Rattle.wire.specs.Act.{Act, demand, byte, when}
 use Rattle.wire.specs.Pen.{Checked}
 use Rattle.wire.specs.declared.pen.Fault.the-variants as F
 use Rattle.wire.specs.declared.pen.Pen.the-variants.{At}
-use Rattle.wire.proofs.Passes.{then}
+use Rattle.wire.proofs.writing.Passes.{then}
 use Rattle.scene_groups.specs.Rows.{groupCols, groupOf}
 use Rattle.scene_groups.specs.Write.{headFields, positionFields, gainFields, languageFields, groupFlags}
 use Rattle.scene_groups.proofs.Writes.{group-acts}
-use Rattle.wire.proofs.Plain.{met, all-checked}
+use Rattle.wire.proofs.writing.Plain.{met, all-checked}
 use Rattle.scene_groups.specs.declared.rows.SceneGroup.{SceneGroup}
 use Rattle.scene_groups.specs.declared.rows.ContentLanguage.{ContentLanguage}
 use borrow.Author.Needs.{needs}

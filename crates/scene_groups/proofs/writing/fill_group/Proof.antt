@@ -3,8 +3,8 @@ use Prim.Native.Nat.{ℕ}
 use mathlib.Core.List.{List, [], _++_, map}
 use mathlib.Core.Path.{refl}
 use Rattle.wire.specs.Act.{Act, byte}
-use Rattle.wire.proofs.Passes.{Filling, fill-start, fill-demand, fill-row, fill-turn, fill-end}
-use Rattle.wire.proofs.Plain.{ready-part, fill-part, filled-long}
+use Rattle.wire.proofs.writing.Passes.{Filling, fill-start, fill-demand, fill-row, fill-turn, fill-end}
+use Rattle.wire.proofs.writing.Plain.{ready-part, fill-part, filled-long}
 use Rattle.wire.specs.Layout.{Columns}
 use Rattle.scene_groups.specs.Rows.{groupCols, groupOf, positionOf, gainOf, languageOf}
 use Rattle.scene_groups.specs.Write.{headFields, positionPart, gainPart, languagePart}

@@ -3,7 +3,7 @@ use Prim.Native.Nat.{_-_, _≤_}
 use native.Mathlib.Omega.{arith}
 use native.Mathlib.Nat.{sub-zero}
 use Rattle.wire.specs.Act.{rows}
-use Rattle.wire.proofs.Passes.{Filling, rows-turn, rows-end, fill-start, fill-row, fill-turn, fill-end}
+use Rattle.wire.proofs.writing.Passes.{Filling, rows-turn, rows-end, fill-start, fill-row, fill-turn, fill-end}
 use Rattle.scene_groups.specs.Write.{rowActs}
 use Rattle.scene_groups.proofs.Writes.{row-acts}
 use borrow.Author.Needs.{needs}

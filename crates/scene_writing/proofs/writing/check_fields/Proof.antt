@@ -1,9 +1,9 @@
 -- `scene_writing::writing::check_fields` meets its contract: the ranges, the two bytes, and section after section.
 use mathlib.Core.Path.{sym, _∙_}
 use native.Mathlib.Omega.{arith}
-use Rattle.wire.proofs.Passes.{then, more, passed, refused}
-use Rattle.wire.proofs.Plain.{all-checked}
-use Rattle.frame.specs.Entry.{first, others}
+use Rattle.wire.proofs.writing.Passes.{then, more, passed, refused}
+use Rattle.wire.proofs.writing.Plain.{all-checked}
+use Rattle.frame.specs.Entry.{firstTable, otherTables}
 use Rattle.scene_writing.specs.Write.{sceneActs}
 use Rattle.scene_writing.proofs.Writes.{insides}
 use borrow.Author.Needs.{needs}
@@ -35,12 +35,12 @@ check-presets-section-requires c κs =
     (insides (c .before .before .before .before .before .before .before .before .before .before .before .before .args .m) _ _ _ (sym (c .before .before .before .before .before .before .all-within .ensures) ∙ c .before .before .before .before .before .if1 .taken) .presets, omega (arith, all-checked (c .before .before .before .before .head-bytes .ensures) (c .before .before .check-all .ensures) .near, c .before .check-groups-section .ensures .near, c .check-switch-groups-section .ensures .near))
 
 returns : tie.Need-returns
-unfolding sceneActs first others
+unfolding sceneActs firstTable otherTables
 returns c =
     rw (sym (c .before .before .before .before .before .before .before .all-within .ensures) ∙ c .before .before .before .before .before .before .if1 .taken) (passed _ 0 (passed _ 0 (passed _ 0 (more 5810 (then (all-checked (c .before .before .before .before .before .head-bytes .ensures) (c .before .before .before .check-all .ensures)) (then (c .before .before .check-groups-section .ensures) (then (c .before .check-switch-groups-section .ensures) (c .check-presets-section .ensures)))) (omega arith)))))
 
 returns-2 : tie.Need-returns-2
-unfolding sceneActs first others
+unfolding sceneActs firstTable otherTables
 returns-2 c =
     rw (sym (c .before .all-within .ensures) ∙ c .if1 .left) (refused _ 0 _ _)
 

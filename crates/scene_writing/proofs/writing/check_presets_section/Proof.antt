@@ -1,7 +1,7 @@
 -- `scene_writing::writing::check_presets_section` meets its contract: the byte of the section, then its rows.
 use native.Mathlib.Omega.{arith}
-use Rattle.wire.proofs.Plain.{all-checked}
-use Rattle.wire.proofs.Parts.{part-stops, part-goes, part-absent, rows-there}
+use Rattle.wire.proofs.writing.Plain.{all-checked}
+use Rattle.wire.proofs.writing.Parts.{part-stops, part-goes, part-absent, rows-there}
 use Rattle.scene_writing.specs.Write.{sectionActs}
 use Rattle.scene_writing.proofs.Writes.{count-fits}
 use borrow.Author.Needs.{needs}

@@ -4,9 +4,9 @@ use mathlib.Core.Bool.{true}
 use mathlib.Core.Path.{refl}
 use Rattle.wire.specs.Act.{Act, byte, when}
 use Rattle.wire.specs.Layout.{familyActs}
-use Rattle.wire.proofs.Passes.{Filling, fill-start, fill-demand, fill-row, fill-turn, fill-last, demanded}
-use Rattle.wire.proofs.Plain.{ready-part, fill-part}
-use Rattle.frame.specs.Entry.{first, others}
+use Rattle.wire.proofs.writing.Passes.{Filling, fill-start, fill-demand, fill-row, fill-turn, fill-last, demanded}
+use Rattle.wire.proofs.writing.Plain.{ready-part, fill-part}
+use Rattle.frame.specs.Entry.{firstTable, otherTables}
 use Rattle.scene_groups.specs.Write.{rowActs}
 use Rattle.switch_groups.specs.Layout.{member, switchGroup}
 use Rattle.conditions.specs.Layout.{condition}
@@ -32,11 +32,11 @@ abbrev all : tie.Start → List Act
 all c = sceneActs (c .args .m) (c .args .groups .now ∷ c .args .switch-groups .now ∷ c .args .members .now ∷ c .args .presets .now ∷ c .args .conditions .now ∷ [])
 
 inside : (c : tie.Start) → Inside (c .args .m) (c .args .groups .now) (c .args .switch-groups .now) (c .args .presets .now)
-unfolding sceneActs first others
+unfolding sceneActs firstTable otherTables
 inside c = insides (c .args .m) _ _ _ (demanded (c .pre))
 
 begin : (c : tie.Start) → Filling (all c) (when true (map byte (headBytes (c .args .m))) ++ (in-groups c ++ (in-switches c ++ in-presets c))) 0 (c .args .out .now) 0 (c .args .out .now)
-unfolding sceneActs first others
+unfolding sceneActs firstTable otherTables
 begin c = fill-demand (fill-demand (fill-demand (fill-start (c .pre))))
 
 -- ---- places

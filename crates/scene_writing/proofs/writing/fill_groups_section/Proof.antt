@@ -2,11 +2,11 @@
 use mathlib.Core.List.{List}
 use native.Mathlib.Omega.{arith}
 use Rattle.wire.specs.Act.{Act, rows}
-use Rattle.wire.proofs.Passes.{Filling, fill-last}
-use Rattle.wire.proofs.Plain.{ready-part, fill-part}
+use Rattle.wire.proofs.writing.Passes.{Filling, fill-last}
+use Rattle.wire.proofs.writing.Plain.{ready-part, fill-part}
 use Rattle.scene_groups.specs.Write.{rowActs}
 use Rattle.scene_writing.specs.Write.{sectionActs, groupsActs}
-use Rattle.wire.proofs.Parts.{part-empty, rows-there}
+use Rattle.wire.proofs.writing.Parts.{part-empty, rows-there}
 use Rattle.scene_writing.proofs.Writes.{section-begins}
 use borrow.Author.Needs.{needs}
 use Rattle.scene_writing.proofs.writing.fill_groups_section.Statement.{statement}

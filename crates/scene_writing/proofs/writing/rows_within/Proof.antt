@@ -1,5 +1,5 @@
 -- `scene_writing::writing::rows_within` meets its contract.
-use Rattle.wire.proofs.Parts.{within-there, within-absent}
+use Rattle.wire.proofs.writing.Parts.{within-there, within-absent}
 use borrow.Author.Needs.{needs}
 use Rattle.scene_writing.proofs.writing.rows_within.Statement.{statement}
 use Rattle.scene_writing.proofs.writing.rows_within.Tie as tie

@@ -1,7 +1,7 @@
 -- `scopes::writing::check_scope` meets its contract: the case, all fields, then the bytes.
 use native.Mathlib.Omega.{arith}
 use Rattle.wire.specs.Spell.{none, more}
-use Rattle.wire.proofs.Plain.{all-checked}
+use Rattle.wire.proofs.writing.Plain.{all-checked}
 use Rattle.scopes.proofs.Written.{scope-checked}
 use borrow.Author.Needs.{needs}
 use Rattle.scopes.proofs.writing.check_scope.Statement.{statement}

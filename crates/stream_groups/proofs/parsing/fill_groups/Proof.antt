@@ -1,7 +1,7 @@
 -- `fill_groups` stores each row: what is still to store from here is what was to store from the start.
 use mathlib.Core.Path.{refl}
 use Rattle.wire.specs.Layout.{flat}
-use Rattle.wire.proofs.Loops.{Filling, fill-next, fill-end, first-done}
+use Rattle.wire.proofs.reading.Loops.{Filling, fill-next, fill-end, first-done}
 use Rattle.stream_groups.specs.Layout.{group}
 use borrow.Author.Needs.{needs}
 use Rattle.stream_groups.proofs.parsing.fill_groups.Statement.{statement}

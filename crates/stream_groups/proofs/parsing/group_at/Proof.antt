@@ -1,5 +1,5 @@
 -- `group_at` takes the fields of the first byte, and those of the second outside the main stream.
-use Rattle.wire.proofs.Straight.{Whole, flat-done}
+use Rattle.wire.proofs.layouts.Straight.{Whole, flat-done}
 use Rattle.stream_groups.specs.Layout.{group}
 use Rattle.stream_groups.proofs.Taken.{first-there, second-there, main-done, outside-done}
 use borrow.Author.Needs.{needs}

@@ -2,7 +2,7 @@
 use mathlib.Core.Path.{ap}
 use native.Mathlib.Omega.{arith}
 use Rattle.wire.specs.Reads.{byteOut}
-use Rattle.wire.proofs.Straight.{Behind}
+use Rattle.wire.proofs.layouts.Straight.{Behind}
 use Rattle.stream_groups.proofs.Taken.{group-cut, group-behind, group-main, group-outside}
 use borrow.Author.Needs.{needs}
 use Rattle.stream_groups.proofs.parsing.group_end.Statement.{statement}

@@ -7,8 +7,8 @@ use Rattle.wire.specs.Pen.{Checked}
 use Rattle.wire.specs.Spell.{none, more}
 use Rattle.wire.specs.declared.pen.Fault.the-variants as F
 use Rattle.wire.specs.declared.pen.Pen.the-variants.{At}
-use Rattle.wire.proofs.Passes.{then}
-use Rattle.wire.proofs.Plain.{met, all-checked}
+use Rattle.wire.proofs.writing.Passes.{then}
+use Rattle.wire.proofs.writing.Plain.{met, all-checked}
 use Rattle.stream_groups.specs.Rows.{groupCols}
 use Rattle.stream_groups.specs.Write.{groupByte, flagsOf, placedOnce}
 use Rattle.stream_groups.specs.declared.rows.MultiStreamGroup.{MultiStreamGroup}

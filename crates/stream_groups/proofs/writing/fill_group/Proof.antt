@@ -4,8 +4,8 @@ use mathlib.Core.List.{List, [], _∷_, _++_, map}
 use mathlib.Core.Path.{refl}
 use Rattle.wire.specs.Act.{Act, byte}
 use Rattle.wire.specs.Spell.{none, more}
-use Rattle.wire.proofs.Passes.{Filling, fill-start, fill-demand, fill-row, fill-turn, fill-end}
-use Rattle.wire.proofs.Plain.{ready-part, fill-part, filled-long}
+use Rattle.wire.proofs.writing.Passes.{Filling, fill-start, fill-demand, fill-row, fill-turn, fill-end}
+use Rattle.wire.proofs.writing.Plain.{ready-part, fill-part, filled-long}
 use Rattle.stream_groups.specs.Rows.{groupCols}
 use Rattle.stream_groups.specs.Write.{groupByte, locationPart}
 use Rattle.stream_groups.proofs.Writes.{group-acts, plainActs, locationActs}

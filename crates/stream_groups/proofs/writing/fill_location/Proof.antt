@@ -4,7 +4,7 @@ use borrow.Author.Tests.{eq-eqb, ne-eqb}
 use Rattle.wire.specs.Act.{byte}
 use Rattle.wire.specs.Pen.{Ready}
 use Rattle.wire.specs.Spell.{none, more}
-use Rattle.wire.proofs.Passes.{fill-none}
+use Rattle.wire.proofs.writing.Passes.{fill-none}
 use Rattle.stream_groups.specs.Write.{locationByte}
 use borrow.Author.Needs.{needs}
 use Rattle.stream_groups.proofs.writing.fill_location.Statement.{statement}

@@ -1,8 +1,8 @@
 -- `parsing::measure_switch_groups` meets its contract: the members so far, and those of the switch groups that are left.
 use native.Mathlib.Omega.{arith}
 use lib.ListN.{length}
-use Rattle.wire.proofs.Loops.{Summing, sum-start, sum-turn, sum-cut, sum-end, sum-small, summed-as}
-use Rattle.wire.proofs.Families.{kids-summed}
+use Rattle.wire.proofs.reading.Loops.{Summing, sum-start, sum-turn, sum-cut, sum-end, sum-small, summed-as}
+use Rattle.wire.proofs.layouts.Families.{kids-summed}
 use Rattle.switch_groups.specs.Layout.{switchGroups}
 use borrow.Author.Needs.{needs}
 use Rattle.switch_groups.proofs.parsing.measure_switch_groups.Statement.{statement}

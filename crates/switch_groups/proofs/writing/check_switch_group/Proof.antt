@@ -5,7 +5,7 @@ use native.Mathlib.Omega.{arith}
 use lib.ListN.{length}
 use Rattle.wire.specs.Pen.{Checked}
 use Rattle.wire.specs.declared.pen.Pen.the-variants.{At}
-use Rattle.wire.proofs.Families.{frontActs}
+use Rattle.wire.proofs.layouts.Families.{frontActs}
 use Rattle.switch_groups.specs.Layout.{switchGroup}
 use Rattle.switch_groups.specs.Rows.{switchGroupCols}
 use Rattle.switch_groups.proofs.Writes.{front, front-behind, front-near, front-stopped, row-checked}

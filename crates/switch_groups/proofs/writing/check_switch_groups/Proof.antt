@@ -1,5 +1,5 @@
 -- `writing::check_switch_groups` meets its contract.
-use Rattle.wire.proofs.Plain.{plain-odd, plain-end}
+use Rattle.wire.proofs.writing.Plain.{plain-odd, plain-end}
 use Rattle.switch_groups.proofs.Writes.{row-acts}
 use borrow.Author.Needs.{needs}
 use Rattle.switch_groups.proofs.writing.check_switch_groups.Statement.{statement}

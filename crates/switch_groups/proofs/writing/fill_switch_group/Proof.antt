@@ -1,5 +1,5 @@
 -- `writing::fill_switch_group` meets its contract: its first two bytes, its members, and its default.
-use Rattle.wire.proofs.Plain.{filled-long}
+use Rattle.wire.proofs.writing.Plain.{filled-long}
 use Rattle.switch_groups.proofs.Writes.{row-ready, head-ready, members-ready, default-ready, row-filled}
 use borrow.Author.Needs.{needs}
 use Rattle.switch_groups.proofs.writing.fill_switch_group.Statement.{statement}

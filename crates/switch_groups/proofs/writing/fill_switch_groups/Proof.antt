@@ -4,8 +4,8 @@ use native.Mathlib.Omega.{arith}
 use native.Mathlib.Nat.{sub-zero}
 use Rattle.wire.specs.Act.{rows}
 use Rattle.wire.specs.Layout.{familyActs}
-use Rattle.wire.proofs.Passes.{Filling, rows-turn, rows-end, fill-start, fill-row, fill-turn, fill-end}
-use Rattle.wire.proofs.Plain.{filled-long}
+use Rattle.wire.proofs.writing.Passes.{Filling, rows-turn, rows-end, fill-start, fill-row, fill-turn, fill-end}
+use Rattle.wire.proofs.writing.Plain.{filled-long}
 use Rattle.switch_groups.specs.Layout.{member, switchGroup}
 use Rattle.switch_groups.proofs.Writes.{row-acts}
 use borrow.Author.Needs.{needs}

@@ -2,7 +2,7 @@
 use Prim.Native.Nat.{_-_}
 use native.Mathlib.Omega.{arith}
 use Rattle.wire.specs.Layout.{familyActs}
-use Rattle.wire.proofs.Plain.{Going, going-start, going-turn, going-odd, going-end}
+use Rattle.wire.proofs.writing.Plain.{Going, going-start, going-turn, going-odd, going-end}
 use Rattle.switch_groups.specs.Layout.{member, switchGroup}
 use Rattle.switch_groups.proofs.Writes.{row-acts}
 use borrow.Author.Needs.{needs}

@@ -1,6 +1,6 @@
 -- `parsing::lower_at` meets its contract.
 use Rattle.wire.specs.Straight.{blanks}
-use Rattle.wire.proofs.Straight.{taken-none}
+use Rattle.wire.proofs.layouts.Straight.{taken-none}
 use Rattle.target_loudness.specs.Layout.{lower}
 use Rattle.target_loudness.proofs.Taken.{lower-there}
 use borrow.Author.Needs.{needs}

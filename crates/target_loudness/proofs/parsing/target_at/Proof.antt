@@ -1,6 +1,6 @@
 -- `parsing::target_at` meets its contract.
 use Rattle.wire.specs.Straight.{blanks}
-use Rattle.wire.proofs.Straight.{taken-none, size-there}
+use Rattle.wire.proofs.layouts.Straight.{taken-none, size-there}
 use Rattle.target_loudness.specs.Layout.{target}
 use borrow.Author.Needs.{needs}
 use Rattle.target_loudness.proofs.parsing.target_at.Statement.{statement}

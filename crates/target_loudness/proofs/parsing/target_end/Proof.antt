@@ -3,7 +3,7 @@ use mathlib.Core.Path.{ap}
 use native.Mathlib.Omega.{arith}
 use Rattle.wire.specs.Bits.{part}
 use Rattle.wire.specs.Reads.{endsOut}
-use Rattle.wire.proofs.Straight.{Behind, behind-one, one-cut, one-more}
+use Rattle.wire.proofs.layouts.Straight.{Behind, behind-one, one-cut, one-more}
 use Rattle.wire.proofs.Fields.{part-below}
 use Rattle.target_loudness.proofs.Taken.{there-ends, none-ends}
 use borrow.Author.Needs.{needs}

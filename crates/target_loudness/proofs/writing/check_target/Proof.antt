@@ -5,7 +5,7 @@ use native.Mathlib.Omega.{arith}
 use Rattle.wire.specs.Act.{byte, when}
 use Rattle.wire.specs.Pen.{Checked}
 use Rattle.wire.specs.Spell.{fieldsOf}
-use Rattle.wire.proofs.Plain.{all-checked}
+use Rattle.wire.proofs.writing.Plain.{all-checked}
 use Rattle.target_loudness.specs.Rows.{targetCols, upperCells, lowerCells}
 use Rattle.target_loudness.proofs.Writes.{target-checked, none-checked}
 use borrow.Author.Needs.{needs}

@@ -1,6 +1,6 @@
 -- `parsing::language_rows` meets its contract: the rows of the three lists, one after the other.
 use native.Mathlib.Omega.{arith}
-use Rattle.wire.proofs.Loops.{sum-small}
+use Rattle.wire.proofs.reading.Loops.{sum-small}
 use Rattle.text_label.proofs.Parsed.{letters-lack, letters-got, groups-lack, groups-got, switch-groups-lack, switch-groups-got, presets-lack, language-counted}
 use borrow.Author.Needs.{needs}
 use Rattle.text_label.proofs.parsing.language_rows.Statement.{statement}

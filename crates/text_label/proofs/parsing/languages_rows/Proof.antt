@@ -1,7 +1,7 @@
 -- `parsing::languages_rows` meets its contract: the rows of the languages so far, and those of the ones that are left.
 use borrow.Author.Needs.{needs}
 use native.Mathlib.Omega.{arith}
-use Rattle.wire.proofs.Loops.{Summing, sum-start, sum-turn, sum-cut, sum-end, sum-small, summed-as}
+use Rattle.wire.proofs.reading.Loops.{Summing, sum-start, sum-turn, sum-cut, sum-end, sum-small, summed-as}
 use Rattle.text_label.specs.Read.{language}
 use Rattle.text_label.proofs.Parsed.{sizeOf, entries-summed}
 use Rattle.text_label.proofs.parsing.languages_rows.Statement.{statement}

@@ -1,6 +1,6 @@
 -- `parsing::record_at` meets its contract: the fields of the two bytes, and what was measured.
 use native.Mathlib.Omega.{arith}
-use Rattle.frame.proofs.Entries.{inTable-measured}
+use Rattle.frame.proofs.Entries.{within-measured}
 use Rattle.text_label.specs.Kind.{kind}
 use Rattle.text_label.proofs.Sighted.{two-measured, top-of-two}
 use borrow.Author.Needs.{needs}
@@ -34,7 +34,7 @@ cast-t11 c = search needs
 
 trailing-run-requires : tie.Need-trailing-run-requires
 trailing-run-requires c κs =
-    let w = inTable-measured kind _ (c .before .before .before .before .before .before .before .pre) in (w .before, w .all)
+    let w = within-measured kind _ (c .before .before .before .before .before .before .before .pre) in (w .before, w .all)
 
 returns : tie.Need-returns
 returns c = search top-of-two

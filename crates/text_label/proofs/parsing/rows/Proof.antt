@@ -1,11 +1,11 @@
--- `parsing::rows` meets its contract: its first two bytes, and the rows of its languages.
+-- Measuring: the first two bytes of a body, then its languages.
 use Rattle.text_label.proofs.Parsed.{head-lacks, head-got, second-there, count-four, body-counted}
 use borrow.Author.Needs.{needs}
 use Rattle.text_label.proofs.parsing.rows.Statement.{statement}
 use Rattle.text_label.proofs.parsing.rows.Tie as tie
 
-head-requires : tie.Need-head-requires
-head-requires c κs = search needs
+head-end-requires : tie.Need-head-end-requires
+head-end-requires c κs = search needs
 
 enum-known-a : tie.Need-enum-known-a
 enum-known-a c = search needs
@@ -41,7 +41,7 @@ pub rows-spec : {M : Type 1} → statement M
 rows-spec =
     tie.close
     (tie.spec
-    head-requires
+    head-end-requires
     enum-known-a
     enum-told
     short-requires

@@ -1,7 +1,7 @@
 -- `tallying::tally_languages` meets its contract: what is summed up, and what is left, come to the whole.
 use borrow.Author.Needs.{needs}
 use native.Mathlib.Omega.{arith}
-use Rattle.wire.proofs.Loops.{Summing, sum-start, sum-next, sum-end}
+use Rattle.wire.proofs.reading.Loops.{Summing, sum-start, sum-next, sum-end}
 use Rattle.text_label.specs.Read.{language}
 use Rattle.text_label.specs.Kind.{languageRows}
 use Rattle.text_label.proofs.Tallied.{language-summed}

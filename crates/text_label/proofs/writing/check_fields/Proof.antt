@@ -1,8 +1,8 @@
 -- `writing::check_fields` meets its contract: the range, the bytes of the record, and the languages.
 use mathlib.Core.Path.{sym, _∙_}
 use native.Mathlib.Omega.{arith}
-use Rattle.wire.proofs.Passes.{then, more, passed, refused, stopped, here}
-use Rattle.wire.proofs.Plain.{all-checked}
+use Rattle.wire.proofs.writing.Passes.{then, more, passed, refused, stopped, here}
+use Rattle.wire.proofs.writing.Plain.{all-checked}
 use Rattle.text_label.specs.Write.{textLabelActs}
 use Rattle.text_label.proofs.Written.{languages-few, languages-there}
 use borrow.Author.Needs.{needs}

@@ -2,8 +2,8 @@
 use mathlib.Core.Path.{_≡_, sym, _∙_}
 use mathlib.Core.Bool.{true}
 use native.Mathlib.Omega.{arith}
-use Rattle.wire.proofs.Passes.{then, more, passed, refused}
-use Rattle.wire.proofs.Plain.{all-checked}
+use Rattle.wire.proofs.writing.Passes.{then, more, passed, refused}
+use Rattle.wire.proofs.writing.Plain.{all-checked}
 use Rattle.text_label.specs.Write.{allWithin, languageActs}
 use Rattle.text_label.proofs.Written.{Within, all-three}
 use borrow.Author.Needs.{needs}

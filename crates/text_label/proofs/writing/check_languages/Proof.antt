@@ -4,7 +4,7 @@ use native.Mathlib.Omega.{arith}
 use native.Mathlib.Nat.{sub-zero}
 use Rattle.wire.specs.Act.{rows}
 use Rattle.wire.specs.declared.pen.Pen.the-variants.{At}
-use Rattle.wire.proofs.Passes.{Checking, rows-turn, rows-end, check-start, check-turn, check-stop, check-end}
+use Rattle.wire.proofs.writing.Passes.{Checking, rows-turn, rows-end, check-start, check-turn, check-stop, check-end}
 use Rattle.text_label.specs.Write.{rowActs}
 use borrow.Author.Needs.{needs}
 use Rattle.text_label.proofs.writing.check_languages.Statement.{statement}

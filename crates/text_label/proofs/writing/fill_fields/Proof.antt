@@ -4,8 +4,8 @@ use mathlib.Core.Bool.{true}
 use mathlib.Core.Path.{refl}
 use native.Mathlib.Omega.{arith}
 use Rattle.wire.specs.Act.{Act, byte, when, rows}
-use Rattle.wire.proofs.Passes.{Filling, fill-start, fill-demand, fill-last, demanded}
-use Rattle.wire.proofs.Plain.{ready-part, fill-part}
+use Rattle.wire.proofs.writing.Passes.{Filling, fill-start, fill-demand, fill-last, demanded}
+use Rattle.wire.proofs.writing.Plain.{ready-part, fill-part}
 use Rattle.text_label.specs.Write.{rowActs, headFields, textLabelActs}
 use Rattle.text_label.proofs.Written.{languages-there}
 use borrow.Author.Needs.{needs}

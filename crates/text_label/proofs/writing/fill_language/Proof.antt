@@ -4,8 +4,8 @@ use mathlib.Core.Bool.{true}
 use mathlib.Core.Path.{refl}
 use native.Mathlib.Omega.{arith}
 use Rattle.wire.specs.Act.{Act, byte, when}
-use Rattle.wire.proofs.Passes.{Filling, fill-start, fill-demand, fill-row, fill-turn, fill-last, demanded}
-use Rattle.wire.proofs.Plain.{ready-part, fill-part}
+use Rattle.wire.proofs.writing.Passes.{Filling, fill-start, fill-demand, fill-row, fill-turn, fill-last, demanded}
+use Rattle.wire.proofs.writing.Plain.{ready-part, fill-part}
 use Rattle.labels.specs.Write.{listActs}
 use Rattle.text_label.specs.Write.{letterFields, languageActs}
 use Rattle.text_label.proofs.Written.{Within, all-three}

@@ -13,10 +13,10 @@ use Rattle.wire.specs.Bits.{field, fit}
 use Rattle.wire.specs.Act.{Act, byte, copy, pick, rows}
 use Rattle.wire.specs.Pen.{clean, bytes}
 use Rattle.wire.specs.Layout.{Cell, Layout, end, line, word, choose, follows, judged, Columns, byteOf, writes, cells, every, flagged, counted, matched, demands, flatActs, Bearing, borneBytes, bearingActs}
-use Rattle.wire.proofs.Acts.{and-both, clean-both, bytes-append}
+use Rattle.wire.proofs.writing.Acts.{and-both, clean-both, bytes-append}
 use Rattle.wire.proofs.Fields.{fits-cons}
-use Rattle.wire.proofs.Passes.{slice-long}
-use Rattle.wire.proofs.Rowed.{after-demands}
+use Rattle.wire.proofs.writing.Passes.{slice-long}
+use Rattle.wire.proofs.layouts.Rowed.{after-demands}
 
 abbrev larger : ℕ → ℕ → ℕ
 larger a b = pick (leb a b) b a

@@ -19,8 +19,8 @@ use Rattle.wire.specs.declared.pen.Fault.the-variants as F
 use Rattle.wire.specs.declared.pen.Pen.{Pen}
 use Rattle.wire.specs.declared.pen.Pen.the-variants.{At, Stop}
 use Rattle.wire.specs.Spell.{PlainRows, fitAll, Spelt, ChecksAll, ReadyAll, FillsAll}
-use Rattle.wire.proofs.Passes.{looks-append, then, more, rows-turn, rows-end, Checking, check-odd, check-end, quick-clean, quick-odd, Filling, fill-start, fill-demand, fill-row, fill-turn, fill-end}
-use Rattle.wire.proofs.Spelling.{spelt-long}
+use Rattle.wire.proofs.writing.Passes.{looks-append, then, more, rows-turn, rows-end, Checking, check-odd, check-end, quick-clean, quick-odd, Filling, fill-start, fill-demand, fill-row, fill-turn, fill-end}
+use Rattle.wire.proofs.writing.Spelling.{spelt-long}
 
 -- before the row i, which makes no more than `most` bytes
 pub record Going (f : ℕ → List Act) (most count i bytes : ℕ) : Type 0 where

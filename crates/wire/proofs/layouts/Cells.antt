@@ -21,10 +21,10 @@ use Rattle.wire.specs.Pen.{clean, bytes}
 use Rattle.wire.specs.Layout.{Cell, num, reserved, flag, unset, less-one, Layout, end, line, word, choose, follows, judged, width, column, stored, loaded, flagged, counted, Columns, set, put, puts, reads, fieldOf, byteOf, writes, shown, matches, every, has, mix, columns}
 use Rattle.wire.proofs.Fields.{wider, fits-cons, cons-fits, split-fits, split-widths, join-split, split-join}
 use Rattle.wire.proofs.Lists.{every-head, every-tail, every-left, every-right}
-use Rattle.wire.proofs.Acts.{and-both, both-and, Makes, makes-both, clean-append, clean-both, bytes-append}
-use Rattle.wire.proofs.Runs.{run-split}
-use Rattle.wire.proofs.Blind.{passed-bind}
-use Rattle.wire.proofs.Takes.{Takes, nothing, seen, takes-bind, takes-split, takes-ret}
+use Rattle.wire.proofs.writing.Acts.{and-both, both-and, Makes, makes-both, clean-append, clean-both, bytes-append}
+use Rattle.wire.proofs.reading.Runs.{run-split}
+use Rattle.wire.proofs.reading.Blind.{passed-bind}
+use Rattle.wire.proofs.reading.Takes.{Takes, nothing, seen, takes-bind, takes-split, takes-ret}
 
 -- ---- columns
 

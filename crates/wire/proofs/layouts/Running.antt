@@ -7,7 +7,7 @@ use native.Mathlib.Nat.{add-zero, zero-add}
 use lib.ListN.{length, getD, length-append}
 use Rattle.wire.specs.Lists.{Every, all-nil, all-cons, each, firsts}
 use Rattle.wire.specs.Layout.{at, row, Broken, brokenRow, Family, parents, kids}
-use Rattle.wire.proofs.Rowed.{Nest, parents-found}
+use Rattle.wire.proofs.layouts.Rowed.{Nest, parents-found}
 
 -- the first list begins at row n, each begins where the one before ended, and the last ends at row m
 pub data RunsOn (b : Broken) : ℕ → List (List ℕ) → ℕ → Type 0 where

@@ -16,18 +16,18 @@ use Rattle.wire.specs.Act.{Act, demand, byte, copy, pick}
 use Rattle.wire.specs.Pen.{clean, bytes}
 use Rattle.wire.specs.declared.pen.Fault.the-variants as F
 use Rattle.wire.specs.Layout.{Cell, end, Columns, of, row, at, reads, writes, shown, cells, matches, matched, every, flagged, counted, has, mix, columns, kept, blank, Bearing, Borne, bearing, borneBytes, bearingActs, bearingMeans, borne, bearingHeeds, borneRow}
-use Rattle.wire.proofs.Acts.{and-both, both-and, clean-append, clean-both}
-use Rattle.wire.proofs.Passes.{slice-long}
+use Rattle.wire.proofs.writing.Acts.{and-both, both-and, clean-append, clean-both}
+use Rattle.wire.proofs.writing.Passes.{slice-long}
 use Rattle.wire.proofs.Tables.{each-length}
-use Rattle.wire.proofs.Takes.{Takes, takes-split, u8-takes, map-takes}
-use Rattle.wire.proofs.Codec.{Codec, Spells, seen-as, As-fits, sized, sized-read, sized-acts, sized-fits}
-use Rattle.wire.proofs.Cells.{On, sound, clash, every-same, mix-in, both-sound, sound-both}
-use Rattle.wire.proofs.Forms.{Form, last, hole, form-go, form-means, form-acts, form-shown, form-matches, form-all, form-proper, form-spans, form-shown-in, below, each-every, rows-of, rows-goes, woven, Fit, Holes, Cleans, alike, means-again, row-spells, row-ready, row-columns}
-use Rattle.wire.proofs.Rowed.{Wide, Good, row-on, on-all, after-demands, each-wide, found, room-for}
+use Rattle.wire.proofs.reading.Takes.{Takes, takes-split, u8-takes, map-takes}
+use Rattle.wire.proofs.layouts.Codec.{Codec, Spells, seen-as, As-fits, prefixed, prefixed-read, prefixed-acts, prefixed-fits}
+use Rattle.wire.proofs.layouts.Cells.{On, sound, clash, every-same, mix-in, both-sound, sound-both}
+use Rattle.wire.proofs.layouts.Forms.{Form, last, hole, form-go, form-means, form-acts, form-shown, form-matches, form-all, form-proper, form-spans, form-shown-in, below, each-every, rows-of, rows-goes, woven, Fit, Holes, Cleans, alike, means-again, row-spells, row-ready, row-columns}
+use Rattle.wire.proofs.layouts.Rowed.{Wide, Good, row-on, on-all, after-demands, each-wide, found, room-for}
 
 -- a payload with its length stands behind the head; no column steers it
 abbrev pub bear-form : Bearing → Form (Payload × Unit {0}) (List ℕ × Unit {0})
-bear-form b = hole (b .head) 0 (λ v. sized) (last end)
+bear-form b = hole (b .head) 0 (λ v. prefixed) (last end)
 
 unfoldable pub bear-test : Bearing → Bool
 bear-test b =
@@ -66,15 +66,15 @@ module _ (x : Bear) where
       let (h, i) = and-both (not (eqb (b .size) (b .offset))) _ e₄ in
       record { proper-so = a; below-so = c; offset-so = not-true _ d; size-so = not-true _ f; place-so = g; two-so = not-true _ h; wide-so = ltb-true _ _ i }
 
-  abbrev whole : Codec (List ℕ × (Payload × Unit {0})) (List ℕ × (List ℕ × Unit {0}))
-  whole = rows-of (b .width) form blank (t .proper-so) (t .below-so) (λ j h. refl)
+  abbrev with-unit : Codec (List ℕ × (Payload × Unit {0})) (List ℕ × (List ℕ × Unit {0}))
+  with-unit = rows-of (b .width) form blank (t .proper-so) (t .below-so) (λ j h. refl)
 
-  pub bear-same : whole .read >>= (λ v. ret (v .0, v .1 .0)) ≡ bearing b
-  unfolding rows-of form-go reads sized seen-as sized-read u8 pass _>>=_
+  pub bear-same : with-unit .read >>= (λ v. ret (v .0, v .1 .0)) ≡ bearing b
+  unfolding rows-of form-go reads prefixed seen-as prefixed-read u8 pass _>>=_
   bear-same = rows-goes (b .width) form blank (t .proper-so) (t .below-so) (λ j h. refl) (λ v. ret (v .0, v .1 .0))
 
-  pub bear-spans : (v : List ℕ × (Payload × Unit {0})) → whole .spans v ≡ v .1 .0 ∷ []
-  unfolding rows-of form-spans sized seen-as
+  pub bear-spans : (v : List ℕ × (Payload × Unit {0})) → with-unit .spans v ≡ v .1 .0 ∷ []
+  unfolding rows-of form-spans prefixed seen-as
   bear-spans v = refl
 
   -- what was read means its columns and its bytes
@@ -82,8 +82,8 @@ module _ (x : Bear) where
   meant s v = (v .0, slice (v .1 .offset) (v .1 .offset + v .1 .length) s)
 
   unfoldable pub bears : Codec Borne (List ℕ × List ℕ)
-  unfolding rows-of form-means sized seen-as
-  bears = seen-as whole (λ v. (v .0, v .1 .0)) (bearing b) bear-same (λ v. v .1 ∷ []) bear-spans meant (λ c. (c .0, c .1 .0)) (λ d. (d .0, (d .1, tt))) (λ s v. refl) (λ c f e. refl)
+  unfolding rows-of form-means prefixed seen-as
+  bears = seen-as with-unit (λ v. (v .0, v .1 .0)) (bearing b) bear-same (λ v. v .1 ∷ []) bear-spans meant (λ c. (c .0, c .1 .0)) (λ d. (d .0, (d .1, tt))) (λ s v. refl) (λ c f e. refl)
 
   -- nothing stands behind the payload
   shown-so : (g : Columns) → form-shown form g ≡ shown (b .head) g
@@ -113,11 +113,11 @@ module _ (x : Bear) where
       let (w, e₄) = clean-both (writes (b .head) g) _ e₃ in
       let l = borneBytes b store g in
       let long : length l ≡ g (b .size) = slice-long (g (b .offset)) (g (b .size)) store (leb-true _ _ i) in
-      let q : run store g ≡ sized .acts l = (λ z. byte (field 8 (sym long z) ∷ []) ∷ copy l ∷ []) ∙ sym (sized-acts l) in
-      let y : Spells sized (run store g) l = record { fits = sized-fits l; sound = ap clean (sym q) ∙ e₄; same = ap bytes q } in
+      let q : run store g ≡ prefixed .acts l = (λ z. byte (field 8 (sym long z) ∷ []) ∷ copy l ∷ []) ∙ sym (prefixed-acts l) in
+      let y : Spells prefixed (run store g) l = record { fits = prefixed-fits l; sound = ap clean (sym q) ∙ e₄; same = ap bytes q } in
       let fit-so : Fit form g = (ap (every sound g) (shown-so g) ∙ both-sound (shown (b .head) g) g d f, ap clean (match-so g) ∙ m) in
       let s = row-spells (b .width) form blank (t .proper-so) (t .below-so) (λ j h. refl) g (run store g, tt) (l, tt) fit-so (ap clean (woven-so g (run store g)) ∙ e₃) (y, tt) in
-      let r : Spells whole (woven form g (run store g, tt)) (row (b .width) (kept (b .head ∷ []) g blank), (l, tt)) = subst (λ (cs : List Cell). Spells whole (woven form g (run store g, tt)) (row (b .width) (mix (columns cs) g blank), (l, tt))) (shown-so g) s in
+      let r : Spells with-unit (woven form g (run store g, tt)) (row (b .width) (kept (b .head ∷ []) g blank), (l, tt)) = subst (λ (cs : List Cell). Spells with-unit (woven form g (run store g, tt)) (row (b .width) (mix (columns cs) g blank), (l, tt))) (shown-so g) s in
       record { fits = (r .fits, refl); sound = r .sound; same = after-demands (b .head ∷ []) g (writes (b .head) g ++ run store g) ∙ sym (ap bytes (woven-so g (run store g))) ∙ r .same }
 
   -- ---- in its table
@@ -169,9 +169,9 @@ module _ (x : Bear) where
       let r = row-ready (b .width) form blank (t .proper-so) (t .below-so) (λ j h. refl) (v .0, (l, tt)) (f .0) e g (on-all form (of (v .0)) g (y .on)) in
       let (c, d) = sound-both (shown (b .head) g) g (ap (every sound g) (sym (shown-so g)) ∙ r .fit .0) in
       let (_, e₁) = clean-both (writes (b .head) (of (v .0))) _ e in
-      let (e₂, _) = clean-both (sized .acts l) _ e₁ in
+      let (e₂, _) = clean-both (prefixed .acts l) _ e₁ in
       let k : length l ≡ g (b .size) = slice-long (v .1 .offset) (v .1 .length) s i ∙ sym (y .size) in
-      let w : clean (run s g) ≡ true = (λ z. clean (byte (field 8 (sym k z) ∷ []) ∷ copy (borneBytes b s g) ∷ [])) ∙ ap clean (sym (sized-acts l)) ∙ e₂ in
+      let w : clean (run s g) ≡ true = (λ z. clean (byte (field 8 (sym k z) ∷ []) ∷ copy (borneBytes b s g) ∷ [])) ∙ ap clean (sym (prefixed-acts l)) ∙ e₂ in
       let n : g (b .offset) + g (b .size) ≤ length s = omega (arith, y .offset, y .size, i) in
       both-and (le-leb _ _ n) (both-and c (both-and d (clean-append (matches (b .head) g) _ ∙ both-and (ap clean (sym (match-so g)) ∙ r .fit .1) (ap clean (sym (woven-so g (run s g))) ∙ r .sound (run s g, tt) (w, tt)))))
 

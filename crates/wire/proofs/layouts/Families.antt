@@ -26,20 +26,20 @@ use Rattle.wire.specs.declared.pen.Pen.the-variants.{At, Stop}
 use Rattle.wire.specs.Straight.{ends, ones, putsAt, took, taken, spans, on}
 use Rattle.wire.specs.declared.reads.Short.{Short}
 use Rattle.wire.specs.declared.reads.Sum.the-variants as S
-use Rattle.wire.proofs.Runs.{andThen, run-bind}
-use Rattle.wire.proofs.Walk.{map-map, undo, as-done, as-short, is-done}
-use Rattle.wire.proofs.Walk.{ends as ends-in}
-use Rattle.wire.proofs.Loops.{many-next, many-none, many-long, many-weighs, none-left, pos-turn, summed-done, summed-short}
-use Rattle.wire.proofs.Adding.{Adding, adding-start, adding-turn, adding-end}
+use Rattle.wire.proofs.reading.Runs.{andThen, run-bind}
+use Rattle.wire.proofs.reading.Walk.{map-map, undo, as-done, as-short, is-done}
+use Rattle.wire.proofs.reading.Walk.{ends as ends-in}
+use Rattle.wire.proofs.reading.Loops.{many-next, many-none, many-long, many-weighs, none-left, pos-turn, summed-done, summed-short}
+use Rattle.wire.proofs.reading.Adding.{Adding, adding-start, adding-turn, adding-end}
 use Rattle.wire.proofs.Tables.{each-length}
-use Rattle.wire.proofs.Nest.{flat-length, Nesting, nest-start, nest-ready, nest-turn, nest-end}
-use Rattle.wire.proofs.Acts.{and-both, both-and, clean-append, clean-both, bytes-append}
-use Rattle.wire.proofs.Passes.{stuck, looks-append, then, more, rows-turn, clean-looks, faulty, passed-clean, check-start, check-turn, check-stop, quick-clean, quick-odd, Filling, fill-start, fill-demand, fill-row, fill-turn}
-use Rattle.wire.proofs.Plain.{plain-odd, plain-end, rows-from, no-quick, filled-long}
-use Rattle.wire.proofs.Cells.{all, free, proper, all-fit, fit-flags, append-every, or-none, has-append}
-use Rattle.wire.proofs.Forms.{each-in, sure}
-use Rattle.wire.proofs.Rowed.{weight, each-like, matched-none, after-demands, nest-test}
-use Rattle.wire.proofs.Straight.{read-so, flat-so, flat-ends, ends-append, thenEnds, ends-at, ends-within, taken-off, total-append, total-ones, ones-append}
+use Rattle.wire.proofs.reading.Nest.{flat-length, Nesting, nest-start, nest-ready, nest-turn, nest-end}
+use Rattle.wire.proofs.writing.Acts.{and-both, both-and, clean-append, clean-both, bytes-append}
+use Rattle.wire.proofs.writing.Passes.{stuck, looks-append, then, more, rows-turn, clean-looks, faulty, passed-clean, check-start, check-turn, check-stop, quick-clean, quick-odd, Filling, fill-start, fill-demand, fill-row, fill-turn}
+use Rattle.wire.proofs.writing.Plain.{plain-odd, plain-end, rows-from, no-quick, filled-long}
+use Rattle.wire.proofs.layouts.Cells.{all, free, proper, all-fit, fit-flags, append-every, or-none, has-append}
+use Rattle.wire.proofs.layouts.Forms.{each-in, sure}
+use Rattle.wire.proofs.layouts.Rowed.{weight, each-like, matched-none, after-demands, nest-test}
+use Rattle.wire.proofs.layouts.Straight.{read-so, flat-so, flat-ends, ends-append, thenEnds, ends-at, ends-within, taken-off, total-append, total-ones, ones-append}
 
 -- ---- measured
 

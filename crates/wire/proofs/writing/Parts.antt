@@ -13,7 +13,7 @@ use Rattle.wire.specs.Pen.{Checked, Ready, Filled}
 use Rattle.wire.specs.declared.pen.Fault.{Fault}
 use Rattle.wire.specs.declared.pen.Pen.{Pen}
 use Rattle.wire.specs.declared.pen.Pen.the-variants.{At, Stop}
-use Rattle.wire.proofs.Passes.{then, more, here, nothing, stopped, Filling, fill-start, fill-none}
+use Rattle.wire.proofs.writing.Passes.{then, more, here, nothing, stopped, Filling, fill-start, fill-none}
 
 module _ (b : Bool) (front rest : List Act) where
   -- what stands first stops the pen

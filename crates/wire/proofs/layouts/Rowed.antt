@@ -15,13 +15,13 @@ use Rattle.wire.specs.Act.{Act, pick, rows}
 use Rattle.wire.specs.Pen.{clean, bytes}
 use Rattle.wire.specs.Layout.{Layout, end, line, word, choose, follows, judged, Columns, of, at, row, set, reads, writes, shown, cells, matches, matched, every, flagged, counted, has, mix, columns, blank, flat, flatActs, flatMeans, Broken, layouts, broken, brokenActs, brokenMeans, brokenRow, Family, parents, kids, familyActsOf, familyMeansOf}
 use Rattle.wire.proofs.Lists.{every-and, every-as, every-map, every-flat, every-firsts}
-use Rattle.wire.proofs.Acts.{and-both, both-and, clean-append, clean-both, bytes-append}
-use Rattle.wire.proofs.Takes.{Takes, takes-split, map-takes, seen, Listed, no-more, one-more, many-takes, listed-every, listed-bound}
+use Rattle.wire.proofs.writing.Acts.{and-both, both-and, clean-append, clean-both, bytes-append}
+use Rattle.wire.proofs.reading.Takes.{Takes, takes-split, map-takes, seen, Listed, no-more, one-more, many-takes, listed-every, listed-bound}
 use Rattle.wire.proofs.Tables.{each-length}
-use Rattle.wire.proofs.Nest.{each-split, firsts-below, firsts-length, flat-length}
-use Rattle.wire.proofs.Codec.{Codec, list, Counted, Spells, spells-rows, seen-as, As-fits}
-use Rattle.wire.proofs.Cells.{all, free, proper, On, clash, cells-on, mix-in, sound-both, both-sound, looked}
-use Rattle.wire.proofs.Forms.{Form, last, hole, form-go, form-means, form-acts, Form-fits, form-shown, form-matches, form-all, form-proper, form-spans, form-shown-in, sure, sure-shown, below, below-has, each-in, each-every, row-of, rows-of, rows-goes, Row-fits, woven, Holes, Cleans, means-again, row-spells, row-ready, row-columns}
+use Rattle.wire.proofs.reading.Nest.{each-split, firsts-below, firsts-length, flat-length}
+use Rattle.wire.proofs.layouts.Codec.{Codec, list, Counted, Spells, spells-rows, seen-as, As-fits}
+use Rattle.wire.proofs.layouts.Cells.{all, free, proper, On, clash, cells-on, mix-in, sound-both, both-sound, looked}
+use Rattle.wire.proofs.layouts.Forms.{Form, last, hole, form-go, form-means, form-acts, Form-fits, form-shown, form-matches, form-all, form-proper, form-spans, form-shown-in, sure, sure-shown, below, below-has, each-in, each-every, row-of, rows-of, rows-goes, Row-fits, woven, Holes, Cleans, means-again, row-spells, row-ready, row-columns}
 
 -- ---- rows in a table
 
@@ -257,20 +257,20 @@ module _ {A C : Type 0} (b : Broken) (m : Codec A C) (t : nest-test b ≡ true) 
       record { proper-so = p₀; below-so = p₂; counts-so = p₄; starts-so = not-true _ p₆; range-so = p₈; two-so = not-true _ p; weight-so = leb-true _ _ w }
 
 module _ {A C : Type 0} (b : Broken) (m : Codec A C) (t : nest-test b ≡ true) where
-  abbrev pub whole : Codec (List ℕ × (List A × Unit {0})) (List ℕ × (List C × Unit {0}))
-  whole = rows-of (b .width) (broken-form b m) blank (nest-tests b m t .proper-so) (nest-tests b m t .below-so) (λ j h. refl)
+  abbrev pub with-unit : Codec (List ℕ × (List A × Unit {0})) (List ℕ × (List C × Unit {0}))
+  with-unit = rows-of (b .width) (broken-form b m) blank (nest-tests b m t .proper-so) (nest-tests b m t .below-so) (λ j h. refl)
 
-  pub broken-same : whole .read >>= (λ v. ret (v .0, v .1 .0)) ≡ broken b (m .read)
+  pub broken-same : with-unit .read >>= (λ v. ret (v .0, v .1 .0)) ≡ broken b (m .read)
   unfolding rows-of form-go list
   broken-same = rows-goes (b .width) (broken-form b m) blank (nest-tests b m t .proper-so) (nest-tests b m t .below-so) (λ j h. refl) (λ v. ret (v .0, v .1 .0))
 
-  pub broken-spans : (v : List ℕ × (List A × Unit {0})) → whole .spans v ≡ flatMap (m .spans) (v .1 .0)
+  pub broken-spans : (v : List ℕ × (List A × Unit {0})) → with-unit .spans v ≡ flatMap (m .spans) (v .1 .0)
   unfolding rows-of form-spans list
   broken-spans v = append-nil (flatMap (m .spans) (v .1 .0))
 
   unfoldable pub breaks : Codec (List ℕ × List A) (List ℕ × List C)
   unfolding rows-of form-means list
-  breaks = seen-as whole (λ v. (v .0, v .1 .0)) (broken b (m .read)) broken-same (λ v. flatMap (m .spans) (v .1)) broken-spans (λ s v. (v .0, map (m .means s) (v .1))) (λ c. (c .0, c .1 .0)) (λ d. (d .0, (d .1, tt)))
+  breaks = seen-as with-unit (λ v. (v .0, v .1 .0)) (broken b (m .read)) broken-same (λ v. flatMap (m .spans) (v .1)) broken-spans (λ s v. (v .0, map (m .means s) (v .1))) (λ c. (c .0, c .1 .0)) (λ d. (d .0, (d .1, tt)))
       (λ s v. refl) (λ c f e. refl)
 
   -- found in its table, with its first row besides
@@ -506,20 +506,20 @@ module _ (nest : Nest) where
     abbrev Stand : ℕ × Family → Type 0
     Stand y = each (λ i. row n (at n lower i)) (y .0) (size (y .1)) ≡ y .1 .1
 
-    abbrev Placed : ℕ × Family → Type 0
-    Placed y = (Good families (y .1) × (y .0 + size (y .1) ≤ 0 + sum size xs)) × Stand y
+    abbrev Standing : ℕ × Family → Type 0
+    Standing y = (Good families (y .1) × (y .0 + size (y .1) ≤ 0 + sum size xs)) × Stand y
 
-    placed : Every (Good families) xs → Every (Wide n) (kids xs) → Every Placed (firsts size 0 xs)
-    placed h wide =
+    standing : Every (Good families) xs → Every (Wide n) (kids xs) → Every Standing (firsts size 0 xs)
+    standing h wide =
         let B : ℕ × Family → Type 0 = λ y. y .0 + size (y .1) ≤ 0 + sum size xs in
         let e : Every Stand (firsts size 0 xs) = kids-stand (λ i. row n (at n lower i)) (λ x. x .1) xs 0 (found n (kids xs) wide beneath) in
         every-and (λ y. Good families (y .1) × B y) Stand (every-and (λ y. Good families (y .1)) B (every-firsts size 0 (Good families) xs h) (firsts-below size 0 xs)) e
 
     -- they mean what was read
     pub families-mean : Every (Good families) xs → each (λ i. familyMeansOf b n l lower (cols i)) 0 (length xs) ≡ xs
-    families-mean h = each-as Placed (brokenRow b) (λ i. row (b .width) (cols i)) (λ i. familyMeansOf b n l lower (cols i)) (λ y. y .1) one 0 (length xs) (firsts size 0 xs) stand (placed h (kids-wide xs h)) ∙ firsts-back size 0 xs
+    families-mean h = each-as Standing (brokenRow b) (λ i. row (b .width) (cols i)) (λ i. familyMeansOf b n l lower (cols i)) (λ y. y .1) one 0 (length xs) (firsts size 0 xs) stand (standing h (kids-wide xs h)) ∙ firsts-back size 0 xs
       where
-        one : (i : ℕ) (y : ℕ × Family) → row (b .width) (cols i) ≡ brokenRow b y → Placed y → familyMeansOf b n l lower (cols i) ≡ y .1
+        one : (i : ℕ) (y : ℕ × Family) → row (b .width) (cols i) ≡ brokenRow b y → Standing y → familyMeansOf b n l lower (cols i) ≡ y .1
         one i y e h =
             let m = flats (nest .kid) in
             let g = cols i in
@@ -534,9 +534,9 @@ module _ (nest : Nest) where
     families-sound h =
         let wide = kids-wide xs h in
         let room : sum size xs ≤ length lower / n = omega (arith, room-for n (kids xs) beneath (flat-positive (nest .kid) .0) wide, flat-length (λ (x : Family). x .1) xs) in
-        each-clean Placed (brokenRow b) (λ i. row (b .width) (cols i)) (λ i. familyActsOf b n l lower (cols i)) (λ i y e h. one room i y e h) 0 (length xs) (firsts size 0 xs) stand (placed h wide)
+        each-clean Standing (brokenRow b) (λ i. row (b .width) (cols i)) (λ i. familyActsOf b n l lower (cols i)) (λ i y e h. one room i y e h) 0 (length xs) (firsts size 0 xs) stand (standing h wide)
       where
-        one : sum size xs ≤ length lower / n → (i : ℕ) (y : ℕ × Family) → row (b .width) (cols i) ≡ brokenRow b y → Placed y → clean (familyActsOf b n l lower (cols i)) ≡ true
+        one : sum size xs ≤ length lower / n → (i : ℕ) (y : ℕ × Family) → row (b .width) (cols i) ≡ brokenRow b y → Standing y → clean (familyActsOf b n l lower (cols i)) ≡ true
         one room i y e h =
             let m = flats (nest .kid) in
             let g = cols i in

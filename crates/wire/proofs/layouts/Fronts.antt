@@ -11,9 +11,9 @@ use Rattle.wire.specs.Reads.{rowsOf}
 use Rattle.wire.specs.Nest.{Nests}
 use Rattle.wire.specs.Layout.{Broken, Family, parents, kids, brokenRow}
 use Rattle.wire.proofs.Lists.{flat-rows}
-use Rattle.wire.proofs.Steps.{front-stored}
+use Rattle.wire.proofs.reading.Steps.{front-stored}
 use Rattle.wire.proofs.Tables.{flat-map}
-use Rattle.wire.proofs.Rowed.{Wide, rows-long, Nest, parents-long, parents-wide}
+use Rattle.wire.proofs.layouts.Rowed.{Wide, rows-long, Nest, parents-long, parents-wide}
 
 pub front : (n : ℕ) (l : List (List ℕ)) (t : List ℕ) → Every (Wide n) l → length l * n ≤ length t → sets t 0 (flatten l) ≡ flatten l ++ drop (length (flatten l)) t
 front n l t w h = front-stored t (flatten l) (omega (arith, rows-long n l w))

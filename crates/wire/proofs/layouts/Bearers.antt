@@ -22,20 +22,20 @@ use Rattle.wire.specs.declared.reads.Short.{Short}
 use Rattle.wire.specs.declared.pen.Fault.the-variants as F
 use Rattle.wire.specs.declared.pen.Pen.{Pen}
 use Rattle.wire.specs.declared.pen.Pen.the-variants.{At, Stop}
-use Rattle.wire.proofs.Runs.{andThen, run-bind}
-use Rattle.wire.proofs.Steps.{lacks, got-run, lacks-run}
-use Rattle.wire.proofs.Walk.{map-done, step, halt, run-ret, byte-next}
+use Rattle.wire.proofs.reading.Runs.{andThen, run-bind}
+use Rattle.wire.proofs.reading.Steps.{lacks, got-run, lacks-run}
+use Rattle.wire.proofs.reading.Walk.{map-done, step, halt, run-ret, byte-next}
 use Rattle.wire.proofs.Tables.{each-length}
-use Rattle.wire.proofs.Acts.{and-both, both-and, clean-append, clean-both, bytes-append}
+use Rattle.wire.proofs.writing.Acts.{and-both, both-and, clean-append, clean-both, bytes-append}
 use Rattle.wire.proofs.Fields.{fits-cons}
-use Rattle.wire.proofs.Passes.{stuck, stopped, then, more, clean-looks, passed-clean, quick-clean, quick-odd, run-looked, run-room, slice-long, Filling, fill-start, fill-demand, fill-turn, fill-column, column-ready, demanded, fill-last}
-use Rattle.wire.proofs.Cells.{On, on-none, every-same, proper, cells-on, Same, same}
-use Rattle.wire.proofs.Forms.{form-shown, form-all, form-proper, below, each-in, row-of}
-use Rattle.wire.proofs.Rowed.{each-like, row-on, on-all, matched-none}
-use Rattle.wire.proofs.Straight.{read-so, end-of, thenEnds, ends-got, ends-lacks, ends-append, ends-at, ends-within, ends-on, ends-cut, ends-done, total-append}
-use Rattle.wire.proofs.Plain.{no-quick}
-use Rattle.wire.proofs.Families.{then-map}
-use Rattle.wire.proofs.Borne.{bear-form, Bear, t, stands}
+use Rattle.wire.proofs.writing.Passes.{stuck, stopped, then, more, clean-looks, passed-clean, quick-clean, quick-odd, run-looked, run-room, slice-long, Filling, fill-start, fill-demand, fill-turn, fill-column, column-ready, demanded, fill-last}
+use Rattle.wire.proofs.layouts.Cells.{On, on-none, every-same, proper, cells-on, Same, same}
+use Rattle.wire.proofs.layouts.Forms.{form-shown, form-all, form-proper, below, each-in, row-of}
+use Rattle.wire.proofs.layouts.Rowed.{each-like, row-on, on-all, matched-none}
+use Rattle.wire.proofs.layouts.Straight.{read-so, end-of, thenEnds, ends-got, ends-lacks, ends-append, ends-at, ends-within, ends-on, ends-cut, ends-done, total-append}
+use Rattle.wire.proofs.writing.Plain.{no-quick}
+use Rattle.wire.proofs.layouts.Families.{then-map}
+use Rattle.wire.proofs.layouts.Borne.{bear-form, Bear, t, stands}
 
 -- ---- measured
 

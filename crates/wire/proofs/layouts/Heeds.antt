@@ -8,9 +8,9 @@ use borrow.Author.Tests.{eqb-true, eq-eqb}
 use Rattle.wire.specs.Act.{Act, demand, pick, rows}
 use Rattle.wire.specs.declared.pen.Fault.the-variants as F
 use Rattle.wire.specs.Layout.{Cell, Columns, of, row, set, shown, cells, matched, every, flagged, counted, has, mix, columns, kept, blank, flatActs, flatMeans, Broken, layouts, brokenActs, brokenHeeds}
-use Rattle.wire.proofs.Cells.{On, clash, cells-on, every-same, mix-in}
-use Rattle.wire.proofs.Forms.{Form, last, form-shown, form-matches, form-all, form-shown-in, sure-shown, below, woven, alike}
-use Rattle.wire.proofs.Rowed.{Flat, flat-proper, flat-below, flats, row-on, on-all, Nest, Nest-tests, nest-tests, broken-form}
+use Rattle.wire.proofs.layouts.Cells.{On, clash, cells-on, every-same, mix-in}
+use Rattle.wire.proofs.layouts.Forms.{Form, last, form-shown, form-matches, form-all, form-shown-in, sure-shown, below, woven, alike}
+use Rattle.wire.proofs.layouts.Rowed.{Flat, flat-proper, flat-below, flats, row-on, on-all, Nest, Nest-tests, nest-tests, broken-form}
 
 -- the columns that writing reads are kept
 pub kept-on : (n : ℕ) {T M : Type 0} (x : Form T M) → below n (form-all x) ≡ true → (f init : Columns) → On (columns (form-shown x f)) f (of (row n (mix (columns (form-shown x f)) f init)))
