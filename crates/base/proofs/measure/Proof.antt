@@ -25,11 +25,12 @@ enum-known-e-2 c = search needs
 
 returns-2 : tie.Need-returns-2
 returns-2 c =
-    measures-by kind (λ (t : Tree). tt) _ (c .before .before .before .before .if1 .left) (λ u k. sized k) sizes-are (sym (ap endsOut (c .before .e .given .1)) ∙ c .before .before .before .end .ensures)
+    let z = c .before .before .before in measures-by kind (λ (t : Tree). tt) _ (z .before .if1 .left) (λ u k. sized k) sizes-are
+    (sym (ap endsOut (c .before .e .given .1)) ∙ z .end .ensures)
 
 returns-3 : tie.Need-returns-3
 returns-3 c =
-    measures-cut kind (λ (t : Tree). tt) _ (c .before .before .before .before .if1 .left) (sym (ap endsOut (c .before .e2 .given .1)) ∙ c .before .before .before .end .ensures)
+    search (measures-cut, sym (ap endsOut (c .before .e2 .given .1)) ∙ c .before .before .before .end .ensures)
 
 pub measure-spec : {M : Type 1} → statement M
 measure-spec =

@@ -1,5 +1,4 @@
 -- `base::read` meets its contract: the measure and the record; there are no tables.
-use mathlib.Core.Path.{refl}
 use mathlib.Core.List.{[]}
 use Rattle.frame.specs.Entry.{lacking, filled}
 use Rattle.frame.specs.Body.{tables}
@@ -25,7 +24,7 @@ enum-known-m-2 c = search needs
 returns : tie.Need-returns
 unfolding kind tables lacking filled
 returns c =
-    reads-filled kind _ (rw (c .before .before .m .given .1) at (c .before .before .before .before .measure .ensures)) [] [] refl (record { fills = λ s j. refl }) (c .record-at .ensures)
+    search (reads-filled, rw (c .before .before .m .given .1) at (c .before .before .before .before .measure .ensures))
 
 returns-2 : tie.Need-returns-2
 returns-2 c =

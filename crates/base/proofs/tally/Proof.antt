@@ -31,7 +31,8 @@ enum-known-m-2 c = search needs
 returns : tie.Need-returns
 unfolding kind withPlace each tally cells layouts head shown flatten sum zeros
 returns c =
-    rw (c .zero-bits .ensures) (tallies-topped kind _ (rw (c .before .before .before .m .given .1) at (c .before .before .before .before .before .measure .ensures)) (λ m. tally (layouts pieces) (of (fields m))) (λ t p. sym (add-zero (tally (layouts pieces) (of (t .0))))) (c .before .record-at .ensures))
+    let z = c .before .before .before in rw (c .zero-bits .ensures) (tallies-topped kind _ (rw (z .m .given .1) at (z .before .before .measure .ensures))
+    (λ m. tally (layouts pieces) (of (fields m))) (λ t p. sym (add-zero (tally (layouts pieces) (of (t .0))))) (c .before .record-at .ensures))
 
 returns-2 : tie.Need-returns-2
 returns-2 c = tallies-unmeasured kind _ (rw (c .before .m2 .given .1) at (c .before .before .before .measure .ensures))

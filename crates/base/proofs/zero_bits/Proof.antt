@@ -29,7 +29,8 @@ cast-result c = search needs
 
 returns : tie.Need-returns
 unfolding tally cells layouts head shown flatten sum
-returns c = rw (c .before .before .idle-bits .ensures, c .idle-bits2 .ensures, c .before .before .before .wide .ensures, c .before .wide2 .ensures) (omega arith)
+returns c =
+    rw (c .before .before .idle-bits .ensures, c .idle-bits2 .ensures, c .before .before .before .wide .ensures, c .before .wide2 .ensures) (omega arith)
 
 pub zero-bits-spec : {M : Type 1} → statement M
 zero-bits-spec =

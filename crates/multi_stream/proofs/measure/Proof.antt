@@ -32,11 +32,12 @@ enum-known-r-2 c = search needs
 
 returns-2 : tie.Need-returns-2
 returns-2 c =
-    measures-by kind (λ (t : MultiStream). length (t .1 .0)) _ (c .before .before .before .before .if1 .left) sized sizes-are (sym (ap sumOut (c .before .r .given .1)) ∙ c .before .before .before .rows .ensures .is)
+    let z = c .before .before .before in measures-by kind (λ (t : MultiStream). length (t .1 .0)) _ (z .before .if1 .left) sized sizes-are
+    (sym (ap sumOut (c .before .r .given .1)) ∙ z .rows .ensures .is)
 
 returns-3 : tie.Need-returns-3
 returns-3 c =
-    measures-cut kind (λ (t : MultiStream). length (t .1 .0)) _ (c .before .before .before .before .if1 .left) (sym (ap sumOut (c .before .r2 .given .1)) ∙ c .before .before .before .rows .ensures .is)
+    search (measures-cut, sym (ap sumOut (c .before .r2 .given .1)) ∙ c .before .before .before .rows .ensures .is)
 
 pub measure-spec : {M : Type 1} → statement M
 measure-spec =

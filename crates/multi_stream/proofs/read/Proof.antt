@@ -30,11 +30,12 @@ enum-told c = search needs
 
 fill-requires : tie.Need-fill-requires
 fill-requires c κs =
-    (rw (c .before .before .before .before .before .before .before .m2 .given .1) at (c .before .before .before .before .before .before .before .before .before .measure .ensures), has-room _ _ (c .before .before .before .and-table .ensures) (c .before .enum-told .given .1) .1)
+    let z = c .before .before .before .before .before .before .before in
+    (rw (z .m2 .given .1) at (z .before .before .measure .ensures), has-room _ _ (c .before .before .before .and-table .ensures) (c .before .enum-told .given .1) .1)
 
 record-at-requires : tie.Need-record-at-requires
 record-at-requires c κs =
-    rw (c .before .before .before .before .before .before .before .before .before .before .m2 .given .1) at (c .before .before .before .before .before .before .before .before .before .before .before .before .measure .ensures)
+    let z = c .before .before .before .before .before .before .before .before .before .before in rw (z .m2 .given .1) at (z .before .before .measure .ensures)
 
 returns : tie.Need-returns
 returns c =
@@ -45,14 +46,17 @@ same-length c = search needs
 
 returns-2 : tie.Need-returns-2
 returns-2 c =
-    reads-lowest kind _ (rw (c .before .before .before .before .before .before .before .m2 .given .1) at (c .before .before .before .before .before .before .before .before .before .measure .ensures)) _ (room-so _ _ (c .before .before .before .and-table .ensures)) (c .before .r .given .1)
+    let z = c .before .before .before .before .before .before .before in
+    search (reads-lowest, room-so, rw (z .m2 .given .1) at (z .before .before .measure .ensures))
 
 same-length-2 : tie.Need-same-length-2
 same-length-2 c = search needs
 
 returns-3 : tie.Need-returns-3
 returns-3 c =
-    reads-filled kind _ (rw (c .before .before .before .before .before .before .before .before .before .before .before .m2 .given .1) at (c .before .before .before .before .before .before .before .before .before .before .before .before .before .measure .ensures)) _ _ (has-room _ _ (c .before .before .before .before .before .before .before .and-table .ensures) (c .before .before .before .before .before .enum-told .given .1) .0) (c .before .before .before .fill .ensures) (c .record-at .ensures)
+    let z = c .before .before .before .before .before in let y = z .before .before .before .before .before .before in
+    reads-filled kind _ (rw (y .m2 .given .1) at (y .before .before .measure .ensures)) _ _ (has-room _ _ (z .before .before .and-table .ensures)
+    (z .enum-told .given .1) .0) (c .before .before .before .fill .ensures) (c .record-at .ensures)
 
 pub read-spec : {M : Type 1} → statement M
 read-spec =

@@ -25,7 +25,9 @@ enum-known-m-2 c = search needs
 
 returns : tie.Need-returns
 returns c =
-    rw (c .zero-bits .ensures) (tallies-topped kind _ (rw (c .before .before .before .m .given .1) at (c .before .before .before .before .before .measure .ensures)) zerosOf zeros-are (c .before .record-at .ensures))
+    let z = c .before .before .before in
+    rw (c .zero-bits .ensures) (tallies-topped kind _ (rw (z .m .given .1) at (z .before .before .measure .ensures)) zerosOf zeros-are
+    (c .before .record-at .ensures))
 
 returns-2 : tie.Need-returns-2
 returns-2 c =

@@ -24,7 +24,8 @@ cast-result c = search needs
 
 returns : tie.Need-returns
 returns c =
-    rw (c .before .before .before .before .if1 .taken, c .before .before .idle-bits .ensures, c .idle-bits2 .ensures, c .before .before .before .wide .ensures, c .before .wide2 .ensures) (omega arith)
+    let z = c .before .before in
+    rw (z .before .before .if1 .taken, z .idle-bits .ensures, c .idle-bits2 .ensures, z .before .wide .ensures, c .before .wide2 .ensures) (omega arith)
 
 returns-2 : tie.Need-returns-2
 returns-2 c =

@@ -48,7 +48,7 @@ sets-end-requires c κs = let h = there (c .before .before .before) in omega (ar
 returns-2 : tie.Need-returns-2
 returns-2 c =
     let d = c .before .before .before .before in
-    three-sets _ (d .before .before .before .head-end .ensures) (ap endsOut (d .before .a .given .1)) (c .before .part .ensures ∙ ap (part 6 1) (c .before .before .wide .ensures)) (c .sets-end .ensures)
+    search (three-sets, ap endsOut (d .before .a .given .1), c .before .part .ensures ∙ ap (part 6 1) (c .before .before .wide .ensures))
 
 pub end-spec : {M : Type 1} → statement M
 end-spec =

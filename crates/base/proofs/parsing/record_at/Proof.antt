@@ -34,7 +34,7 @@ part-requires-2 c κs = search needs
 
 sets-at-requires : tie.Need-sets-at-requires
 sets-at-requires c κs =
-    rw (c .part2 .ensures, c .before .before .before .before .before .wide .ensures) (sets-sound _ (c .before .before .before .before .before .before .before .before .pre) .1)
+    let z = c .before .before .before .before .before in rw (c .part2 .ensures, z .wide .ensures) (sets-sound _ (z .before .before .before .pre) .1)
 
 part-requires-3 : tie.Need-part-requires-3
 part-requires-3 c κs = search needs
@@ -56,15 +56,15 @@ cast-t19 c = search needs
 
 trailing-run-requires : tie.Need-trailing-run-requires
 trailing-run-requires c κs =
-    let w = within-measured kind _ (c .before .before .before .before .before .before .before .before .before .before .before .before .pre) in (w .before, w .all)
+    let w = within-measured kind _ (c .before .before .before .before .before .before .before .before .before .before .before .before .pre) in
+    (w .before, w .all)
 
 returns : tie.Need-returns
 returns c =
-    let d = c .before .before .before .before .before in
-    let b1 = d .before .before .before .before .before .wide .ensures in
-    let b2 = d .before .before .before .wide2 .ensures in
-    tops-are _ (d .before .before .before .before .before .before .before .before .pre) _ (omega (arith, d .before .before .shared-slice-known4 .given 0)) (rw (d .part2 .ensures, b1) at (c .before .before .before .before .sets-at .ensures)) (c .trailing-run .ensures)
-    (rw (d .before .part .ensures, c .before .before .before .part3 .ensures, c .before .before .part4 .ensures, c .before .part5 .ensures, b1, b2) refl)
+    let z = c .before .before in let d = z .before .before .before in let b1 = d .before .before .before .before .before .wide .ensures in
+    let b2 = d .before .before .before .wide2 .ensures in tops-are _ (d .before .before .before .before .before .before .before .before .pre) _
+    (omega (arith, d .before .before .shared-slice-known4 .given 0)) (rw (d .part2 .ensures, b1) at (z .before .before .sets-at .ensures))
+    (c .trailing-run .ensures) (rw (d .before .part .ensures, z .before .part3 .ensures, z .part4 .ensures, c .before .part5 .ensures, b1, b2) refl)
 
 pub record-at-spec : {M : Type 1} → statement M
 record-at-spec =

@@ -23,7 +23,8 @@ returns c =
 
 returns-2 : tie.Need-returns-2
 returns-2 c =
-    rw (c .before .before .before .if1 .left, c .listed .ensures) (sets-listed _ (rw (c .before .before .before .if1 .left) at (c .before .before .before .before .before .pre)) (c .before .wide .ensures))
+    let z = c .before .before .before in rw (z .if1 .left, c .listed .ensures) (sets-listed _ (rw (z .if1 .left) at (z .before .before .pre))
+    (c .before .wide .ensures))
 
 pub sets-at-spec : {M : Type 1} → statement M
 sets-at-spec =

@@ -42,7 +42,8 @@ short-requires c κs = search needs
 
 returns-2 : tie.Need-returns-2
 returns-2 c =
-    ap endOf (cut-off u8 _ (begun _ _ (c .before .before .before .before .if1 .left) (c .before .before .before .before .before .before .pre)) (c .before .before .before .byte-at .ensures .is) (ap byteOut (c .before .enum-told .given .1)) (c .short .ensures))
+    let z = c .before .before .before in ap endOf (cut-off u8 _ (begun _ _ (z .before .if1 .left) (z .before .before .before .pre)) (z .byte-at .ensures .is)
+    (ap byteOut (c .before .enum-told .given .1)) (c .short .ensures))
 
 cast-run-at : tie.Need-cast-run-at
 cast-run-at c = search needs
@@ -62,11 +63,13 @@ short-requires-2 c κs = search needs
 
 returns-3 : tie.Need-returns-3
 returns-3 c =
-    ap endOf (cut-off (pass _) _ (counted (c .before .before .before .before)) (c .before .before .before .run-at .ensures) (ap runOut (c .before .enum-told2 .given .1)) (c .short2 .ensures))
+    let z = c .before .before .before in ap endOf (cut-off (pass _) _ (counted (z .before)) (z .run-at .ensures) (ap runOut (c .before .enum-told2 .given .1))
+    (c .short2 .ensures))
 
 returns-4 : tie.Need-returns-4
 returns-4 c =
-    ap endOf (finished (onward (pass _) _ (counted (c .before .before .before .before)) (c .before .before .before .run-at .ensures) (ap runOut (c .before .b .given .1))) refl)
+    let z = c .before .before .before in ap endOf (finished (onward (pass _) _ (counted (z .before)) (z .run-at .ensures)
+    (ap runOut (c .before .b .given .1))) refl)
 
 pub sets-end-spec : {M : Type 1} → statement M
 sets-end-spec =

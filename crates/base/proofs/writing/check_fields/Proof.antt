@@ -27,10 +27,10 @@ check-sets-requires c κs = omega (arith, all-checked (c .before .before .head-b
 returns : tie.Need-returns
 unfolding baseActs
 returns c =
-    let d = c .before .before .before .before in
-    let z = d .before .before .before .before in
-    let e = sym (d .before .sets-inside .ensures) ∙ d .if1 .taken in
-    rw e (passed _ 0 (passed _ 0 (passed _ 0 (more 65539 (then (all-checked (c .before .before .before .head-bytes .ensures) (c .before .check-all .ensures)) (c .check-sets .ensures .of _ (listed-long (z .args .m .«compatible_sets») (z .args .store .now) e))) (omega arith)))))
+    let y = c .before .before .before in let d = y .before in let z = d .before .before .before .before in
+    let e = sym (d .before .sets-inside .ensures) ∙ d .if1 .taken in rw e (passed _ 0 (passed _ 0 (passed _ 0
+    (more 65539 (then (all-checked (y .head-bytes .ensures) (c .before .check-all .ensures)) (c .check-sets .ensures .of _
+    (listed-long (z .args .m .«compatible_sets») (z .args .store .now) e))) (omega arith)))))
 
 returns-2 : tie.Need-returns-2
 unfolding baseActs

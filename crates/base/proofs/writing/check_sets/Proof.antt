@@ -29,7 +29,11 @@ run-requires c κs = (search needs, omega (arith, counted c .near, c .before .be
 
 returns : tie.Need-returns
 unfolding setsActs
-returns c = record { of = λ l e. rw (c .before .before .before .if1 .taken) (more 65536 (then (counted (c .before)) (c .run .ensures .of l (rw (c .before .before .before .if1 .taken) at e))) (omega arith)) }
+returns c =
+    let z = c .before .before .before in record {
+      of = λ l e. rw (z .if1 .taken) (more 65536 (then (counted (c .before))
+          (c .run .ensures .of l (rw (z .if1 .taken) at e))) (omega arith));
+    }
 
 returns-2 : tie.Need-returns-2
 unfolding setsActs

@@ -28,10 +28,7 @@ same-length c = search needs
 
 returns : tie.Need-returns
 unfolding kind
-returns c =
-    let d = c .before .before .before .before .before .before in
-    let z = d .before .before .before .before in
-    all-filled kind (written-so (z .args .m) (z .args .store .now) []) (z .pre) (d .fill-fields .kept .1 .1 .0) (d .fill-fields .ensures) (c .before .before .copy .ensures)
+returns c = search (all-filled, written-so)
 
 pub fill-spec : {M : Type 1} → statement M
 fill-spec =

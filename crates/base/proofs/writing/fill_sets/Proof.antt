@@ -57,7 +57,8 @@ same-length c = search needs
 
 returns : tie.Need-returns
 unfolding setsActs
-returns c = rw (c .before .before .before .before .before .before .before .before .if1 .taken) (fill-last (counted (c .before .before .before .before)) (c .before .before .copy .ensures))
+returns c =
+    rw (c .before .before .before .before .before .before .before .before .if1 .taken) (search (fill-last, counted))
 
 returns-2 : tie.Need-returns-2
 unfolding setsActs

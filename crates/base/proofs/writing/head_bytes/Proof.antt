@@ -24,7 +24,8 @@ two-requires c κs = search needs
 
 returns : tie.Need-returns
 returns c =
-    more (rw (c .before .before .before .before .before .wide .ensures) at (c .before .before .before .before .one .ensures)) (more (c .before .before .before .flags-byte .ensures) (more (rw (c .before .before .wide2 .ensures, c .before .wide3 .ensures) at (c .two .ensures)) none))
+    let z = c .before .before in more (rw (z .before .before .before .wide .ensures) at (z .before .before .one .ensures))
+    (more (z .before .flags-byte .ensures) (more (rw (z .wide2 .ensures, c .before .wide3 .ensures) at (c .two .ensures)) none))
 
 pub head-bytes-spec : {M : Type 1} → statement M
 head-bytes-spec =

@@ -31,7 +31,8 @@ add-detail-from c = search needs
 
 detail-from-requires : tie.Need-detail-from-requires
 detail-from-requires c κs =
-    omega (arith, whole (c .before .before .before .before .before .before) .there, long-with (c .before .before .before .before .before .before .args .body .now) (c .before .before .before .before .before .before .args .at) (c .before .before .before .wide .ensures) (c .before .part2 .ensures) (c .if1 .taken))
+    let z = c .before .before .before .before .before .before in
+    omega (arith, whole z .there, long-with (z .args .body .now) (z .args .at) (c .before .before .before .wide .ensures) (c .before .part2 .ensures) (c .if1 .taken))
 
 add-next : tie.Need-add-next
 add-next c = search needs
@@ -41,7 +42,8 @@ add-wide c = search needs
 
 shared-slice-read-wide-2 : tie.Need-shared-slice-read-wide-2
 shared-slice-read-wide-2 c =
-    omega (arith, whole (c .before .before .before .before .before .before .before .before) .there, long-with (c .before .before .before .before .before .before .before .before .args .body .now) (c .before .before .before .before .before .before .before .before .args .at) (c .before .before .before .before .before .wide .ensures) (c .before .before .before .part2 .ensures) (c .before .before .if1 .taken))
+    let z = c .before .before .before .before .before .before .before .before in let y = c .before .before in
+    omega (arith, whole z .there, long-with (z .args .body .now) (z .args .at) (y .before .before .before .wide .ensures) (y .before .part2 .ensures) (y .if1 .taken))
 
 wide-requires-2 : tie.Need-wide-requires-2
 wide-requires-2 c κs = search needs
@@ -60,12 +62,11 @@ add-t21 c = search needs
 
 returns : tie.Need-returns
 returns c =
-    condition-with _ _ (c .before .before .before .before .before .before .before .wide .ensures) (c .before .before .before .before .before .part2 .ensures) (whole (c .before .before .before .before .before .before .before .before .before .before)) (c .before .before .before .before .before .before .part .ensures) (c .before .before .before .before .if1 .taken) (c .before .before .before .detail-from .ensures) (c .behind .ensures .0 ∙ ap behind (c .before .wide2 .ensures))
+    search (condition-with, whole, c .behind .ensures .0 ∙ ap behind (c .before .wide2 .ensures))
 
 returns-2 : tie.Need-returns-2
 unfolding blanks
-returns-2 c =
-    rw (c .absent .ensures) (condition-without _ _ (c .before .before .before .before .wide .ensures) (c .before .before .part2 .ensures) (whole (c .before .before .before .before .before .before .before)) (c .before .before .before .part .ensures) (c .before .if1 .left))
+returns-2 c = rw (c .absent .ensures) (search (condition-without, whole))
 
 pub condition-at-spec : {M : Type 1} → statement M
 condition-at-spec =

@@ -39,8 +39,7 @@ detail-end-requires c κs =
     after-1 (c .before .before .before .before) .inside
 
 returns-2 : tie.Need-returns-2
-returns-2 c =
-    with-detail (after-1 (c .before .before .before .before .before)) (c .before .before .before .wide .ensures) (c .before .before .part .ensures) (c .before .if1 .taken) (c .detail-end .ensures)
+returns-2 c = search (with-detail, after-1)
 
 returns-3 : tie.Need-returns-3
 returns-3 c =

@@ -40,7 +40,7 @@ head-requires-2 c κs =
 
 returns-2 : tie.Need-returns-2
 returns-2 c =
-    one-more (after-1 (c .before .before .before .before)) (c .before .behind .ensures .0 ∙ ap behind (c .before .before .wide .ensures)) (c .head2 .ensures)
+    search (one-more, after-1, c .before .behind .ensures .0 ∙ ap behind (c .before .before .wide .ensures))
 
 pub detail-end-spec : {M : Type 1} → statement M
 detail-end-spec =

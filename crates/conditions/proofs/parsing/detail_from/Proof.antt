@@ -1,7 +1,6 @@
 -- `parsing::detail_from` meets its contract.
 use Prim.Native.Nat.{ℕ, _+_}
 use mathlib.Core.Path.{ap}
-use native.Mathlib.Omega.{arith}
 use Rattle.wire.proofs.Fields.{part-below}
 use Rattle.conditions.proofs.Taken.{detail-taken}
 use borrow.Author.Needs.{needs}
@@ -34,7 +33,8 @@ add-gain-at c = search needs
 
 gain-at-requires : tie.Need-gain-at-requires
 gain-at-requires c κs =
-    let w = rw (← c .before .before .before .before .before .wide .ensures) at (c .before .before .before .before .before .before .before .before .pre) in (omega (arith, w, c .before .before .before .before .part .ensures), omega (arith, c .before .before .before .before .part .ensures, part-below 2 1 (c .before .before .before .before .before .wide .result)))
+    let z = c .before .before .before .before .before in let w = rw (← z .wide .ensures) at (z .before .before .before .pre) in
+    (search (needs, w), search (needs, part-below 2 1 (z .wide .result)))
 
 add-position-at : tie.Need-add-position-at
 add-position-at c = search needs
@@ -47,11 +47,13 @@ add-position-at-2 c = search needs
 
 position-at-requires : tie.Need-position-at-requires
 position-at-requires c κs =
-    let w = rw (← c .before .before .before .before .before .before .wide .ensures) at (c .before .before .before .before .before .before .before .before .before .pre) in (omega (arith, w, c .before .before .before .before .before .part .ensures, c .before .before .before .before .part2 .ensures), omega (arith, c .before .before .before .before .part2 .ensures, part-below 0 1 (c .before .before .before .before .before .before .wide .result)))
+    let z = c .before .before .before .before .before .before in let w = rw (← z .wide .ensures) at (z .before .before .before .pre) in
+    (search (needs, w), search (needs, part-below 0 1 (z .wide .result)))
 
 returns : tie.Need-returns
 returns c =
-    rw (c .before .before .before .before .part3 .ensures, c .before .before .before .part4 .ensures, c .before .before .part5 .ensures) (detail-taken _ _ (c .before .before .before .before .before .before .before .wide .ensures) (ap (λ (k : ℕ). c .before .before .before .before .before .before .before .before .before .before .args .at + 1 + k) (c .before .before .before .before .before .before .part .ensures)) (rw (c .before .before .before .before .before .before .part .ensures) at (c .before .gain-at .ensures)) (rw (c .before .before .before .before .before .part2 .ensures) at (c .position-at .ensures)))
+    let z = c .before .before .before .before in rw (z .part3 .ensures, c .before .before .before .part4 .ensures, c .before .before .part5 .ensures)
+    (search (needs, detail-taken, ap (λ (k : ℕ). z .before .before .before .before .before .before .args .at + 1 + k) (z .before .before .part .ensures), rw (z .before .before .part .ensures) at (c .before .gain-at .ensures), rw (z .before .part2 .ensures) at (c .position-at .ensures)))
 
 pub detail-from-spec : {M : Type 1} → statement M
 detail-from-spec =

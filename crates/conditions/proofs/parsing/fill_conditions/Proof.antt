@@ -46,8 +46,7 @@ loop-less c =
     search needs
 
 loop-again : tie.Need-loop-again Inv-loop μ-loop
-loop-again c =
-    fill-next (flat 13 condition) (λ r. r) 13 _ _ _ _ _ _ _ _ _ (c .before .before .before .before .before .before .before .before .loop .inv) (c .before .before .before .before .before .before .before .loop-test .taken) (c .before .before .before .before .before .before .condition-at .ensures) refl refl (c .before .before .before .before .before .columns .ensures) (c .before .before .put-row .ensures)
+loop-again c = search fill-next
 
 same-length : tie.Need-same-length Inv-loop μ-loop
 same-length c =

@@ -2,7 +2,6 @@
 use Rattle.wire.proofs.reading.Loops.{first-done}
 use Rattle.wire.proofs.layouts.Families.{Walking, walk-start, walk-turn, walk-end}
 use mathlib.Core.List.{[], _∷_}
-use native.Mathlib.Omega.{arith}
 use Rattle.wire.specs.Layout.{flat, of, tally}
 use Rattle.conditions.specs.Layout.{condition}
 use borrow.Author.Needs.{needs}
@@ -28,8 +27,7 @@ condition-zeros-requires c κs =
     search needs
 
 add-zeros : tie.Need-add-zeros Inv-loop μ-loop
-add-zeros c =
-    omega (arith, c .condition-zeros .ensures .1, c .before .before .before .loop .inv .adds .small, c .before .before .loop-test .taken, c .before .before .before .before .before .pre .2)
+add-zeros c = search needs
 
 sub-left : tie.Need-sub-left Inv-loop μ-loop
 sub-left c =
@@ -40,12 +38,11 @@ loop-less c =
     search needs
 
 loop-again : tie.Need-loop-again Inv-loop μ-loop
-loop-again c =
-    walk-turn (flat 13 condition) _ 10 _ _ _ (c .before .before .before .loop .inv) (c .before .before .loop-test .taken) (c .before .condition-at .ensures) (c .condition-zeros .ensures .0) (c .condition-zeros .ensures .1)
+loop-again c = search walk-turn
 
 returns : tie.Need-returns Inv-loop μ-loop
 returns c =
-    let (z, p) = walk-end (flat 13 condition) _ 10 _ _ _ (c .before .loop .inv) (c .loop-test .left) in (z, p, omega (arith, c .before .loop .inv .adds .small))
+    let (z, p) = walk-end (flat 13 condition) _ 10 _ _ _ (c .before .loop .inv) (c .loop-test .left) in (z, p, search needs)
 
 pub tally-conditions-spec : {M : Type 1} → statement M
 tally-conditions-spec =

@@ -40,11 +40,14 @@ check-detail-requires c κs =
 
 returns : tie.Need-returns
 returns c =
-    rw (condition-acts (conditionCols (c .before .before .before .before .before .before .before .before .before .args .c)), when-there _ _ (c .before .if1 .taken)) (then (step-1 (c .before .before .before)) (c .check-detail .ensures))
+    let z = c .before .before .before in
+    rw (condition-acts (conditionCols (z .before .before .before .before .before .before .args .c)), when-there _ _ (c .before .if1 .taken))
+    (then (step-1 z) (c .check-detail .ensures))
 
 returns-2 : tie.Need-returns-2
 returns-2 c =
-    rw (condition-acts (conditionCols (c .before .before .before .before .before .before .before .before .args .c)), when-absent _ _ (c .if1 .left)) (then (step-1 (c .before .before)) (nothing 5 _))
+    rw (condition-acts (conditionCols (c .before .before .before .before .before .before .before .before .args .c)), when-absent _ _ (c .if1 .left))
+    (then (step-1 (c .before .before)) (nothing 5 _))
 
 pub check-condition-spec : {M : Type 1} → statement M
 check-condition-spec =

@@ -26,7 +26,7 @@ check-condition-requires c κs = search needs
 
 returns : tie.Need-returns
 returns c =
-    kids-stopped (rowActs (c .before .before .before .before .before .before .args .conditions .now)) _ _ (c .before .before .before .before .plain-rows .ensures) _ (c .before .before .if1 .taken) (rw (c .before .of-columns .ensures, row-acts) at (c .check-condition .ensures))
+    search (kids-stopped, rw (c .before .of-columns .ensures, row-acts) at (c .check-condition .ensures))
 
 returns-2 : tie.Need-returns-2
 returns-2 c =

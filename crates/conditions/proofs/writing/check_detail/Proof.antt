@@ -46,11 +46,12 @@ slice-aggregate-check-all-3 c = search needs
 
 check-all-requires-3 : tie.Need-check-all-requires-3
 check-all-requires-3 c κs =
-    (omega (arith, step-1 (c .before .before .before .before .before .before .before) .near, step-2 (c .before .before .before) .near, c .before .before .before .before .before .before .before .before .before .before .pre), search needs)
+    (search (needs, step-1 (c .before .before .before .before .before .before .before), step-2 (c .before .before .before)), search needs)
 
 returns : tie.Need-returns
 returns c =
-    then (step-1 (c .before .before .before .before .before .before .before .before)) (then (step-2 (c .before .before .before .before)) (then (all-checked (c .before .before .position-bytes .ensures) (c .check-all3 .ensures)) (nothing 0 _)))
+    let z = c .before .before in then (step-1 (z .before .before .before .before .before .before)) (then (step-2 (z .before .before))
+    (then (all-checked (z .position-bytes .ensures) (c .check-all3 .ensures)) (nothing 0 _)))
 
 pub check-detail-spec : {M : Type 1} → statement M
 check-detail-spec =

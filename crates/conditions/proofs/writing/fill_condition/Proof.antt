@@ -19,25 +19,34 @@ slice-aggregate-fill-all c = search needs
 
 fill-all-requires : tie.Need-fill-all-requires
 fill-all-requires c κs =
-    ready-part _ (more (rw (c .before .before .before .of-columns .ensures) at (c .before .two .ensures)) none) (row-begun (colsAt (c .before .before .before .before .before .before .args .conditions .now) (c .before .before .before .before .before .before .args .b)) (c .before .before .before .before .before .before .pre .1))
+    search (ready-part, row-begun, more (rw (c .before .before .before .of-columns .ensures) at (c .before .two .ensures)) none)
 
 fill-detail-requires : tie.Need-fill-detail-requires
 fill-detail-requires c κs =
-    (c .before .before .before .before .before .before .before .before .before .before .before .pre .0, fill-there _ (rw (c .before .before .before .before .before .before .before .before .of-columns .ensures) at (c .before .if1 .taken)) (id-filled (colsAt (c .before .before .before .before .before .before .before .before .before .before .before .args .conditions .now) (c .before .before .before .before .before .before .before .before .before .before .before .args .b)) (rw (c .before .before .before .before .before .before .before .before .of-columns .ensures) at (c .before .before .before .before .before .before .two .ensures)) (c .before .before .before .before .before .before .before .before .before .before .before .pre .1) (c .before .before .before .before .fill-all .ensures)) .ready)
+    let z = c .before .before .before .before .before .before .before .before in let y = c .before .before .before .before in
+    let x = z .before .before .before in
+    (x .pre .0, fill-there _ (rw (z .of-columns .ensures) at (c .before .if1 .taken)) (id-filled (colsAt (x .args .conditions .now) (x .args .b)) (rw (z .of-columns .ensures) at (y .before .before .two .ensures)) (x .pre .1) (y .fill-all .ensures)) .ready)
 
 same-length : tie.Need-same-length
 same-length c = search needs
 
 returns : tie.Need-returns
 returns c =
-    rw (condition-acts (colsAt (c .before .before .before .before .before .before .before .before .before .before .before .before .before .before .args .conditions .now) (c .before .before .before .before .before .before .before .before .before .before .before .before .before .before .args .b))) (fill-last (fill-there _ (rw (c .before .before .before .before .before .before .before .before .before .before .before .of-columns .ensures) at (c .before .before .before .before .if1 .taken)) (id-filled (colsAt (c .before .before .before .before .before .before .before .before .before .before .before .before .before .before .args .conditions .now) (c .before .before .before .before .before .before .before .before .before .before .before .before .before .before .args .b)) (rw (c .before .before .before .before .before .before .before .before .before .before .before .of-columns .ensures) at (c .before .before .before .before .before .before .before .before .before .two .ensures)) (c .before .before .before .before .before .before .before .before .before .before .before .before .before .before .pre .1) (c .before .before .before .before .before .before .before .fill-all .ensures))) (c .before .before .fill-detail .ensures))
+    let z = c .before .before .before .before .before .before .before .before .before .before .before in let y = c .before .before .before .before in
+    let x = z .before .before .before in rw (condition-acts (colsAt (x .args .conditions .now) (x .args .b)))
+    (fill-last (fill-there _ (rw (z .of-columns .ensures) at (y .if1 .taken)) (id-filled (colsAt (x .args .conditions .now) (x .args .b))
+    (rw (z .of-columns .ensures) at (y .before .before .before .before .before .two .ensures)) (x .pre .1) (y .before .before .before .fill-all .ensures)))
+    (c .before .before .fill-detail .ensures))
 
 same-length-2 : tie.Need-same-length-2
 same-length-2 c = search needs
 
 returns-2 : tie.Need-returns-2
 returns-2 c =
-    rw (condition-acts (colsAt (c .before .before .before .before .before .before .before .before .before .before .args .conditions .now) (c .before .before .before .before .before .before .before .before .before .before .args .b))) (fill-end (id-filled (colsAt (c .before .before .before .before .before .before .before .before .before .before .args .conditions .now) (c .before .before .before .before .before .before .before .before .before .before .args .b)) (rw (c .before .before .before .before .before .before .before .of-columns .ensures) at (c .before .before .before .before .before .two .ensures)) (c .before .before .before .before .before .before .before .before .before .before .pre .1) (c .before .before .before .fill-all .ensures)) (when-absent _ _ (rw (c .before .before .before .before .before .before .before .of-columns .ensures) at (c .if1 .left))))
+    let z = c .before .before .before .before .before .before .before in let y = c .before .before .before in let x = z .before .before .before in
+    rw (condition-acts (colsAt (x .args .conditions .now) (x .args .b))) (fill-end (id-filled (colsAt (x .args .conditions .now) (x .args .b))
+    (rw (z .of-columns .ensures) at (y .before .before .two .ensures)) (x .pre .1) (y .fill-all .ensures))
+    (when-absent _ _ (rw (z .of-columns .ensures) at (c .if1 .left))))
 
 pub fill-condition-spec : {M : Type 1} → statement M
 fill-condition-spec =

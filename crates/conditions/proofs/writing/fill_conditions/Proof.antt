@@ -24,32 +24,28 @@ loop-holds c =
     (omega arith, omega arith, start-left _ _ _ (c .before .before .pre .2))
 
 fill-condition-requires : tie.Need-fill-condition-requires Inv-loop μ-loop
-fill-condition-requires c κs =
-    (omega (arith, c .before .before .loop .inv .0, c .before .before .loop .inv .1, c .before .before .before .before .before .pre .0, c .before .loop-test .taken), turn-ready (rowActs (c .before .before .before .before .before .args .conditions .now)) (c .before .before .before .before .before .args .first) (c .before .before .before .before .before .args .count) (c .before .before .loop .left) (c .before .before .loop .inv .2) (c .before .loop-test .taken) _ (row-at (c .before .before .before .before .before .args .conditions .now) (c .before .before .loop .b) _ (c .before .before .loop .inv .1)))
+fill-condition-requires c κs = search (needs, turn-ready, row-at)
 
 sub-left : tie.Need-sub-left Inv-loop μ-loop
 sub-left c =
     search needs
 
 add-b : tie.Need-add-b Inv-loop μ-loop
-add-b c =
-    omega (arith, c .before .before .before .before .before .loop .inv .0, c .before .before .before .before .before .loop .inv .1, c .before .before .before .before .before .before .before .before .pre .1, c .before .before .before .before .loop-test .taken)
+add-b c = search needs
 
 loop-less : tie.Need-loop-less Inv-loop μ-loop
 loop-less c =
     search needs
 
 loop-again : tie.Need-loop-again Inv-loop μ-loop
-loop-again c =
-    (omega arith, omega (arith, c .before .before .before .before .before .loop .inv .0, c .before .before .before .before .before .loop .inv .1, c .before .before .before .before .loop-test .taken), turn-left (rowActs (c .before .before .before .before .before .before .before .before .args .conditions .now)) (c .before .before .before .before .before .before .before .before .args .first) (c .before .before .before .before .before .before .before .before .args .count) (c .before .before .before .before .before .loop .left) (c .before .before .before .before .before .loop .inv .2) (c .before .before .before .before .loop-test .taken) _ (row-at (c .before .before .before .before .before .before .before .before .args .conditions .now) (c .before .before .before .before .before .loop .b) _ (c .before .before .before .before .before .loop .inv .1)) (c .before .before .before .before .before .loop .inv .0) (c .before .before .fill-condition .ensures))
+loop-again c = search (needs, turn-left, row-at)
 
 same-length : tie.Need-same-length Inv-loop μ-loop
 same-length c =
     c .before .loop .inv .2 .size
 
 returns : tie.Need-returns Inv-loop μ-loop
-returns c =
-    end-left (rowActs (c .before .before .before .before .args .conditions .now)) (c .before .before .before .before .args .first) (c .before .before .before .before .args .count) (c .before .loop .left) (c .before .loop .inv .2) (c .loop-test .left)
+returns c = search end-left
 
 pub fill-conditions-spec : {M : Type 1} → statement M
 fill-conditions-spec =

@@ -20,22 +20,32 @@ slice-aggregate-fill-all c = search needs
 
 fill-all-requires : tie.Need-fill-all-requires
 fill-all-requires c κs =
-    ready-part _ (more (rw (c .before .before .before .before .of-columns .ensures) at (c .before .flags-of .ensures)) none) (fill-start (c .before .before .before .before .before .before .before .pre .1))
+    search (ready-part, fill-start, more (rw (c .before .before .before .before .of-columns .ensures) at (c .before .flags-of .ensures)) none)
 
 fill-gain-requires : tie.Need-fill-gain-requires
 fill-gain-requires c κs =
-    (c .before .before .before .before .before .before .before .before .before .before .before .before .pre .0, rw (c .before .before .before .before .before .before .before .before .before .of-columns .ensures) (fill-row _ _ (flags-filled (colsAt (c .before .before .before .before .before .before .before .before .before .before .before .before .args .conditions .now) (c .before .before .before .before .before .before .before .before .before .before .before .before .args .b)) (rw (c .before .before .before .before .before .before .before .before .before .of-columns .ensures) at (c .before .before .before .before .before .before .flags-of .ensures)) (c .before .before .before .before .before .before .before .before .before .before .before .before .pre .1) (c .before .before .before .before .fill-all .ensures)) refl))
+    let z = c .before .before .before .before .before .before .before .before .before in let y = c .before .before .before .before in
+    let x = z .before .before .before in
+    (x .pre .0, rw (z .of-columns .ensures) (fill-row _ _ (flags-filled (colsAt (x .args .conditions .now) (x .args .b)) (rw (z .of-columns .ensures) at (y .before .before .flags-of .ensures)) (x .pre .1) (y .fill-all .ensures)) refl))
 
 fill-position-requires : tie.Need-fill-position-requires
 fill-position-requires c κs =
-    (c .before .before .before .before .before .before .before .before .before .before .before .before .before .before .before .before .before .pre .0, rw (c .before .before .before .before .before .before .before .before .before .before .before .before .before .before .of-columns .ensures) (fill-row _ _ (gain-filled (colsAt (c .before .before .before .before .before .before .before .before .before .before .before .before .before .before .before .before .before .args .conditions .now) (c .before .before .before .before .before .before .before .before .before .before .before .before .before .before .before .before .before .args .b)) (flags-filled (colsAt (c .before .before .before .before .before .before .before .before .before .before .before .before .before .before .before .before .before .args .conditions .now) (c .before .before .before .before .before .before .before .before .before .before .before .before .before .before .before .before .before .args .b)) (rw (c .before .before .before .before .before .before .before .before .before .before .before .before .before .before .of-columns .ensures) at (c .before .before .before .before .before .before .before .before .before .before .before .flags-of .ensures)) (c .before .before .before .before .before .before .before .before .before .before .before .before .before .before .before .before .before .pre .1) (c .before .before .before .before .before .before .before .before .before .fill-all .ensures)) (rw (c .before .before .before .before .before .before .before .before .before .before .before .before .before .before .of-columns .ensures) at (c .before .before .before .before .fill-gain .ensures))) refl))
+    let z = c .before .before .before .before .before .before .before .before .before .before .before .before .before .before in
+    let y = c .before .before .before .before .before .before .before .before .before in let x = z .before .before .before in
+    (x .pre .0, rw (z .of-columns .ensures) (fill-row _ _ (gain-filled (colsAt (x .args .conditions .now) (x .args .b)) (flags-filled (colsAt (x .args .conditions .now) (x .args .b)) (rw (z .of-columns .ensures) at (y .before .before .flags-of .ensures)) (x .pre .1) (y .fill-all .ensures)) (rw (z .of-columns .ensures) at (c .before .before .before .before .fill-gain .ensures))) refl))
 
 same-length : tie.Need-same-length
 same-length c = search needs
 
 returns : tie.Need-returns
 returns c =
-    position-filled (colsAt (c .before .before .before .before .before .before .before .before .before .before .before .before .before .before .before .before .before .before .before .before .args .conditions .now) (c .before .before .before .before .before .before .before .before .before .before .before .before .before .before .before .before .before .before .before .before .args .b)) (gain-filled (colsAt (c .before .before .before .before .before .before .before .before .before .before .before .before .before .before .before .before .before .before .before .before .args .conditions .now) (c .before .before .before .before .before .before .before .before .before .before .before .before .before .before .before .before .before .before .before .before .args .b)) (flags-filled (colsAt (c .before .before .before .before .before .before .before .before .before .before .before .before .before .before .before .before .before .before .before .before .args .conditions .now) (c .before .before .before .before .before .before .before .before .before .before .before .before .before .before .before .before .before .before .before .before .args .b)) (rw (c .before .before .before .before .before .before .before .before .before .before .before .before .before .before .before .before .before .of-columns .ensures) at (c .before .before .before .before .before .before .before .before .before .before .before .before .before .before .flags-of .ensures)) (c .before .before .before .before .before .before .before .before .before .before .before .before .before .before .before .before .before .before .before .before .pre .1) (c .before .before .before .before .before .before .before .before .before .before .before .before .fill-all .ensures)) (rw (c .before .before .before .before .before .before .before .before .before .before .before .before .before .before .before .before .before .of-columns .ensures) at (c .before .before .before .before .before .before .before .fill-gain .ensures))) (rw (c .before .before .before .before .before .before .before .before .before .before .before .before .before .before .before .before .before .of-columns .ensures) at (c .before .before .fill-position .ensures))
+    let z = c .before .before .before .before .before .before .before .before .before .before .before .before .before .before .before .before .before in
+    let y = c .before .before .before .before .before .before .before in let x = z .before .before .before in
+    position-filled (colsAt (x .args .conditions .now) (x .args .b)) (gain-filled (colsAt (x .args .conditions .now) (x .args .b))
+    (flags-filled (colsAt (x .args .conditions .now) (x .args .b))
+    (rw (z .of-columns .ensures) at (y .before .before .before .before .before .before .before .flags-of .ensures)) (x .pre .1)
+    (y .before .before .before .before .before .fill-all .ensures)) (rw (z .of-columns .ensures) at (y .fill-gain .ensures)))
+    (rw (z .of-columns .ensures) at (c .before .before .fill-position .ensures))
 
 pub fill-detail-spec : {M : Type 1} → statement M
 fill-detail-spec =

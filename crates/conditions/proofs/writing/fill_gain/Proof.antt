@@ -1,7 +1,5 @@
 -- `writing::fill_gain` meets its contract.
-use Rattle.wire.specs.Spell.{none, more, fieldsOf}
-use Rattle.conditions.specs.Rows.{gainCells}
-use Rattle.conditions.specs.Write.{colsAt}
+use Rattle.wire.specs.Spell.{none, more}
 use Rattle.conditions.proofs.Writes.{part-ready, part-filled, part-absent}
 use borrow.Author.Needs.{needs}
 use Rattle.conditions.proofs.writing.fill_gain.Statement.{statement}
@@ -18,18 +16,17 @@ slice-aggregate-fill-all c = search needs
 
 fill-all-requires : tie.Need-fill-all-requires
 fill-all-requires c κs =
-    part-ready _ (c .before .before .before .before .before .before .before .pre .1) (more (rw (c .before .before .before .of-columns .ensures) at (c .before .one .ensures)) none) (c .before .before .before .before .if1 .taken)
+    search (part-ready, more (rw (c .before .before .before .of-columns .ensures) at (c .before .one .ensures)) none)
 
 same-length : tie.Need-same-length
 same-length c = search needs
 
 returns : tie.Need-returns
 returns c =
-    part-filled _ (c .before .before .before .before .before .before .before .before .before .before .pre .1) (more (rw (c .before .before .before .before .before .before .of-columns .ensures) at (c .before .before .before .before .one .ensures)) none) (c .before .before .before .before .before .before .before .if1 .taken) (c .before .before .fill-all .ensures)
+    let z = c .before .before .before .before in search (part-filled, more (rw (z .before .before .of-columns .ensures) at (z .one .ensures)) none)
 
 returns-2 : tie.Need-returns-2
-returns-2 c =
-    part-absent (fieldsOf (colsAt (c .before .before .before .args .conditions .now) (c .before .before .before .args .b)) gainCells) (c .before .before .before .pre .1) (c .if1 .left)
+returns-2 c = search part-absent
 
 pub fill-gain-spec : {M : Type 1} → statement M
 fill-gain-spec =

@@ -1,7 +1,4 @@
 -- `writing::fill_position` meets its contract.
-use Rattle.wire.specs.Spell.{fieldsOf}
-use Rattle.conditions.specs.Rows.{positionCells}
-use Rattle.conditions.specs.Write.{colsAt}
 use Rattle.conditions.proofs.Writes.{part-ready, part-filled, part-absent}
 use borrow.Author.Needs.{needs}
 use Rattle.conditions.proofs.writing.fill_position.Statement.{statement}
@@ -18,18 +15,17 @@ slice-aggregate-fill-all c = search needs
 
 fill-all-requires : tie.Need-fill-all-requires
 fill-all-requires c κs =
-    part-ready _ (c .before .before .before .before .before .before .before .pre .1) (rw (c .before .before .before .of-columns .ensures) at (c .before .position-bytes .ensures)) (c .before .before .before .before .if1 .taken)
+    search (part-ready, rw (c .before .before .before .of-columns .ensures) at (c .before .position-bytes .ensures))
 
 same-length : tie.Need-same-length
 same-length c = search needs
 
 returns : tie.Need-returns
 returns c =
-    part-filled _ (c .before .before .before .before .before .before .before .before .before .before .pre .1) (rw (c .before .before .before .before .before .before .of-columns .ensures) at (c .before .before .before .before .position-bytes .ensures)) (c .before .before .before .before .before .before .before .if1 .taken) (c .before .before .fill-all .ensures)
+    let z = c .before .before .before .before in search (part-filled, rw (z .before .before .of-columns .ensures) at (z .position-bytes .ensures))
 
 returns-2 : tie.Need-returns-2
-returns-2 c =
-    part-absent (fieldsOf (colsAt (c .before .before .before .args .conditions .now) (c .before .before .before .args .b)) positionCells) (c .before .before .before .pre .1) (c .if1 .left)
+returns-2 c = search part-absent
 
 pub fill-position-spec : {M : Type 1} → statement M
 fill-position-spec =

@@ -23,7 +23,9 @@ is-flag-requires-5 c κs = search needs
 
 returns : tie.Need-returns
 returns c =
-    (λ i. c .before .before .before .is-flag .ensures i && (c .before .before .is-flag2 .ensures i && (c .before .is-flag3 .ensures i && c .is-flag4 .ensures i))) ∙ sym (flags-there _ _ (c .before .before .before .before .if1 .taken))
+    let z = c .before .before in
+    (λ i. z .before .is-flag .ensures i && (z .is-flag2 .ensures i && (c .before .is-flag3 .ensures i && c .is-flag4 .ensures i))) ∙ sym
+    (flags-there _ _ (z .before .before .if1 .taken))
 
 returns-2 : tie.Need-returns-2
 returns-2 c =

@@ -56,7 +56,8 @@ flags-byte-requires c κs = search needs
 
 returns : tie.Need-returns
 returns c =
-    long-so (colsAt (c .before .before .before .before .before .before .before .before .args .conditions .now) (c .before .before .before .before .before .before .before .before .args .b)) (spelt-odd (c .before .flags-byte .ensures) (c .if1 .taken)) refl refl
+    let z = c .before .before .before .before .before .before .before .before in long-so (colsAt (z .args .conditions .now) (z .args .b))
+    (spelt-odd (c .before .flags-byte .ensures) (c .if1 .taken)) refl refl
 
 plain-gain-requires : tie.Need-plain-gain-requires
 plain-gain-requires c κs = search needs
@@ -69,15 +70,21 @@ detail-bytes-requires c κs = search needs
 
 returns-2 : tie.Need-returns-2
 returns-2 c =
-    c .detail-bytes .ensures ∙ long-so (colsAt (c .before .before .before .before .before .before .before .before .before .before .before .before .before .args .conditions .now) (c .before .before .before .before .before .before .before .before .before .before .before .before .before .args .b)) (spelt-fits (c .before .before .before .before .before .before .flags-byte .ensures) (c .before .before .before .before .before .if1 .left)) (sym (c .before .before .before .before .plain-gain .ensures) ∙ c .before .before .before .if2 .taken) (sym (c .before .before .plain-position .ensures) ∙ c .before .if3 .taken)
+    let z = c .before .before .before .before in let y = z .before .before .before .before .before .before .before .before .before in
+    c .detail-bytes .ensures ∙ long-so (colsAt (y .args .conditions .now) (y .args .b)) (spelt-fits (z .before .before .flags-byte .ensures)
+    (z .before .if1 .left)) (sym (z .plain-gain .ensures) ∙ c .before .before .before .if2 .taken) (sym
+    (c .before .before .plain-position .ensures) ∙ c .before .if3 .taken)
 
 returns-3 : tie.Need-returns-3
 returns-3 c =
-    long-so (colsAt (c .before .before .before .before .before .before .before .before .before .before .before .before .args .conditions .now) (c .before .before .before .before .before .before .before .before .before .before .before .before .args .b)) (spelt-fits (c .before .before .before .before .before .flags-byte .ensures) (c .before .before .before .before .if1 .left)) (sym (c .before .before .before .plain-gain .ensures) ∙ c .before .before .if2 .taken) (sym (c .before .plain-position .ensures) ∙ c .if3 .left)
+    let z = c .before .before .before in let y = z .before .before .before .before .before .before .before .before .before in
+    long-so (colsAt (y .args .conditions .now) (y .args .b)) (spelt-fits (z .before .before .flags-byte .ensures) (z .before .if1 .left))
+    (sym (z .plain-gain .ensures) ∙ c .before .before .if2 .taken) (sym (c .before .plain-position .ensures) ∙ c .if3 .left)
 
 returns-4 : tie.Need-returns-4
 returns-4 c =
-    long-so (colsAt (c .before .before .before .before .before .before .before .before .before .before .args .conditions .now) (c .before .before .before .before .before .before .before .before .before .before .args .b)) (spelt-fits (c .before .before .before .flags-byte .ensures) (c .before .before .if1 .left)) (sym (c .before .plain-gain .ensures) ∙ c .if2 .left) refl
+    let z = c .before .before .before .before .before .before .before .before .before .before in long-so (colsAt (z .args .conditions .now) (z .args .b))
+    (spelt-fits (c .before .before .before .flags-byte .ensures) (c .before .before .if1 .left)) (sym (c .before .plain-gain .ensures) ∙ c .if2 .left) refl
 
 pub plain-detail-spec : {M : Type 1} → statement M
 plain-detail-spec =

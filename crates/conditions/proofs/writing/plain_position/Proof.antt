@@ -17,7 +17,8 @@ fits-all-requires c κs = search needs
 
 returns : tie.Need-returns
 returns c =
-    rw (c .before .before .before .before .if1 .taken) (c .fits-all .ensures .of _ (rw (c .before .before .before .of-columns .ensures) at (c .before .before .position-bytes .ensures)))
+    let z = c .before .before in
+    rw (z .before .before .if1 .taken) (c .fits-all .ensures .of _ (rw (z .before .of-columns .ensures) at (z .position-bytes .ensures)))
 
 returns-2 : tie.Need-returns-2
 returns-2 c =

@@ -32,7 +32,8 @@ part-requires-4 c κs = search needs
 
 returns : tie.Need-returns
 returns c =
-    rw (c .part4 .ensures, c .before .part3 .ensures, c .before .before .part2 .ensures, c .before .before .before .part .ensures, c .before .before .before .before .wide2 .ensures, c .before .before .before .before .before .before .wide .ensures)
+    let z = c .before .before in
+    rw (c .part4 .ensures, c .before .part3 .ensures, z .part2 .ensures, z .before .part .ensures, z .before .before .wide2 .ensures, z .before .before .before .before .wide .ensures)
 
 pub downmix-at-spec : {M : Type 1} → statement M
 downmix-at-spec =

@@ -1,6 +1,5 @@
 -- `parsing::fill_downmixes` meets its contract: what is still to store from here is what was to store from the start.
 use mathlib.Core.Path.{refl, ap, _∙_}
-use native.Mathlib.Omega.{arith}
 use Rattle.wire.specs.Layout.{flat}
 use Rattle.wire.proofs.reading.Loops.{Filling, fill-next, fill-end}
 use Rattle.downmixes.specs.Layout.{downmix}
@@ -34,8 +33,7 @@ put-row-requires : tie.Need-put-row-requires Inv-loop μ-loop
 put-row-requires c κs = search needs
 
 add-pos : tie.Need-add-pos Inv-loop μ-loop
-add-pos c =
-    omega (arith, downmix-there _ _ _ (c .before .before .before .before .before .before .before .before .loop .inv .inside) (c .before .before .before .before .before .before .before .loop-test .taken) (c .before .before .before .before .before .before .before .before .loop .inv .sound))
+add-pos c = search (needs, downmix-there)
 
 sub-left : tie.Need-sub-left Inv-loop μ-loop
 sub-left c = search needs
@@ -48,7 +46,9 @@ loop-less c = search needs
 
 loop-again : tie.Need-loop-again Inv-loop μ-loop
 loop-again c =
-    fill-next (flat 4 downmix) (λ r. r) 4 _ _ _ _ _ _ _ _ _ (c .before .before .before .before .before .before .before .before .loop .inv) (c .before .before .before .before .before .before .before .loop-test .taken) (downmix-run _ _ _ (c .before .before .before .before .before .before .before .before .loop .inv .inside) (c .before .before .before .before .before .before .before .loop-test .taken) (c .before .before .before .before .before .before .before .before .loop .inv .sound)) refl refl (c .before .before .before .before .before .columns .ensures ∙ ap downmixRow (c .before .before .before .before .before .before .downmix-at .ensures)) (c .before .before .put-row .ensures)
+    let z = c .before .before .before .before .before in let y = z .before .before in fill-next (flat 4 downmix) (λ r. r) 4 _ _ _ _ _ _ _ _ _
+    (y .before .loop .inv) (y .loop-test .taken) (downmix-run _ _ _ (y .before .loop .inv .inside) (y .loop-test .taken)
+    (y .before .loop .inv .sound)) refl refl (z .columns .ensures ∙ ap downmixRow (z .before .downmix-at .ensures)) (c .before .before .put-row .ensures)
 
 same-length : tie.Need-same-length Inv-loop μ-loop
 same-length c = search needs

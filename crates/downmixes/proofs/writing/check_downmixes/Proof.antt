@@ -30,8 +30,7 @@ check-all-requires : tie.Need-check-all-requires
 check-all-requires c κs = search needs
 
 returns : tie.Need-returns
-returns c =
-    plain-odd _ 2 _ _ (c .before .before .before .before .before .plain-rows .ensures) (c .before .before .before .before .if1 .taken) (row-checked (c .before .before .before .before .before .before .before .args .downmixes .now) (c .before .before .before .before .before .plain-rows .result) (c .before .before .before .of-columns .ensures) (c .before .before .downmix-bytes .ensures) (c .check-all .ensures))
+returns c = search (plain-odd, row-checked)
 
 returns-2 : tie.Need-returns-2
 returns-2 c =

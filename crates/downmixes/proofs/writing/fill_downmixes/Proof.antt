@@ -36,7 +36,9 @@ slice-aggregate-fill-all c = search needs
 
 fill-all-requires : tie.Need-fill-all-requires Inv-loop μ-loop
 fill-all-requires c κs =
-    row-ready (c .before .before .before .before .before .before .before .before .args .downmixes .now) (c .before .before .before .before .before .loop .i) (c .before .before .before .of-columns .ensures) (c .before .downmix-bytes .ensures) (fill-row _ _ (c .before .before .before .before .before .loop .inv .1) (rows-turn _ _ _ (c .before .before .before .before .loop-test .taken)))
+    let z = c .before .before .before in row-ready (z .before .before .before .before .before .args .downmixes .now) (z .before .before .loop .i)
+    (z .of-columns .ensures) (c .before .downmix-bytes .ensures) (fill-row _ _ (z .before .before .loop .inv .1)
+    (rows-turn _ _ _ (z .before .loop-test .taken)))
 
 add-i : tie.Need-add-i Inv-loop μ-loop
 add-i c = search needs
@@ -46,7 +48,10 @@ loop-less c = search needs
 
 loop-again : tie.Need-loop-again Inv-loop μ-loop
 loop-again c =
-    let r = fill-row _ _ (c .before .before .before .before .before .before .before .before .loop .inv .1) (rows-turn _ _ _ (c .before .before .before .before .before .before .before .loop-test .taken)) in let w = row-filled (c .before .before .before .before .before .before .before .before .before .before .before .args .downmixes .now) (c .before .before .before .before .before .before .before .before .loop .i) (c .before .before .before .before .before .before .of-columns .ensures) (c .before .before .before .before .downmix-bytes .ensures) r (c .before .before .fill-all .ensures) in (omega arith, fill-turn (c .before .before .before .before .before .before .before .before .loop .inv .1) (rows-turn _ _ _ (c .before .before .before .before .before .before .before .loop-test .taken)) (filled-long w) w)
+    let z = c .before .before .before .before .before .before in let r = fill-row _ _ (z .before .before .loop .inv .1)
+    (rows-turn _ _ _ (z .before .loop-test .taken)) in let w = row-filled (z .before .before .before .before .before .args .downmixes .now)
+    (z .before .before .loop .i) (z .of-columns .ensures) (c .before .before .before .before .downmix-bytes .ensures) r
+    (c .before .before .fill-all .ensures) in (omega arith, search (fill-turn, rows-turn, filled-long))
 
 same-length : tie.Need-same-length Inv-loop μ-loop
 same-length c =

@@ -38,7 +38,9 @@ fits-all-requires c κs = search needs
 
 returns : tie.Need-returns Inv-loop μ-loop
 returns c =
-    going-odd (c .before .before .before .before .before .before .loop .inv) (row-odd (c .before .before .before .before .before .before .before .before .args .downmixes .now) (c .before .before .before .before .before .before .loop .i) (c .before .before .before .before .of-columns .ensures) (c .before .before .before .downmix-bytes .ensures) (c .before .fits-all .ensures) (not-true _ (c .if1 .taken))) refl
+    let z = c .before .before .before in let y = z .before .before .before in going-odd (y .loop .inv)
+    (row-odd (y .before .before .args .downmixes .now) (y .loop .i) (z .before .of-columns .ensures) (z .downmix-bytes .ensures)
+    (c .before .fits-all .ensures) (not-true _ (c .if1 .taken))) refl
 
 add-i : tie.Need-add-i Inv-loop μ-loop
 add-i c = search needs
@@ -48,7 +50,10 @@ loop-less c = search needs
 
 loop-again : tie.Need-loop-again Inv-loop μ-loop
 loop-again c =
-    let e : 2 * c .before .before .before .before .before .before .loop .i + 2 ≡ 2 * (c .before .before .before .before .before .before .loop .i + 1) = omega arith in rw e at (going-turn (c .before .before .before .before .before .before .loop .inv) (row-plain (c .before .before .before .before .before .before .before .before .args .downmixes .now) (c .before .before .before .before .before .before .loop .i) (c .before .before .before .before .of-columns .ensures) (c .before .before .before .downmix-bytes .ensures) (c .before .fits-all .ensures) (not-false _ (c .if1 .left))) (c .before .before .before .before .before .loop-test .taken) (omega arith))
+    let z = c .before .before .before .before .before in let y = c .before .before .before in let e : 2 * z .before .loop .i + 2 ≡ 2 *
+    (z .before .loop .i + 1) = omega arith in rw e at (going-turn (z .before .loop .inv) (row-plain (z .before .before .before .args .downmixes .now)
+    (z .before .loop .i) (y .before .of-columns .ensures) (y .downmix-bytes .ensures) (c .before .fits-all .ensures) (not-false _ (c .if1 .left)))
+    (z .loop-test .taken) (omega arith))
 
 returns-2 : tie.Need-returns-2 Inv-loop μ-loop
 returns-2 c =

@@ -1,5 +1,4 @@
 -- `writing::bare_bytes` meets its contract: its six bytes, or 0 if a field is over its width or its range is outside of its table.
-use native.Mathlib.Omega.{arith}
 use Rattle.instruction_writing.proofs.Writes.{bare-plain, bare-odd}
 use borrow.Author.Needs.{needs}
 use Rattle.instruction_writing.proofs.writing.bare_bytes.Statement.{statement}
@@ -39,12 +38,10 @@ fits-all-requires : tie.Need-fits-all-requires
 fits-all-requires c κs = search needs
 
 returns : tie.Need-returns
-returns c =
-    bare-plain (c .before .before .before .before .before .before .before .before .before .before .before .args .t .now) (c .before .before .before .before .before .before .before .before .before .before .before .args .b) (c .before .before .before .before .before .before .before .before .before .before .before .args .additional .now) (c .before .before .before .before .before .before .before .before .before .before .before .pre .1) (c .before .before .before .before .before .before .before .before .of-columns .ensures) (c .before .before .before .before .before .before .before .in-table .ensures) (c .before .before .before .before .two .ensures .fits) (c .before .before .before .settings-bytes .ensures) (c .before .fits-all .ensures) (omega (arith, c .before .before .before .before .before .before .before .before .of-columns .ok .1 .1 .1 .1 .1 .1 .1 .1 .0)) (c .if1 .taken)
+returns c = search bare-plain
 
 returns-2 : tie.Need-returns-2
-returns-2 c =
-    bare-odd (c .before .before .before .before .before .before .before .before .before .before .before .args .t .now) (c .before .before .before .before .before .before .before .before .before .before .before .args .b) (c .before .before .before .before .before .before .before .before .before .before .before .args .additional .now) (c .before .before .before .before .before .before .before .before .before .before .before .pre .1) (c .before .before .before .before .before .before .before .before .of-columns .ensures) (c .before .before .before .before .before .before .before .in-table .ensures) (c .before .before .before .before .two .ensures .fits) (c .before .before .before .settings-bytes .ensures) (c .before .fits-all .ensures) (omega (arith, c .before .before .before .before .before .before .before .before .of-columns .ok .1 .1 .1 .1 .1 .1 .1 .1 .0)) (c .if1 .left)
+returns-2 c = search bare-odd
 
 pub bare-bytes-spec : {M : Type 1} → statement M
 bare-bytes-spec =

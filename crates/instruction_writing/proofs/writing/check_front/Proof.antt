@@ -32,8 +32,7 @@ check-all-requires : tie.Need-check-all-requires
 check-all-requires c κs = search needs
 
 returns : tie.Need-returns
-returns c =
-    front (c .before .before .before .before .before .before .before .before .before .before .args .d) (c .before .before .before .before .before .before .before .before .before .before .args .additional .now) (c .before .before .before .before .before .before .before .before .in-table .ensures) (c .before .before .before .before .before .before .all-flags-hold .ensures) (c .before .before .before .before .before .before .before .demand .ensures) (c .before .before .before .before .before .demand2 .ensures) (c .before .before .before .check-scope .ensures) (c .before .before .settings-bytes .ensures) (c .check-all .ensures)
+returns c = search front
 
 pub check-front-spec : {M : Type 1} → statement M
 check-front-spec =

@@ -15,21 +15,21 @@ enum-told : tie.Need-enum-told
 enum-told c = search needs
 
 returns : tie.Need-returns
-returns c =
-    front-stopped (c .before .before .before .before .args .d) (c .before .before .before .before .args .additional .now) (c .before .before .check-front .ensures) (c .enum-told .given .1)
+returns c = search front-stopped
 
 check-pairs-requires : tie.Need-check-pairs-requires
 check-pairs-requires c κs =
-    (front-behind (c .before .before .before .before .before .args .d) (c .before .before .before .before .before .args .additional .now) (c .before .before .before .check-front .ensures) (c .before .p .given .1) .inside, omega (arith, front-near (c .before .before .before .before .before .args .d) (c .before .before .before .before .before .args .additional .now) (c .before .before .before .check-front .ensures) (c .before .p .given .1)))
+    let z = c .before .before .before in
+    (front-behind (z .before .before .args .d) (z .before .before .args .additional .now) (z .check-front .ensures) (c .before .p .given .1) .inside, omega (arith, front-near (z .before .before .args .d) (z .before .before .args .additional .now) (z .check-front .ensures) (c .before .p .given .1)))
 
 check-effect-requires : tie.Need-check-effect-requires
 check-effect-requires c κs =
-    let h = front-behind (c .before .before .before .before .before .before .args .d) (c .before .before .before .before .before .before .args .additional .now) (c .before .before .before .before .check-front .ensures) (c .before .before .p .given .1) .few in
-    omega (arith, h, c .check-pairs .ensures .near, front-near (c .before .before .before .before .before .before .args .d) (c .before .before .before .before .before .before .args .additional .now) (c .before .before .before .before .check-front .ensures) (c .before .before .p .given .1))
+    let z = c .before .before .before .before in let h = front-behind (z .before .before .args .d) (z .before .before .args .additional .now)
+    (z .check-front .ensures) (c .before .before .p .given .1) .few in
+    omega (arith, h, c .check-pairs .ensures .near, front-near (z .before .before .args .d) (z .before .before .args .additional .now) (z .check-front .ensures) (c .before .before .p .given .1))
 
 returns-2 : tie.Need-returns-2
-returns-2 c =
-    row-checked (c .before .before .before .before .before .before .before .args .d) (c .before .before .before .before .before .before .before .args .additional .now) (c .before .before .before .before .before .check-front .ensures) (c .before .before .before .p .given .1) (c .before .check-pairs .ensures) (c .check-effect .ensures)
+returns-2 c = search row-checked
 
 pub check-instruction-spec : {M : Type 1} → statement M
 check-instruction-spec =

@@ -21,8 +21,7 @@ check-instruction-requires : tie.Need-check-instruction-requires
 check-instruction-requires c κs = search needs
 
 returns : tie.Need-returns
-returns c =
-    plain-odd _ 18 _ _ (c .before .before .before .before .plain-rows .ensures) (c .before .before .if1 .taken) (row-looked (c .before .before .before .before .before .before .before .args .instructions .now) (c .before .before .before .before .before .before .before .args .additional .now) (c .before .before .before .before .plain-rows .result .rows) (c .before .of-columns .ensures) (c .check-instruction .ensures))
+returns c = search (plain-odd, row-looked)
 
 returns-2 : tie.Need-returns-2
 returns-2 c =

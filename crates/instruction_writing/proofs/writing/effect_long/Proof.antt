@@ -1,5 +1,4 @@
 -- `writing::effect_long` meets its contract.
-use native.Mathlib.Omega.{arith}
 use Rattle.instruction_writing.proofs.Writes.{loud-fits, effect-long}
 use borrow.Author.Needs.{needs}
 use Rattle.instruction_writing.proofs.writing.effect_long.Statement.{statement}
@@ -19,8 +18,7 @@ add-result-2 : tie.Need-add-result-2
 add-result-2 c = search needs
 
 returns : tie.Need-returns
-returns c =
-    (effect-long (c .before .before .before .args .d) (c .before .before .before .pre .0) (c .before .before .before .pre .1) (c .target-long .ensures .0), omega (arith, c .before .before .before .pre .1, c .target-long .ensures .1))
+returns c = search (needs, effect-long)
 
 pub effect-long-spec : {M : Type 1} → statement M
 effect-long-spec =

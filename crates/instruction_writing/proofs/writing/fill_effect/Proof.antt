@@ -12,8 +12,7 @@ slice-aggregate-fill-all : tie.Need-slice-aggregate-fill-all
 slice-aggregate-fill-all c = search needs
 
 fill-all-requires : tie.Need-fill-all-requires
-fill-all-requires c κs =
-    word-ready (c .before .before .before .before .before .before .args .d) (c .before .before .before .before .before .before .pre) (c .before .effect-bytes .ensures)
+fill-all-requires c κs = search word-ready
 
 limiter-bytes-requires : tie.Need-limiter-bytes-requires
 limiter-bytes-requires c κs = search needs
@@ -22,20 +21,16 @@ slice-aggregate-fill-all-2 : tie.Need-slice-aggregate-fill-all-2
 slice-aggregate-fill-all-2 c = search needs
 
 fill-all-requires-2 : tie.Need-fill-all-requires-2
-fill-all-requires-2 c κs =
-    limiter-ready (c .before .before .before .before .before .before .before .before .before .before .before .before .before .args .d) (c .before .before .before .before .before .before .before .before .before .before .before .before .before .pre) (c .before .before .before .before .before .before .before .before .effect-bytes .ensures) (c .before .before .before .before .before .before .fill-all .ensures) (c .before .limiter-bytes .ensures)
+fill-all-requires-2 c κs = search limiter-ready
 
 fill-target-requires : tie.Need-fill-target-requires
-fill-target-requires c κs =
-    loud-ready (c .before .before .before .before .before .before .before .before .before .before .before .before .before .before .before .before .before .args .d) (c .before .before .before .before .before .before .before .before .before .before .before .before .before .before .before .before .before .pre) (c .before .before .before .before .before .before .before .before .before .before .before .before .effect-bytes .ensures) (c .before .before .before .before .before .before .before .before .before .before .fill-all .ensures) (c .before .before .before .before .before .limiter-bytes .ensures) (c .before .before .before .fill-all2 .ensures)
+fill-target-requires c κs = search loud-ready
 
 same-length : tie.Need-same-length
-same-length c =
-    filled-long (effect-filled (c .before .before .before .before .before .before .before .before .before .before .before .before .before .before .before .before .before .before .before .before .args .d) (c .before .before .before .before .before .before .before .before .before .before .before .before .before .before .before .before .before .before .before .before .pre) (c .before .before .before .before .before .before .before .before .before .before .before .before .before .before .before .effect-bytes .ensures) (c .before .before .before .before .before .before .before .before .before .before .before .before .before .fill-all .ensures) (c .before .before .before .before .before .before .before .before .limiter-bytes .ensures) (c .before .before .before .before .before .before .fill-all2 .ensures) (c .before .before .fill-target .ensures))
+same-length c = search (filled-long, effect-filled)
 
 returns : tie.Need-returns
-returns c =
-    effect-filled (c .before .before .before .before .before .before .before .before .before .before .before .before .before .before .before .before .before .before .before .before .args .d) (c .before .before .before .before .before .before .before .before .before .before .before .before .before .before .before .before .before .before .before .before .pre) (c .before .before .before .before .before .before .before .before .before .before .before .before .before .before .before .effect-bytes .ensures) (c .before .before .before .before .before .before .before .before .before .before .before .before .before .fill-all .ensures) (c .before .before .before .before .before .before .before .before .limiter-bytes .ensures) (c .before .before .before .before .before .before .fill-all2 .ensures) (c .before .before .fill-target .ensures)
+returns c = search effect-filled
 
 pub fill-effect-spec : {M : Type 1} → statement M
 fill-effect-spec =

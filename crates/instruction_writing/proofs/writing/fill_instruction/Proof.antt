@@ -16,24 +16,25 @@ slice-aggregate-fill-all : tie.Need-slice-aggregate-fill-all
 slice-aggregate-fill-all c = search needs
 
 fill-all-requires : tie.Need-fill-all-requires
-fill-all-requires c κs =
-    settings-ready (c .before .before .before .before .before .before .before .before .before .args .d) (c .before .before .before .before .before .before .before .before .before .args .additional .now) (c .before .before .before .before .before .before .before .before .before .pre) (c .before .before .before .before .before .fill-scope .ensures) (c .before .settings-bytes .ensures)
+fill-all-requires c κs = search settings-ready
 
 fill-pairs-requires : tie.Need-fill-pairs-requires
 fill-pairs-requires c κs =
-    (row-ready (c .before .before .before .before .before .before .before .before .before .before .before .before .before .args .d) (c .before .before .before .before .before .before .before .before .before .before .before .before .before .args .additional .now) (c .before .before .before .before .before .before .before .before .before .before .before .before .before .pre) .inside, ids-ready (c .before .before .before .before .before .before .before .before .before .before .before .before .before .args .d) (c .before .before .before .before .before .before .before .before .before .before .before .before .before .args .additional .now) (c .before .before .before .before .before .before .before .before .before .before .before .before .before .pre) (c .before .before .before .before .before .before .before .before .before .fill-scope .ensures) (c .before .before .before .before .before .settings-bytes .ensures) (c .before .before .before .fill-all .ensures))
+    let z = c .before .before .before .before .before .before .before .before .before .before .before .before .before in let y = c .before .before .before in
+    (row-ready (z .args .d) (z .args .additional .now) (z .pre) .inside, ids-ready (z .args .d) (z .args .additional .now) (z .pre) (y .before .before .before .before .before .before .fill-scope .ensures) (y .before .before .settings-bytes .ensures) (y .fill-all .ensures))
 
 fill-effect-requires : tie.Need-fill-effect-requires
 fill-effect-requires c κs =
-    effect-ready (c .before .before .before .before .before .before .before .before .before .before .before .before .before .before .before .before .before .args .d) (c .before .before .before .before .before .before .before .before .before .before .before .before .before .before .before .before .before .args .additional .now) (c .before .before .before .before .before .before .before .before .before .before .before .before .before .before .before .before .before .pre) (c .before .before .before .before .before .before .before .before .before .before .before .before .before .fill-scope .ensures) (c .before .before .before .before .before .before .before .before .before .settings-bytes .ensures) (c .before .before .before .before .before .before .before .fill-all .ensures) (c .before .before .before .fill-pairs .ensures)
+    let z = c .before .before .before .before .before .before .before .before .before .before .before .before .before in
+    let y = c .before .before .before .before .before .before .before in effect-ready (z .before .before .before .before .args .d)
+    (z .before .before .before .before .args .additional .now) (z .before .before .before .before .pre) (z .fill-scope .ensures)
+    (y .before .before .settings-bytes .ensures) (y .fill-all .ensures) (c .before .before .before .fill-pairs .ensures)
 
 same-length : tie.Need-same-length
-same-length c =
-    filled-long (row-filled (c .before .before .before .before .before .before .before .before .before .before .before .before .before .before .before .before .before .before .before .before .args .d) (c .before .before .before .before .before .before .before .before .before .before .before .before .before .before .before .before .before .before .before .before .args .additional .now) (c .before .before .before .before .before .before .before .before .before .before .before .before .before .before .before .before .before .before .before .before .pre) (c .before .before .before .before .before .before .before .before .before .before .before .before .before .before .before .before .fill-scope .ensures) (c .before .before .before .before .before .before .before .before .before .before .before .before .settings-bytes .ensures) (c .before .before .before .before .before .before .before .before .before .before .fill-all .ensures) (c .before .before .before .before .before .before .fill-pairs .ensures) (c .before .before .fill-effect .ensures))
+same-length c = search (needs, filled-long, row-filled)
 
 returns : tie.Need-returns
-returns c =
-    row-filled (c .before .before .before .before .before .before .before .before .before .before .before .before .before .before .before .before .before .before .before .before .args .d) (c .before .before .before .before .before .before .before .before .before .before .before .before .before .before .before .before .before .before .before .before .args .additional .now) (c .before .before .before .before .before .before .before .before .before .before .before .before .before .before .before .before .before .before .before .before .pre) (c .before .before .before .before .before .before .before .before .before .before .before .before .before .before .before .before .fill-scope .ensures) (c .before .before .before .before .before .before .before .before .before .before .before .before .settings-bytes .ensures) (c .before .before .before .before .before .before .before .before .before .before .fill-all .ensures) (c .before .before .before .before .before .before .fill-pairs .ensures) (c .before .before .fill-effect .ensures)
+returns c = search row-filled
 
 pub fill-instruction-spec : {M : Type 1} → statement M
 fill-instruction-spec =

@@ -28,7 +28,8 @@ mul-fill-row c =
 
 fill-row-requires : tie.Need-fill-row-requires Inv-loop μ-loop
 fill-row-requires c κs =
-    (omega arith, row-asked (c .before .before .before .before .before .before .args .instructions .now) (c .before .before .before .before .before .before .args .additional .now) (c .before .before .loop .i) refl (fill-row _ _ (c .before .before .loop .inv .1) (rows-turn _ _ _ (c .before .loop-test .taken))))
+    let z = c .before .before in
+    (omega arith, row-asked (z .before .before .before .before .args .instructions .now) (z .before .before .before .before .args .additional .now) (z .loop .i) refl (fill-row _ _ (z .loop .inv .1) (rows-turn _ _ _ (c .before .loop-test .taken))))
 
 add-i : tie.Need-add-i Inv-loop μ-loop
 add-i c =
@@ -40,8 +41,9 @@ loop-less c =
 
 loop-again : tie.Need-loop-again Inv-loop μ-loop
 loop-again c =
-    let w = row-stored (c .before .before .before .before .before .before .before .before .before .args .instructions .now) (c .before .before .before .before .before .before .before .before .before .args .additional .now) (c .before .before .before .before .before .loop .i) refl (c .before .before .fill-row .ensures) in
-    (omega arith, fill-turn (c .before .before .before .before .before .loop .inv .1) (rows-turn _ _ _ (c .before .before .before .before .loop-test .taken)) (filled-long w) w)
+    let z = c .before .before .before .before .before in let w = row-stored (z .before .before .before .before .args .instructions .now)
+    (z .before .before .before .before .args .additional .now) (z .loop .i) refl (c .before .before .fill-row .ensures) in
+    (omega arith, search (fill-turn, rows-turn, filled-long))
 
 same-length : tie.Need-same-length Inv-loop μ-loop
 same-length c =

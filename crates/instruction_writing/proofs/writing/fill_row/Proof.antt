@@ -34,7 +34,7 @@ slice-aggregate-fill-all c = search needs
 
 fill-all-requires : tie.Need-fill-all-requires
 fill-all-requires c κs =
-    bare-type-ready (c .before .before .before .before .before .before .before .before .before .before .before .args .t .now) (c .before .before .before .before .before .before .before .before .before .before .before .args .b) (c .before .before .before .before .before .before .before .before .before .before .before .args .additional .now) (sym (c .before .before .before .before .before .before .before .is-bare .ensures) ∙ c .before .before .before .before .before .before .if1 .taken) (c .before .before .before .before .before .before .before .before .before .before .before .pre .1) (c .before .two .ensures)
+    let z = c .before .before .before .before .before .before in search (bare-type-ready, sym (z .before .is-bare .ensures) ∙ z .if1 .taken)
 
 settings-bytes-requires : tie.Need-settings-bytes-requires
 settings-bytes-requires c κs = search needs
@@ -44,7 +44,8 @@ slice-aggregate-fill-all-2 c = search needs
 
 fill-all-requires-2 : tie.Need-fill-all-requires-2
 fill-all-requires-2 c κs =
-    bare-settings-ready (c .before .before .before .before .before .before .before .before .before .before .before .before .before .before .before .before .before .args .t .now) (c .before .before .before .before .before .before .before .before .before .before .before .before .before .before .before .before .before .args .b) (c .before .before .before .before .before .before .before .before .before .before .before .before .before .before .before .before .before .args .additional .now) (sym (c .before .before .before .before .before .before .before .before .before .before .before .before .before .is-bare .ensures) ∙ c .before .before .before .before .before .before .before .before .before .before .before .before .if1 .taken) (c .before .before .before .before .before .before .before .before .before .before .before .before .before .before .before .before .before .pre .1) (c .before .before .before .before .before .before .before .two .ensures) (c .before .before .before .before .before .fill-all .ensures) (c .before .before .before .before .before .before .before .before .before .before .before .of-columns .ensures) (c .before .settings-bytes .ensures)
+    let z = c .before .before .before .before .before .before .before .before .before .before .before .before in
+    search (bare-settings-ready, sym (z .before .is-bare .ensures) ∙ z .if1 .taken)
 
 effect-bytes-requires : tie.Need-effect-bytes-requires
 effect-bytes-requires c κs = search needs
@@ -54,28 +55,33 @@ slice-aggregate-fill-all-3 c = search needs
 
 fill-all-requires-3 : tie.Need-fill-all-requires-3
 fill-all-requires-3 c κs =
-    bare-word-ready (c .before .before .before .before .before .before .before .before .before .before .before .before .before .before .before .before .before .before .before .before .before .before .before .args .t .now) (c .before .before .before .before .before .before .before .before .before .before .before .before .before .before .before .before .before .before .before .before .before .before .before .args .b) (c .before .before .before .before .before .before .before .before .before .before .before .before .before .before .before .before .before .before .before .before .before .before .before .args .additional .now) (sym (c .before .before .before .before .before .before .before .before .before .before .before .before .before .before .before .before .before .before .before .is-bare .ensures) ∙ c .before .before .before .before .before .before .before .before .before .before .before .before .before .before .before .before .before .before .if1 .taken) (c .before .before .before .before .before .before .before .before .before .before .before .before .before .before .before .before .before .before .before .before .before .before .before .pre .1) (c .before .before .before .before .before .before .before .before .before .before .before .before .before .two .ensures) (c .before .before .before .before .before .before .before .before .before .before .before .fill-all .ensures) (c .before .before .before .before .before .before .before .before .before .before .before .before .before .before .before .before .before .of-columns .ensures) (c .before .before .before .before .before .before .before .settings-bytes .ensures) (c .before .before .before .before .before .fill-all2 .ensures) (c .before .effect-bytes .ensures)
+    let z = c .before .before .before .before .before .before .before .before .before .before .before .before .before .before .before .before .before .before in
+    search (bare-word-ready, sym (z .before .is-bare .ensures) ∙ z .if1 .taken)
 
 same-length : tie.Need-same-length
 same-length c = search needs
 
 returns : tie.Need-returns
 returns c =
-    bare-filled (c .before .before .before .before .before .before .before .before .before .before .before .before .before .before .before .before .before .before .before .before .before .before .before .before .before .before .args .t .now) (c .before .before .before .before .before .before .before .before .before .before .before .before .before .before .before .before .before .before .before .before .before .before .before .before .before .before .args .b) (c .before .before .before .before .before .before .before .before .before .before .before .before .before .before .before .before .before .before .before .before .before .before .before .before .before .before .args .additional .now) (sym (c .before .before .before .before .before .before .before .before .before .before .before .before .before .before .before .before .before .before .before .before .before .before .is-bare .ensures) ∙ c .before .before .before .before .before .before .before .before .before .before .before .before .before .before .before .before .before .before .before .before .before .if1 .taken) (c .before .before .before .before .before .before .before .before .before .before .before .before .before .before .before .before .before .before .before .before .before .before .before .before .before .before .pre .1) (c .before .before .before .before .before .before .before .before .before .before .before .before .before .before .before .before .two .ensures) (c .before .before .before .before .before .before .before .before .before .before .before .before .before .before .fill-all .ensures) (c .before .before .before .before .before .before .before .before .before .before .before .before .before .before .before .before .before .before .before .before .of-columns .ensures) (c .before .before .before .before .before .before .before .before .before .before .settings-bytes .ensures) (c .before .before .before .before .before .before .before .before .fill-all2 .ensures) (c .before .before .before .before .effect-bytes .ensures) (c .before .before .fill-all3 .ensures)
+    let z = c .before .before .before .before .before .before .before .before .before .before .before .before .before .before .before .before .before .before .before .before in
+    let y = c .before .before .before .before .before .before .before .before in bare-filled (z .before .before .before .before .before .before .args .t .now)
+    (z .before .before .before .before .before .before .args .b) (z .before .before .before .before .before .before .args .additional .now)
+    (sym (z .before .before .is-bare .ensures) ∙ z .before .if1 .taken) (z .before .before .before .before .before .before .pre .1)
+    (y .before .before .before .before .before .before .before .before .two .ensures) (y .before .before .before .before .before .before .fill-all .ensures)
+    (z .of-columns .ensures) (y .before .before .settings-bytes .ensures) (y .fill-all2 .ensures) (c .before .before .before .before .effect-bytes .ensures)
+    (c .before .before .fill-all3 .ensures)
 
 of-columns-requires-2 : tie.Need-of-columns-requires-2
 of-columns-requires-2 c κs = search needs
 
 fill-instruction-requires : tie.Need-fill-instruction-requires
-fill-instruction-requires c κs =
-    same-asked (c .before .before .before .before .before .before .before .args .additional .now) (c .before .of-columns2 .ensures) (c .before .before .before .before .before .before .before .pre .1)
+fill-instruction-requires c κs = search same-asked
 
 same-length-2 : tie.Need-same-length-2
 same-length-2 c = search needs
 
 returns-2 : tie.Need-returns-2
-returns-2 c =
-    same-stored (c .before .before .before .before .before .before .before .before .before .before .args .additional .now) (c .before .before .before .before .of-columns2 .ensures) (c .before .before .fill-instruction .ensures)
+returns-2 c = search same-stored
 
 pub fill-row-spec : {M : Type 1} → statement M
 fill-row-spec =

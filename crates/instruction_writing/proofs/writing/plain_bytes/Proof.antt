@@ -31,39 +31,46 @@ cast-count c = search needs
 
 plain-pairs-requires : tie.Need-plain-pairs-requires
 plain-pairs-requires c κs =
-    tested (c .before .before .before .before .before .before .before .before .before .before .args .d) (c .before .before .before .before .before .before .before .before .before .before .args .additional .now) (c .before .before .before .before .before .before .in-table .ensures) (c .before .before .before .before .before .before .before .plain-scope .ensures) (c .before .before .before .before .before .settings-bytes .ensures) (c .before .before .before .fits-all .ensures) (c .before .before .effect-fits .ensures) (c .before .if1 .taken) .stand
+    let z = c .before .before .before .before .before in tested (z .before .before .before .before .before .args .d)
+    (z .before .before .before .before .before .args .additional .now) (z .before .in-table .ensures) (z .before .before .plain-scope .ensures)
+    (z .settings-bytes .ensures) (c .before .before .before .fits-all .ensures) (c .before .before .effect-fits .ensures) (c .before .if1 .taken) .stand
 
 add-result : tie.Need-add-result
 add-result c =
-    let w = tested (c .before .before .before .before .before .before .before .before .before .before .before .before .args .d) (c .before .before .before .before .before .before .before .before .before .before .before .before .args .additional .now) (c .before .before .before .before .before .before .before .before .in-table .ensures) (c .before .before .before .before .before .before .before .before .before .plain-scope .ensures) (c .before .before .before .before .before .before .before .settings-bytes .ensures) (c .before .before .before .before .before .fits-all .ensures) (c .before .before .before .before .effect-fits .ensures) (c .before .before .before .if1 .taken) in
-    omega (arith, w .short)
+    let z = c .before .before .before .before .before .before .before in let y = c .before .before .before in
+    let w = tested (z .before .before .before .before .before .args .d) (z .before .before .before .before .before .args .additional .now)
+    (z .before .in-table .ensures) (z .before .before .plain-scope .ensures) (z .settings-bytes .ensures) (y .before .before .fits-all .ensures)
+    (y .before .effect-fits .ensures) (y .if1 .taken) in omega (arith, w .short)
 
 add-result-2 : tie.Need-add-result-2
 add-result-2 c =
-    let w = tested (c .before .before .before .before .before .before .before .before .before .before .before .before .args .d) (c .before .before .before .before .before .before .before .before .before .before .before .before .args .additional .now) (c .before .before .before .before .before .before .before .before .in-table .ensures) (c .before .before .before .before .before .before .before .before .before .plain-scope .ensures) (c .before .before .before .before .before .before .before .settings-bytes .ensures) (c .before .before .before .before .before .fits-all .ensures) (c .before .before .before .before .effect-fits .ensures) (c .before .before .before .if1 .taken) in
-    omega (arith, w .short, w .small .few)
+    let z = c .before .before .before .before .before .before .before in let y = c .before .before .before in
+    let w = tested (z .before .before .before .before .before .args .d) (z .before .before .before .before .before .args .additional .now)
+    (z .before .in-table .ensures) (z .before .before .plain-scope .ensures) (z .settings-bytes .ensures) (y .before .before .fits-all .ensures)
+    (y .before .effect-fits .ensures) (y .if1 .taken) in omega (arith, w .short, w .small .few)
 
 effect-long-requires : tie.Need-effect-long-requires
 effect-long-requires c κs =
-    let w = tested (c .before .before .before .before .before .before .before .before .before .before .before .before .args .d) (c .before .before .before .before .before .before .before .before .before .before .before .before .args .additional .now) (c .before .before .before .before .before .before .before .before .in-table .ensures) (c .before .before .before .before .before .before .before .before .before .plain-scope .ensures) (c .before .before .before .before .before .before .before .settings-bytes .ensures) (c .before .before .before .before .before .fits-all .ensures) (c .before .before .before .before .effect-fits .ensures) (c .before .before .before .if1 .taken) in
-    (w .sound, w .small .flag)
+    let z = c .before .before .before .before .before .before .before in let y = c .before .before .before in
+    let w = tested (z .before .before .before .before .before .args .d) (z .before .before .before .before .before .args .additional .now)
+    (z .before .in-table .ensures) (z .before .before .plain-scope .ensures) (z .settings-bytes .ensures) (y .before .before .fits-all .ensures)
+    (y .before .effect-fits .ensures) (y .if1 .taken) in (w .sound, w .small .flag)
 
 add-result-3 : tie.Need-add-result-3
 add-result-3 c =
-    let w = tested (c .before .before .before .before .before .before .before .before .before .before .before .before .before .args .d) (c .before .before .before .before .before .before .before .before .before .before .before .before .before .args .additional .now) (c .before .before .before .before .before .before .before .before .before .in-table .ensures) (c .before .before .before .before .before .before .before .before .before .before .plain-scope .ensures) (c .before .before .before .before .before .before .before .before .settings-bytes .ensures) (c .before .before .before .before .before .before .fits-all .ensures) (c .before .before .before .before .before .effect-fits .ensures) (c .before .before .before .before .if1 .taken) in
-    omega (arith, w .short, w .small .few, c .effect-long .ensures .1)
+    let z = c .before .before .before .before .before .before .before .before in let y = c .before .before .before .before in
+    let w = tested (z .before .before .before .before .before .args .d) (z .before .before .before .before .before .args .additional .now)
+    (z .before .in-table .ensures) (z .before .before .plain-scope .ensures) (z .settings-bytes .ensures) (y .before .before .fits-all .ensures)
+    (y .before .effect-fits .ensures) (y .if1 .taken) in omega (arith, w .short, w .small .few, c .effect-long .ensures .1)
 
 returns : tie.Need-returns
-returns c =
-    row-plain (c .before .before .before .before .before .before .before .before .before .before .before .before .before .args .d) (c .before .before .before .before .before .before .before .before .before .before .before .before .before .args .additional .now) (c .before .before .before .before .before .before .before .before .before .in-table .ensures) (c .before .before .before .before .before .before .before .before .before .before .plain-scope .ensures) (c .before .before .before .before .before .before .before .before .settings-bytes .ensures) (c .before .before .before .before .before .before .fits-all .ensures) (c .before .before .before .before .before .effect-fits .ensures) (c .before .before .before .before .if1 .taken) (c .before .before .plain-pairs .ensures) (c .before .if2 .taken) (c .effect-long .ensures)
+returns c = search row-plain
 
 returns-2 : tie.Need-returns-2
-returns-2 c =
-    row-odd-kid (c .before .before .before .before .before .before .before .before .before .before .before .before .args .d) (c .before .before .before .before .before .before .before .before .before .before .before .before .args .additional .now) (c .before .before .before .before .before .before .before .before .in-table .ensures) (c .before .before .before .before .before .before .before .before .before .plain-scope .ensures) (c .before .before .before .before .before .before .before .settings-bytes .ensures) (c .before .before .before .before .before .fits-all .ensures) (c .before .before .before .before .effect-fits .ensures) (c .before .before .before .if1 .taken) (c .before .plain-pairs .ensures) (c .if2 .left)
+returns-2 c = search row-odd-kid
 
 returns-3 : tie.Need-returns-3
-returns-3 c =
-    row-odd (c .before .before .before .before .before .before .before .before .before .args .d) (c .before .before .before .before .before .before .before .before .before .args .additional .now) (c .before .before .before .before .before .in-table .ensures) (c .before .before .before .before .before .before .plain-scope .ensures) (c .before .before .before .before .settings-bytes .ensures) (c .before .before .fits-all .ensures) (c .before .effect-fits .ensures) (c .if1 .left)
+returns-3 c = search row-odd
 
 pub plain-bytes-spec : {M : Type 1} → statement M
 plain-bytes-spec =

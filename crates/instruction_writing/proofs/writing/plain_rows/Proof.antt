@@ -28,14 +28,13 @@ row-bytes-requires c κs =
     omega arith
 
 returns : tie.Need-returns Inv-loop μ-loop
-returns c =
-    going-odd (c .before .before .before .loop .inv) (row-quick (c .before .before .before .before .before .before .args .instructions .now) (c .before .before .before .before .before .before .args .additional .now) (c .before .before .before .loop .i) refl (c .before .row-bytes .ensures)) (c .if1 .taken)
+returns c = search (going-odd, row-quick)
 
 add-bytes : tie.Need-add-bytes Inv-loop μ-loop
 add-bytes c =
-    let q = row-quick (c .before .before .before .before .before .before .args .instructions .now) (c .before .before .before .before .before .before .args .additional .now) (c .before .before .before .loop .i) refl (c .before .row-bytes .ensures) in
-    let l = c .if1 .left in
-    omega (arith, going-turn (c .before .before .before .loop .inv) q (c .before .before .loop-test .taken) (omega (arith, l)) .few, c .before .before .loop-test .taken, c .before .before .before .before .before .before .pre .1)
+    let z = c .before .before in let q = row-quick (z .before .before .before .before .args .instructions .now)
+    (z .before .before .before .before .args .additional .now) (z .before .loop .i) refl (c .before .row-bytes .ensures) in let l = c .if1 .left in
+    omega (arith, going-turn (z .before .loop .inv) q (z .loop-test .taken) (omega (arith, l)) .few, z .loop-test .taken, z .before .before .before .before .pre .1)
 
 add-i : tie.Need-add-i Inv-loop μ-loop
 add-i c =
@@ -47,7 +46,9 @@ loop-less c =
 
 loop-again : tie.Need-loop-again Inv-loop μ-loop
 loop-again c =
-    going-turn (c .before .before .before .loop .inv) (row-quick (c .before .before .before .before .before .before .args .instructions .now) (c .before .before .before .before .before .before .args .additional .now) (c .before .before .before .loop .i) refl (c .before .row-bytes .ensures)) (c .before .before .loop-test .taken) (let l = c .if1 .left in omega (arith, l))
+    let z = c .before .before .before in going-turn (z .loop .inv) (row-quick (z .before .before .before .args .instructions .now)
+    (z .before .before .before .args .additional .now) (z .loop .i) refl (c .before .row-bytes .ensures)) (c .before .before .loop-test .taken)
+    (let l = c .if1 .left in omega (arith, l))
 
 returns-2 : tie.Need-returns-2 Inv-loop μ-loop
 returns-2 c =

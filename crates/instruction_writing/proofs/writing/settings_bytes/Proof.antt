@@ -33,7 +33,10 @@ spelt-requires c κs = search needs
 returns : tie.Need-returns
 unfolding total widths
 returns c =
-    more (c .before .before .before .two .ensures) (more (c .before .before .two2 .ensures) (more (c .spelt .ensures .of _ (omega arith) (c .before .field4 .ensures .of _ (omega arith) (c .before .before .before .before .field3 .ensures .of _ (omega arith) (c .before .before .before .before .before .field2 .ensures .of _ (omega arith) (c .before .before .before .before .before .before .field .ensures .of _ (omega arith) (c .before .before .before .before .before .before .before .none .ensures)))))) none))
+    let z = c .before .before .before in more (z .two .ensures) (more (c .before .before .two2 .ensures)
+    (more (c .spelt .ensures .of _ (omega arith) (c .before .field4 .ensures .of _ (omega arith) (z .before .field3 .ensures .of _ (omega arith)
+    (z .before .before .field2 .ensures .of _ (omega arith) (z .before .before .before .field .ensures .of _ (omega arith)
+    (z .before .before .before .before .none .ensures)))))) none))
 
 pub settings-bytes-spec : {M : Type 1} → statement M
 settings-bytes-spec =

@@ -28,7 +28,8 @@ target-at-requires c κs = search needs
 
 target-size-requires : tie.Need-target-size-requires
 target-size-requires c κs =
-    loud-there (c .before .before .before .before .args .loud) (getD (c .before .before .before .before .args .body .now) (c .before .before .before .before .args .at + 2 + c .before .before .before .before .args .limiter) 0) (c .before .before .before .before .args .at + 2 + c .before .before .before .before .args .limiter) (length (c .before .before .before .before .args .body .now)) (c .before .before .before .before .pre .2) (omega (arith, c .before .before .before .before .pre .0))
+    let z = c .before .before .before .before in loud-there (z .args .loud) (getD (z .args .body .now) (z .args .at + 2 + z .args .limiter) 0)
+    (z .args .at + 2 + z .args .limiter) (length (z .args .body .now)) (z .pre .2) (omega (arith, z .pre .0))
 
 add-t11 : tie.Need-add-t11
 add-t11 c = search needs

@@ -21,15 +21,14 @@ mul-fill-pairs c = search needs
 
 fill-pairs-requires : tie.Need-fill-pairs-requires
 fill-pairs-requires c κs =
-    let (a, b) = ids-there _ _ _ (c .before .before .instruction-at .result .instruction) (c .before .before .before .before .before .pre .begun) (c .before .before .instruction-at .ensures .0) (c .before .before .instruction-at .ensures .1) (ap isDone (c .before .before .before .before .before .pre .reads)) in
-    (a, b, ids-room _ _ _ (c .before .before .instruction-at .result .instruction) (c .before .before .before .before .before .pre .begun) (c .before .before .instruction-at .ensures .0) (c .before .before .instruction-at .ensures .1) (c .before .before .before .before .before .pre))
+    let z = c .before .before in let (a, b) = ids-there _ _ _ (z .instruction-at .result .instruction) (z .before .before .before .pre .begun)
+    (z .instruction-at .ensures .0) (z .instruction-at .ensures .1) (ap isDone (z .before .before .before .pre .reads)) in (a, b, search ids-room)
 
 same-length : tie.Need-same-length
 same-length c = search needs
 
 returns : tie.Need-returns
-returns c =
-    instruction-filled _ _ _ (c .before .before .before .before .before .instruction-at .result .instruction) (c .before .before .before .before .before .before .before .before .pre .begun) (c .before .before .before .before .before .instruction-at .ensures .0) (c .before .before .before .before .before .instruction-at .ensures .1) (c .before .before .fill-pairs .ensures)
+returns c = search instruction-filled
 
 pub fill-instruction-spec : {M : Type 1} → statement M
 fill-instruction-spec =

@@ -62,12 +62,13 @@ part-requires-2 c κs = search needs
 
 bare-effect-at-requires : tie.Need-bare-effect-at-requires
 bare-effect-at-requires c κs =
-    omega (arith, effect-there _ _ (c .before .before .before .before .before .before .before .before .before .before .pre .0) (c .before .before .before .before .before .before .before .before .before .before .pre .1) (begins-so (c .before .before .before .before)) (c .before .before .wide2 .ensures) refl refl refl .0)
+    let z = c .before .before .before .before .before .before .before .before .before .before in
+    omega (arith, effect-there _ _ (z .pre .0) (z .pre .1) (begins-so (c .before .before .before .before)) (c .before .before .wide2 .ensures) refl refl refl .0)
 
 instruction-with-requires : tie.Need-instruction-with-requires
 instruction-with-requires c κs =
-    let (e, n) = bare-so (c .before .before .before .wide2 .result) (c .before .before .part2 .ensures) (c .before .if1 .taken) _ _ (c .bare-effect-at .ensures) in
-    (c .before .before .before .before .before .before .before .before .before .before .before .pre .0, c .before .before .before .before .before .before .before .before .before .before .before .pre .1, begins-so (c .before .before .before .before .before), c .before .before .before .wide2 .ensures, e, n)
+    let (e, n) = bare-so (c .before .before .before .wide2 .result) (c .before .before .part2 .ensures) (c .before .if1 .taken) _ _
+    (c .bare-effect-at .ensures) in (search needs, search needs, search begins-so, c .before .before .before .wide2 .ensures, e, n)
 
 returns : tie.Need-returns
 returns c =
@@ -90,11 +91,14 @@ part-requires-5 c κs = search needs
 
 effect-at-requires : tie.Need-effect-at-requires
 effect-at-requires c κs =
-    effect-there _ _ (c .before .before .before .before .before .before .before .before .before .before .before .before .before .pre .0) (c .before .before .before .before .before .before .before .before .before .before .before .before .before .pre .1) (begins-so (c .before .before .before .before .before .before .before)) (c .before .before .before .before .before .wide2 .ensures) (c .before .before .part3 .ensures) (c .before .part4 .ensures) (c .part5 .ensures)
+    let z = c .before .before .before .before .before in effect-there _ _ (z .before .before .before .before .before .before .before .before .pre .0)
+    (z .before .before .before .before .before .before .before .before .pre .1) (begins-so (z .before .before)) (z .wide2 .ensures)
+    (c .before .before .part3 .ensures) (c .before .part4 .ensures) (c .part5 .ensures)
 
 instruction-with-requires-2 : tie.Need-instruction-with-requires-2
 instruction-with-requires-2 c κs =
-    (c .before .before .before .before .before .before .before .before .before .before .before .before .before .before .pre .0, c .before .before .before .before .before .before .before .before .before .before .before .before .before .before .pre .1, begins-so (c .before .before .before .before .before .before .before .before), c .before .before .before .before .before .before .wide2 .ensures, rw (c .before .before .before .part3 .ensures, c .before .before .part4 .ensures, c .before .part5 .ensures) at (c .effect-at .ensures .0), rw (c .before .before .before .part3 .ensures, c .before .before .part4 .ensures, c .before .part5 .ensures) at (c .effect-at .ensures .1))
+    let z = c .before .before .before .before .before .before in let y = c .before .before in
+    (z .before .before .before .before .before .before .before .before .pre .0, z .before .before .before .before .before .before .before .before .pre .1, begins-so (z .before .before), z .wide2 .ensures, rw (y .before .part3 .ensures, y .part4 .ensures, c .before .part5 .ensures) at (c .effect-at .ensures .0), rw (y .before .part3 .ensures, y .part4 .ensures, c .before .part5 .ensures) at (c .effect-at .ensures .1))
 
 returns-2 : tie.Need-returns-2
 returns-2 c =

@@ -25,8 +25,7 @@ short-requires : tie.Need-short-requires
 short-requires c κs = search needs
 
 returns : tie.Need-returns
-returns c =
-    settings-lack _ _ (c .before .before .before .before .before .pre) (c .before .before .before .settings-end .ensures) (ap endsOut (c .before .enum-told .given .1)) (c .short .ensures)
+returns c = search (settings-lack, ap endsOut (c .before .enum-told .given .1))
 
 sub-wide : tie.Need-sub-wide
 sub-wide c =
@@ -59,7 +58,8 @@ add-head-2 c = search needs
 
 head-requires : tie.Need-head-requires
 head-requires c κs =
-    (after-1 (c .before .before .before .before) .inside, omega (arith, c .before .part .ensures, c .part2 .ensures, part-below 2 3 (c .before .before .wide .result), part-below 1 1 (c .before .before .wide .result)))
+    let z = c .before .before in
+    (search (after-1 (z .before .before) .inside), search (needs, part-below 2 3 (z .wide .result), part-below 1 1 (z .wide .result)))
 
 enum-known-b : tie.Need-enum-known-b
 enum-known-b c = search needs
@@ -71,15 +71,15 @@ short-requires-2 : tie.Need-short-requires-2
 short-requires-2 c κs = search needs
 
 returns-2 : tie.Need-returns-2
-returns-2 c =
-    singles-lack (after-1 (c .before .before .before .before .before .before .before .before)) (c .before .before .before .before .before .before .wide .ensures) (c .before .before .before .before .before .part .ensures) (c .before .before .before .before .part2 .ensures) (c .before .before .before .head .ensures) (ap endsOut (c .before .enum-told2 .given .1)) (c .short2 .ensures)
+returns-2 c = search (singles-lack, after-1, ap endsOut (c .before .enum-told2 .given .1))
 
 part-requires-3 : tie.Need-part-requires-3
 part-requires-3 c κs = search needs
 
 target-end-requires : tie.Need-target-end-requires
 target-end-requires c κs =
-    loud-begun (after-1 (c .before .before .before .before .before .before .before .before .before)) (c .before .before .before .before .before .before .before .wide .ensures) (c .before .before .before .before .before .before .part .ensures) (c .before .before .before .before .before .part2 .ensures) (c .before .before .before .before .head .ensures) (ap endsOut (c .before .before .b .given .1)) (c .part3 .ensures)
+    let z = c .before .before .before .before in loud-begun (after-1 (z .before .before .before .before .before)) (z .before .before .before .wide .ensures)
+    (z .before .before .part .ensures) (z .before .part2 .ensures) (z .head .ensures) (ap endsOut (c .before .before .b .given .1)) (c .part3 .ensures)
 
 enum-known-e : tie.Need-enum-known-e
 enum-known-e c = search needs
@@ -92,11 +92,11 @@ short-requires-3 c κs = search needs
 
 returns-3 : tie.Need-returns-3
 returns-3 c =
-    loud-lack (after-1 (c .before .before .before .before .before .before .before .before .before .before .before .before .before)) (c .before .before .before .before .before .before .before .before .before .before .before .wide .ensures) (c .before .before .before .before .before .before .before .before .before .before .part .ensures) (c .before .before .before .before .before .before .before .before .before .part2 .ensures) (c .before .before .before .before .before .before .before .before .head .ensures) (ap endsOut (c .before .before .before .before .before .before .b .given .1)) (c .before .before .before .before .part3 .ensures) (c .before .before .before .target-end .ensures) (ap endsOut (c .before .enum-told3 .given .1)) (c .short3 .ensures)
+    search (loud-lack, after-1, ap endsOut (c .before .before .before .before .before .before .b .given .1), ap endsOut (c .before .enum-told3 .given .1))
 
 returns-4 : tie.Need-returns-4
 returns-4 c =
-    loud-got (after-1 (c .before .before .before .before .before .before .before .before .before .before .before .before .before)) (c .before .before .before .before .before .before .before .before .before .before .before .wide .ensures) (c .before .before .before .before .before .before .before .before .before .before .part .ensures) (c .before .before .before .before .before .before .before .before .before .part2 .ensures) (c .before .before .before .before .before .before .before .before .head .ensures) (ap endsOut (c .before .before .before .before .before .before .b .given .1)) (c .before .before .before .before .part3 .ensures) (c .before .before .before .target-end .ensures) (ap endsOut (c .before .e .given .1))
+    search (loud-got, after-1, ap endsOut (c .before .before .before .before .before .before .b .given .1), ap endsOut (c .before .e .given .1))
 
 pub instruction-rows-spec : {M : Type 1} → statement M
 instruction-rows-spec =

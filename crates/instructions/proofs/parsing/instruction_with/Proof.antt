@@ -65,7 +65,9 @@ part-requires-6 c κs = search needs
 
 returns : tie.Need-returns
 returns c =
-    (rw (c .before .before .before .before .part2 .ensures, c .before .before .before .part3 .ensures, c .before .before .part4 .ensures, c .before .part5 .ensures, c .part6 .ensures, c .before .before .before .before .before .before .before .before .before .part .ensures) (instruction-taken _ _ (c .before .before .before .before .before .before .before .before .before .before .before .before .before .before .before .pre .0) (c .before .before .before .before .before .before .before .before .before .before .before .before .before .before .before .pre .1) (c .before .before .before .before .before .before .before .before .before .before .before .before .before .before .before .pre .2) (c .before .before .before .before .before .before .before .before .before .before .before .before .before .before .before .pre .3) refl refl refl _ (c .before .before .before .before .before .before .before .scope-at .ensures) (c .before .before .before .before .before .before .before .before .before .before .before .before .wide .ensures) (c .before .before .before .before .before .before .before .before .before .before .wide2 .ensures) (c .before .before .before .before .before .before .before .before .before .before .before .before .before .before .before .pre .4) (c .before .before .before .before .before .before .before .before .before .before .before .before .before .before .before .pre .5)), refl)
+    let z = c .before .before .before .before .before .before .before .before .before .before .before .before .before .before .before in
+    let y = c .before .before .before .before .before .before .before in
+    (rw (c .before .before .before .before .part2 .ensures, c .before .before .before .part3 .ensures, c .before .before .part4 .ensures, c .before .part5 .ensures, c .part6 .ensures, y .before .before .part .ensures) (instruction-taken _ _ (z .pre .0) (z .pre .1) (z .pre .2) (z .pre .3) refl refl refl _ (y .scope-at .ensures) (y .before .before .before .before .before .wide .ensures) (y .before .before .before .wide2 .ensures) (z .pre .4) (z .pre .5)), refl)
 
 pub instruction-with-spec : {M : Type 1} → statement M
 instruction-with-spec =

@@ -24,7 +24,7 @@ absent-requires c κs = search needs
 
 returns : tie.Need-returns
 returns c =
-    rw (c .new .ensures, c .before .part .ensures, c .before .before .wide .ensures) (limiter-there _ _ (c .before .before .before .before .if1 .taken))
+    rw (c .new .ensures, c .before .part .ensures, c .before .before .wide .ensures) (search limiter-there)
 
 returns-2 : tie.Need-returns-2
 unfolding blanks

@@ -1,5 +1,4 @@
 -- `parsing::measure_instructions` meets its contract: the additional IDs so far, and those of the instructions that are left.
-use native.Mathlib.Omega.{arith}
 use lib.ListN.{length}
 use Rattle.wire.proofs.reading.Loops.{Summing, sum-start, sum-turn, sum-cut, sum-end, sum-small, summed-as}
 use Rattle.wire.proofs.layouts.Families.{kids-summed}
@@ -31,12 +30,11 @@ enum-told c =
     search needs
 
 returns : tie.Need-returns Inv-loop μ-loop
-returns c =
-    summed-as kids-summed (sum-cut instructions (λ x. length (x .1)) 7 _ _ _ (c .before .before .before .before .loop .inv) (c .before .before .before .loop-test .taken) (c .before .before .instruction-rows .ensures) (c .enum-told .given .1))
+returns c = search (summed-as, kids-summed, sum-cut)
 
 add-rows : tie.Need-add-rows Inv-loop μ-loop
 add-rows c =
-    omega (arith, sum-small (c .before .before .before .instruction-rows .ensures) (c .before .a .given .1), c .before .before .before .before .before .loop .inv .small, c .before .before .before .before .before .before .before .pre .1)
+    search (needs, sum-small (c .before .before .before .instruction-rows .ensures) (c .before .a .given .1))
 
 sub-left : tie.Need-sub-left Inv-loop μ-loop
 sub-left c =
@@ -47,8 +45,7 @@ loop-less c =
     search needs
 
 loop-again : tie.Need-loop-again Inv-loop μ-loop
-loop-again c =
-    sum-turn instructions (λ x. length (x .1)) 7 _ _ _ (c .before .before .before .before .before .loop .inv) (c .before .before .before .before .loop-test .taken) (c .before .before .before .instruction-rows .ensures) (c .before .a .given .1)
+loop-again c = search sum-turn
 
 returns-2 : tie.Need-returns-2 Inv-loop μ-loop
 returns-2 c =

@@ -28,7 +28,8 @@ enum-told c = search needs
 
 returns : tie.Need-returns
 returns c =
-    one-cut _ _ _ (c .before .before .head .ensures) (ap endsOut (c .enum-told .given .1)) ∙ ap (λ (l : List ℕ). ends l (c .before .before .before .before .args .body .now) (c .before .before .before .before .args .at)) (sym (settings-spans (c .before .before .before .before .args .body .now) (c .before .before .before .before .args .at)))
+    let z = c .before .before .before .before in one-cut _ _ _ (c .before .before .head .ensures) (ap endsOut (c .enum-told .given .1)) ∙ ap
+    (λ (l : List ℕ). ends l (z .args .body .now) (z .args .at)) (sym (settings-spans (z .args .body .now) (z .args .at)))
 
 slice-aggregate-id-bytes : tie.Need-slice-aggregate-id-bytes
 slice-aggregate-id-bytes c = search needs
@@ -55,7 +56,10 @@ head-requires-2 c κs =
 
 returns-2 : tie.Need-returns-2
 returns-2 c =
-    one-more (after-1 (c .before .before .before .before .before .before)) (ap (λ (k : ℕ). k + 3) (c .before .id-bytes .ensures .0 ∙ ap (idBytes types) (c .before .before .part .ensures ∙ ap (part 0 2) (c .before .before .before .wide .ensures)))) (c .head2 .ensures) ∙ ap (λ (l : List ℕ). ends l (c .before .before .before .before .before .before .before .before .before .before .before .args .body .now) (c .before .before .before .before .before .before .before .before .before .before .before .args .at)) (sym (settings-spans (c .before .before .before .before .before .before .before .before .before .before .before .args .body .now) (c .before .before .before .before .before .before .before .before .before .before .before .args .at)))
+    let z = c .before .before .before .before .before .before .before .before .before .before .before in
+    one-more (after-1 (c .before .before .before .before .before .before)) (ap (λ (k : ℕ). k + 3) (c .before .id-bytes .ensures .0 ∙ ap (idBytes types)
+    (c .before .before .part .ensures ∙ ap (part 0 2) (c .before .before .before .wide .ensures)))) (c .head2 .ensures) ∙ ap
+    (λ (l : List ℕ). ends l (z .args .body .now) (z .args .at)) (sym (settings-spans (z .args .body .now) (z .args .at)))
 
 pub settings-end-spec : {M : Type 1} → statement M
 settings-end-spec =

@@ -1,6 +1,5 @@
 -- `parsing::word_at` meets its contract.
 use Prim.Native.Nat.{_+_}
-use native.Mathlib.Omega.{arith}
 use borrow.Author.Needs.{needs}
 use Rattle.instructions.proofs.parsing.word_at.Statement.{statement}
 use Rattle.instructions.proofs.parsing.word_at.Tie as tie
@@ -22,11 +21,13 @@ wide-requires-2 c κs = search needs
 
 mul-result : tie.Need-mul-result
 mul-result c =
-    omega (arith, c .before .before .wide .ensures, c .wide2 .ensures, c .before .before .before .shared-slice-known2 .given (c .before .before .before .before .before .args .at), c .before .before .before .shared-slice-known2 .given (c .before .before .before .before .before .args .at + 1))
+    let z = c .before .before .before in
+    search (needs, z .shared-slice-known2 .given (z .before .before .args .at), z .shared-slice-known2 .given (z .before .before .args .at + 1))
 
 add-result : tie.Need-add-result
 add-result c =
-    omega (arith, c .before .before .wide .ensures, c .wide2 .ensures, c .before .before .before .shared-slice-known2 .given (c .before .before .before .before .before .args .at), c .before .before .before .shared-slice-known2 .given (c .before .before .before .before .before .args .at + 1))
+    let z = c .before .before .before in
+    search (needs, z .shared-slice-known2 .given (z .before .before .args .at), z .shared-slice-known2 .given (z .before .before .args .at + 1))
 
 returns : tie.Need-returns
 returns c = search needs

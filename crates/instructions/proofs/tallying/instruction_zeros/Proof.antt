@@ -15,8 +15,9 @@ cast-count c = search needs
 
 pairs-zeros-requires : tie.Need-pairs-zeros-requires
 pairs-zeros-requires c κs =
-    let (a, b) = ids-there _ _ 0 (c .before .instruction-at .result .instruction) (c .before .before .before .pre .0) (c .before .instruction-at .ensures .0) (c .before .instruction-at .ensures .1) (c .before .before .before .pre .1) in
-    let n = ids-few _ _ 0 (c .before .instruction-at .result .instruction) (c .before .before .before .pre .0) (c .before .instruction-at .ensures .0) (c .before .instruction-at .ensures .1) in
+    let z = c .before .before .before in let (a, b) = ids-there _ _ 0 (c .before .instruction-at .result .instruction) (z .pre .0)
+    (c .before .instruction-at .ensures .0) (c .before .instruction-at .ensures .1) (z .pre .1) in let n = ids-few _ _ 0
+    (c .before .instruction-at .result .instruction) (z .pre .0) (c .before .instruction-at .ensures .0) (c .before .instruction-at .ensures .1) in
     (a, b, omega (arith, n))
 
 own-zeros-requires : tie.Need-own-zeros-requires
@@ -27,8 +28,9 @@ add-t8 c = search needs
 
 returns : tie.Need-returns
 returns c =
-    let n = ids-few _ _ 0 (c .before .before .before .before .instruction-at .result .instruction) (c .before .before .before .before .before .before .pre .0) (c .before .before .before .before .instruction-at .ensures .0) (c .before .before .before .before .instruction-at .ensures .1) in
-    (instruction-tallied _ _ (c .before .before .before .before .instruction-at .result .instruction) (c .before .before .before .before .before .before .pre .0) (c .before .before .before .before .instruction-at .ensures .0) (c .before .before .before .before .instruction-at .ensures .1) (c .own-zeros .ensures .0) (c .before .before .pairs-zeros .ensures .0) refl, omega (arith, n, c .own-zeros .ensures .1, c .before .before .pairs-zeros .ensures .1))
+    let z = c .before .before .before .before in let n = ids-few _ _ 0 (z .instruction-at .result .instruction) (z .before .before .pre .0)
+    (z .instruction-at .ensures .0) (z .instruction-at .ensures .1) in
+    (instruction-tallied _ _ (z .instruction-at .result .instruction) (z .before .before .pre .0) (z .instruction-at .ensures .0) (z .instruction-at .ensures .1) (c .own-zeros .ensures .0) (c .before .before .pairs-zeros .ensures .0) refl, omega (arith, n, c .own-zeros .ensures .1, c .before .before .pairs-zeros .ensures .1))
 
 pub instruction-zeros-spec : {M : Type 1} → statement M
 instruction-zeros-spec =

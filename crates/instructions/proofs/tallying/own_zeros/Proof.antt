@@ -1,7 +1,6 @@
 -- `tallying::own_zeros` meets its contract.
 use Prim.Native.Nat.{_+_}
 use mathlib.Core.Path.{sym, _∙_}
-use native.Mathlib.Omega.{arith}
 use Rattle.instructions.proofs.Tallied.{own-tally}
 use borrow.Author.Needs.{needs}
 use Rattle.instructions.proofs.tallying.own_zeros.Statement.{statement}
@@ -36,7 +35,8 @@ add-result-2 c = search needs
 
 returns : tie.Need-returns
 returns c =
-    ((λ i. c .before .before .before .before .before .scope-zeros .ensures .0 i + c .before .before .before .before .idle-bits .ensures i + (c .before .before .before .idle-bits2 .ensures i + c .before .before .idle-bits3 .ensures i + c .target-zeros .ensures .0 i)) ∙ sym (own-tally (c .before .before .before .before .before .before .args .d)), omega (arith, c .before .before .before .before .before .scope-zeros .ensures .1, c .target-zeros .ensures .1))
+    let z = c .before .before .before in
+    ((λ i. z .before .before .scope-zeros .ensures .0 i + z .before .idle-bits .ensures i + (z .idle-bits2 .ensures i + c .before .before .idle-bits3 .ensures i + c .target-zeros .ensures .0 i)) ∙ sym (own-tally (z .before .before .before .args .d)), search needs)
 
 pub own-zeros-spec : {M : Type 1} → statement M
 own-zeros-spec =

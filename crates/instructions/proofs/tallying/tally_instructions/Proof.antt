@@ -1,6 +1,5 @@
 -- `tallying::tally_instructions` meets its contract: what is summed up, and what is left, come to the whole.
 use mathlib.Core.Path.{sym}
-use native.Mathlib.Omega.{arith}
 use Rattle.wire.specs.Layout.{familyTally}
 use Rattle.wire.specs.Prog.{run}
 use Rattle.wire.proofs.reading.Walk.{as-done}
@@ -26,8 +25,7 @@ instruction-zeros-requires c κs =
     (c .before .loop .inv .inside, first-done instructions _ _ _ (c .loop-test .taken) (c .before .loop .inv .sound))
 
 add-zeros : tie.Need-add-zeros Inv-loop μ-loop
-add-zeros c =
-    omega (arith, c .before .instruction-zeros .ensures .1, c .before .before .before .loop .inv .small, c .before .before .loop-test .taken, c .before .before .before .before .before .pre .2)
+add-zeros c = search needs
 
 sub-left : tie.Need-sub-left Inv-loop μ-loop
 sub-left c =
@@ -40,7 +38,7 @@ loop-less c =
 loop-again : tie.Need-loop-again Inv-loop μ-loop
 loop-again c =
     let (x, e, q) = as-done (familyTally instruction additional) (run instructions _ _) (sym (c .before .instruction-zeros .ensures .0)) in
-    adding-turn instructions _ 26 _ _ _ (c .before .before .before .loop .inv) (c .before .before .loop-test .taken) (sym e) (sym q) (c .before .instruction-zeros .ensures .1)
+    search (adding-turn, sym e, sym q)
 
 returns : tie.Need-returns Inv-loop μ-loop
 returns c =

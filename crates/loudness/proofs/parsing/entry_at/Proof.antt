@@ -67,7 +67,7 @@ add-begins c =
 
 payload-at-requires : tie.Need-payload-at-requires
 payload-at-requires c κs =
-    let w = there (c .before .before .before .before .before .before .before .before .before .before .before) in omega (arith, w, ids (c .before .before), c .before .before .before .before .before .before .before .before .before .before .before .pre .1)
+    let w = there (c .before .before .before .before .before .before .before .before .before .before .before) in search (needs, w, ids (c .before .before))
 
 cast-t12 : tie.Need-cast-t12
 cast-t12 c = search needs
@@ -76,8 +76,7 @@ add-t13 : tie.Need-add-t13
 add-t13 c = search needs
 
 returns : tie.Need-returns
-returns c =
-    entry-taken _ _ (c .before .before .before .before .before .before .before .before .before .before .before .before .pre .0) (c .before .before .before .before .before .before .before .before .before .before .before .before .pre .2) (c .before .before .before .before .before .before .before .before .scope-at .result) (c .before .before .before .before .before .before .before .before .before .before .id-types .ensures) (c .before .before .before .before .before .before .before .before .scope-at .ensures) (ids (c .before .before .before)) (c .before .wide2 .ensures) (c .payload-at .ensures)
+returns c = search (entry-taken, ids)
 
 pub entry-at-spec : {M : Type 1} → statement M
 entry-at-spec =

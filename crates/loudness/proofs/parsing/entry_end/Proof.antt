@@ -72,7 +72,7 @@ enum-told-2 c = search needs
 
 returns-2 : tie.Need-returns-2
 returns-2 c =
-    size-lacks _ _ (c .before .before .before .before .before .before .before .before .before .before .before .before .head .ensures) (ap endsOut (c .before .before .before .before .before .before .before .before .before .before .a .given .1)) (ids (c .before .before .before)) (c .before .before .head2 .ensures) (ap endsOut (c .enum-told2 .given .1))
+    search (size-lacks, ids, ap endsOut (c .before .before .before .before .before .before .before .before .before .before .a .given .1), ap endsOut (c .enum-told2 .given .1))
 
 add-wide : tie.Need-add-wide
 add-wide c =
@@ -89,12 +89,12 @@ cast-bytes-end : tie.Need-cast-bytes-end
 cast-bytes-end c = search needs
 
 bytes-end-requires : tie.Need-bytes-end-requires
-bytes-end-requires c κs =
-    (behind (c .before .before) .1, omega (arith, c .before .before .before .before .before .before .before .before .before .before .before .before .before .before .before .before .before .fits))
+bytes-end-requires c κs = (behind (c .before .before) .1, search needs)
 
 returns-3 : tie.Need-returns-3
 returns-3 c =
-    entry-ends _ _ (c .before .before .before .before .before .before .before .before .before .before .before .before .before .before .before .before .head .ensures) (ap endsOut (c .before .before .before .before .before .before .before .before .before .before .before .before .before .before .a .given .1)) (ids (c .before .before .before .before .before .before .before)) (c .before .before .before .before .before .before .head2 .ensures) (c .before .before .before .before .before .before .before .before .before .before .before .before .before .before .before .before .before .before .pre) (ap endsOut (c .before .before .before .before .b .given .1)) (c .before .wide2 .ensures) (c .bytes-end .ensures)
+    let z = c .before .before .before .before in
+    search (entry-ends, ids, ap endsOut (z .before .before .before .before .before .before .before .before .before .before .a .given .1), ap endsOut (z .b .given .1))
 
 pub entry-end-spec : {M : Type 1} → statement M
 entry-end-spec =

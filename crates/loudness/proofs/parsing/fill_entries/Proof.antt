@@ -21,8 +21,7 @@ loop-holds c =
     record { inside = c .before .before .pre .0; long = refl; place = refl; sound = c .before .before .pre .2; end = refl; stored = refl }
 
 entry-at-requires : tie.Need-entry-at-requires Inv-loop μ-loop
-entry-at-requires c κs =
-    (c .before .loop .inv .inside, c .before .before .before .before .pre .1, first-done L.entries _ _ _ (c .loop-test .taken) (c .before .loop .inv .sound))
+entry-at-requires c κs = search (needs, first-done)
 
 columns-requires : tie.Need-columns-requires Inv-loop μ-loop
 columns-requires c κs = search needs
@@ -44,8 +43,8 @@ loop-less c = search needs
 
 loop-again : tie.Need-loop-again Inv-loop μ-loop
 loop-again c =
-    let (x, e, q) = as-done (borneRow L.entry) (run L.entries _ _) (sym (c .before .before .before .before .before .before .entry-at .ensures)) in
-    fill-next L.entries (borneRow L.entry) 7 _ _ _ _ _ _ _ _ _ (c .before .before .before .before .before .before .before .before .loop .inv) (c .before .before .before .before .before .before .before .loop-test .taken) (sym e) refl (each-length _ 0 7) (c .before .before .before .before .before .columns .ensures ∙ sym q) (c .before .before .put-row .ensures)
+    let z = c .before .before .before .before .before in let (x, e, q) = as-done (borneRow L.entry) (run L.entries _ _)
+    (sym (z .before .entry-at .ensures)) in search (fill-next, each-length, sym e, z .columns .ensures ∙ sym q)
 
 same-length : tie.Need-same-length Inv-loop μ-loop
 same-length c = search needs

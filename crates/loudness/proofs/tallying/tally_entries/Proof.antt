@@ -1,6 +1,5 @@
 -- `tallying::tally_entries` meets its contract: what is summed up, and what is left, come to the whole.
 use mathlib.Core.Path.{sym, _∙_}
-use native.Mathlib.Omega.{arith}
 use Rattle.wire.specs.Prog.{run}
 use Rattle.wire.specs.Layout.{borneRow, borneTally}
 use Rattle.wire.proofs.reading.Walk.{as-done}
@@ -30,8 +29,7 @@ scope-zeros-requires : tie.Need-scope-zeros-requires Inv-loop μ-loop
 scope-zeros-requires c κs = search needs
 
 add-zeros : tie.Need-add-zeros Inv-loop μ-loop
-add-zeros c =
-    omega (arith, c .scope-zeros .ensures .1, c .before .before .before .before .loop .inv .small, c .before .before .before .loop-test .taken, c .before .before .before .before .before .before .pre .3)
+add-zeros c = search needs
 
 sub-left : tie.Need-sub-left Inv-loop μ-loop
 sub-left c = search needs
@@ -42,7 +40,7 @@ loop-less c = search needs
 loop-again : tie.Need-loop-again Inv-loop μ-loop
 loop-again c =
     let (x, e, q) = as-done (borneRow entry) (run entries _ _) (sym (c .before .before .entry-at .ensures)) in
-    adding-turn entries _ 9 _ _ _ (c .before .before .before .before .loop .inv) (c .before .before .before .loop-test .taken) (sym e) (c .scope-zeros .ensures .0 ∙ entry-tally (c .before .before .entry-at .result .row) x q) (c .scope-zeros .ensures .1)
+    search (adding-turn, sym e, c .scope-zeros .ensures .0 ∙ entry-tally (c .before .before .entry-at .result .row) x q)
 
 returns : tie.Need-returns Inv-loop μ-loop
 returns c =

@@ -1,7 +1,6 @@
 -- `writing::check_entry` meets its contract: the range, the scope, the length and the bytes.
 use mathlib.Core.Path.{_∙_}
 use mathlib.Core.List.{[], _∷_}
-use native.Mathlib.Omega.{arith}
 use Rattle.wire.specs.Bits.{field}
 use Rattle.wire.proofs.Fields.{fit-one}
 use Rattle.loudness.proofs.Written.{entry-checked}
@@ -28,19 +27,20 @@ fits-requires : tie.Need-fits-requires
 fits-requires c κs = search needs
 
 byte-requires : tie.Need-byte-requires
-byte-requires c κs =
-    omega (arith, c .before .check-scope .ensures .near, c .before .before .before .before .demand .ensures .near, c .before .before .before .before .before .before .before .before .pre)
+byte-requires c κs = search needs
 
 cast-run : tie.Need-cast-run
 cast-run c = search needs
 
 run-requires : tie.Need-run-requires
 run-requires c κs =
-    let w = c .before .byte .ensures .of (field 8 (c .before .before .before .before .before .before .before .before .before .before .args .e .«loudness_info» .length) ∷ []) (c .before .before .fits2 .ensures ∙ fit-one 8 (c .before .before .before .before .before .before .before .before .before .before .args .e .«loudness_info» .length)) .near in (search needs, omega (arith, w, c .before .before .before .check-scope .ensures .near, c .before .before .before .before .before .before .demand .ensures .near, c .before .before .before .before .before .before .before .before .before .before .pre))
+    let z = c .before .before .before .before .before .before .before .before .before .before in let w = c .before .byte .ensures .of
+    (field 8 (z .args .e .«loudness_info» .length) ∷ []) (c .before .before .fits2 .ensures ∙ fit-one 8 (z .args .e .«loudness_info» .length)) .near in
+    (search needs, search (needs, w))
 
 returns : tie.Need-returns
 returns c =
-    entry-checked (c .before .before .before .before .before .before .before .before .before .before .before .args .store .now) (c .before .before .before .before .before .before .before .before .before .before .before .args .e) (c .before .before .byte .result) (c .before .before .before .before .before .before .before .before .in-store .ensures) (c .before .before .before .before .before .before .before .demand .ensures) (rw (c .before .before .before .before .before .before .id-types .ensures) at (c .before .before .before .before .check-scope .ensures)) (c .before .before .before .fits2 .ensures) (c .before .before .byte .ensures) (c .run .ensures)
+    let z = c .before .before .before .before in search (entry-checked, rw (z .before .before .id-types .ensures) at (z .check-scope .ensures))
 
 pub check-entry-spec : {M : Type 1} → statement M
 check-entry-spec =

@@ -30,7 +30,9 @@ of-columns-requires c κs =
 
 fill-entry-requires : tie.Need-fill-entry-requires Inv-loop μ-loop
 fill-entry-requires c κs =
-    rw (row-acts (c .before .before .before .before .before .before .before .args .entries .now) (c .before .before .before .before .before .before .before .args .store .now) (c .before .before .before .loop .i) (c .before .of-columns .ensures)) (fill-row _ _ (c .before .before .before .loop .inv .1) (rows-turn _ _ _ (c .before .before .loop-test .taken)))
+    let z = c .before .before .before in rw (row-acts (z .before .before .before .before .args .entries .now)
+    (z .before .before .before .before .args .store .now) (z .loop .i) (c .before .of-columns .ensures))
+    (fill-row _ _ (z .loop .inv .1) (rows-turn _ _ _ (c .before .before .loop-test .taken)))
 
 add-i : tie.Need-add-i Inv-loop μ-loop
 add-i c = search needs
@@ -40,7 +42,9 @@ loop-less c = search needs
 
 loop-again : tie.Need-loop-again Inv-loop μ-loop
 loop-again c =
-    let w = rw (row-acts (c .before .before .before .before .before .before .before .before .before .before .args .entries .now) (c .before .before .before .before .before .before .before .before .before .before .args .store .now) (c .before .before .before .before .before .before .loop .i) (c .before .before .before .before .of-columns .ensures)) at (c .before .before .fill-entry .ensures) in (omega arith, fill-turn (c .before .before .before .before .before .before .loop .inv .1) (rows-turn _ _ _ (c .before .before .before .before .before .loop-test .taken)) (filled-long w) w)
+    let z = c .before .before .before .before in let y = z .before .before in let w = rw (row-acts (y .before .before .before .before .args .entries .now)
+    (y .before .before .before .before .args .store .now) (y .loop .i) (z .of-columns .ensures)) at (c .before .before .fill-entry .ensures) in
+    (omega arith, fill-turn (y .loop .inv .1) (rows-turn _ _ _ (z .before .loop-test .taken)) (filled-long w) w)
 
 same-length : tie.Need-same-length Inv-loop μ-loop
 same-length c =

@@ -11,7 +11,8 @@ fill-scope-requires c κs =
 
 put-requires : tie.Need-put-requires
 put-requires c κs =
-    length-ready (c .before .before .before .before .before .before .before .args .store .now) (c .before .before .before .before .before .before .before .args .e) (c .before .before .before .before .before .before .before .pre) (c .before .before .before .fill-scope .ensures)
+    let z = c .before .before .before .before .before .before .before in length-ready (z .args .store .now) (z .args .e) (z .pre)
+    (c .before .before .before .fill-scope .ensures)
 
 cast-copy : tie.Need-cast-copy
 cast-copy c = search needs
@@ -20,16 +21,13 @@ cast-copy-2 : tie.Need-cast-copy-2
 cast-copy-2 c = search needs
 
 copy-requires : tie.Need-copy-requires
-copy-requires c κs =
-    (info-inside (c .before .before .before .before .before .before .before .before .before .before .before .args .store .now) (c .before .before .before .before .before .before .before .before .before .before .before .args .e) (c .before .before .before .before .before .before .before .before .before .before .before .pre), info-room (c .before .before .before .before .before .before .before .before .before .before .before .args .store .now) (c .before .before .before .before .before .before .before .before .before .before .before .args .e) (c .before .before .before .before .before .before .before .before .before .before .before .pre) (c .before .before .before .before .before .before .before .fill-scope .ensures) (c .before .before .before .put .ensures))
+copy-requires c κs = search (needs, info-inside, info-room)
 
 same-length : tie.Need-same-length
-same-length c =
-    filled-long (entry-filled (c .before .before .before .before .before .before .before .before .before .before .before .before .before .before .args .store .now) (c .before .before .before .before .before .before .before .before .before .before .before .before .before .before .args .e) (c .before .before .before .before .before .before .before .before .before .before .before .before .before .before .pre) (c .before .before .before .before .before .before .before .before .before .before .fill-scope .ensures) (c .before .before .before .before .before .before .put .ensures) (c .before .before .copy .ensures))
+same-length c = search (needs, filled-long, entry-filled)
 
 returns : tie.Need-returns
-returns c =
-    entry-filled (c .before .before .before .before .before .before .before .before .before .before .before .before .before .before .args .store .now) (c .before .before .before .before .before .before .before .before .before .before .before .before .before .before .args .e) (c .before .before .before .before .before .before .before .before .before .before .before .before .before .before .pre) (c .before .before .before .before .before .before .before .before .before .before .fill-scope .ensures) (c .before .before .before .before .before .before .put .ensures) (c .before .before .copy .ensures)
+returns c = search entry-filled
 
 pub fill-entry-spec : {M : Type 1} → statement M
 fill-entry-spec =

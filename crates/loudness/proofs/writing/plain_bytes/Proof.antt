@@ -33,11 +33,11 @@ add-result-2 c =
 
 returns : tie.Need-returns
 returns c =
-    entry-plain (c .before .before .before .before .before .before .before .before .before .args .store .now) (c .before .before .before .before .before .before .before .before .before .args .e) (c .before .before .before .in-store .ensures) (rw (c .before .before .before .before .before .before .id-types .ensures) at (c .before .before .before .before .plain-scope .ensures)) (c .before .before .fits2 .ensures) (c .before .if1 .taken)
+    search (entry-plain, rw (c .before .before .before .before .before .before .id-types .ensures) at (c .before .before .before .before .plain-scope .ensures))
 
 returns-2 : tie.Need-returns-2
 returns-2 c =
-    entry-odd (c .before .before .before .before .before .before .before .before .args .store .now) (c .before .before .before .before .before .before .before .before .args .e) (c .before .before .in-store .ensures) (rw (c .before .before .before .before .before .id-types .ensures) at (c .before .before .before .plain-scope .ensures)) (c .before .fits2 .ensures) (c .if1 .left)
+    search (entry-odd, rw (c .before .before .before .before .before .id-types .ensures) at (c .before .before .before .plain-scope .ensures))
 
 pub plain-bytes-spec : {M : Type 1} → statement M
 plain-bytes-spec =

@@ -1,5 +1,4 @@
 -- `multi_stream::parsing::fill` meets its contract: the groups of the body that was measured.
-use native.Mathlib.Omega.{arith}
 use Rattle.multi_stream.proofs.Sighted.{fillable, filled-there, filled-none}
 use borrow.Author.Needs.{needs}
 use Rattle.multi_stream.proofs.parsing.fill.Statement.{statement}
@@ -10,14 +9,13 @@ cast-fill-groups c = search needs
 
 fill-groups-requires : tie.Need-fill-groups-requires
 fill-groups-requires c κs =
-    let f = fillable _ (c .before .before .before .before .pre .0) (c .before .if1 .taken) in (f .inside, f .sound, omega (arith, c .before .before .before .before .pre .1))
+    let f = fillable _ (c .before .before .before .before .pre .0) (c .before .if1 .taken) in (f .inside, f .sound, search needs)
 
 same-length : tie.Need-same-length
 same-length c = search needs
 
 returns : tie.Need-returns
-returns c =
-    filled-there _ (c .before .before .before .before .before .before .before .pre .0) (c .before .before .before .before .if1 .taken) _ _ (c .before .before .before .before .before .before .before .pre .1) (c .before .before .fill-groups .ensures)
+returns c = search filled-there
 
 returns-2 : tie.Need-returns-2
 returns-2 c =

@@ -50,7 +50,8 @@ absent-requires c κs = search needs
 
 returns : tie.Need-returns
 returns c =
-    let t = c .before .before .before .before .before .before .before .before .before .if1 .taken in let o = c .of .ensures in (ap (λ (m : MainStream). m .present) o ∙ sym t, rw (t, o, c .before .before .before .before .part .ensures, c .before .before .before .part2 .ensures, c .before .before .part3 .ensures, c .before .part4 .ensures) (main-placed _ (rw t at (c .before .before .before .before .before .before .before .before .before .before .before .pre)) (c .before .before .before .before .before .before .before .wide .ensures) (c .before .before .before .before .before .wide2 .ensures)))
+    let z = c .before .before .before in let y = z .before .before .before .before .before .before in let t = y .if1 .taken in let o = c .of .ensures in
+    (ap (λ (m : MainStream). m .present) o ∙ sym t, rw (t, o, z .before .part .ensures, z .part2 .ensures, c .before .before .part3 .ensures, c .before .part4 .ensures) (search (main-placed, rw t at (y .before .before .pre))))
 
 returns-2 : tie.Need-returns-2
 returns-2 c =

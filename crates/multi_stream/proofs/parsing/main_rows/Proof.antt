@@ -27,14 +27,17 @@ short-requires c κs = search needs
 
 returns : tie.Need-returns
 returns c =
-    rw (c .before .before .before .before .if1 .taken) (summed-short (sym (main-cut _ _ (c .before .before .before .head .ensures) (ap endsOut (c .before .enum-told .given .1)) ∙ ap short (sym (c .short .ensures ∙ ap (λ (x : Ends). shortOf (endsOut x)) (c .before .enum-told .given .1))))))
+    let z = c .before .before .before in rw (z .before .if1 .taken) (summed-short (sym (main-cut _ _ (z .head .ensures)
+    (ap endsOut (c .before .enum-told .given .1)) ∙ ap short (sym (c .short .ensures ∙ ap (λ (x : Ends). shortOf (endsOut x))
+    (c .before .enum-told .given .1))))))
 
 add-wide : tie.Need-add-wide
 add-wide c = search needs
 
 shared-slice-read-wide : tie.Need-shared-slice-read-wide
 shared-slice-read-wide c =
-    let w = ones-past 2 _ _ (c .before .before .before .before .before .before .before .pre) (c .before .before .before .before .head .ensures) (ap endsOut (c .before .before .a .given .1)) in omega (arith, w .inside)
+    let w = ones-past 2 _ _ (c .before .before .before .before .before .before .before .pre) (c .before .before .before .before .head .ensures)
+    (ap endsOut (c .before .before .a .given .1)) in omega (arith, w .inside)
 
 wide-requires : tie.Need-wide-requires
 wide-requires c κs = search needs
@@ -47,7 +50,8 @@ cast-count c = search needs
 
 measure-groups-requires : tie.Need-measure-groups-requires
 measure-groups-requires c κs =
-    let w = ones-past 2 _ _ (c .before .before .before .before .before .before .before .before .before .pre) (c .before .before .before .before .before .before .head .ensures) (ap endsOut (c .before .before .before .before .a .given .1)) in omega (arith, w .is, w .inside)
+    let z = c .before .before .before .before in let w = ones-past 2 _ _ (z .before .before .before .before .before .pre) (z .before .before .head .ensures)
+    (ap endsOut (z .a .given .1)) in omega (arith, w .is, w .inside)
 
 enum-known-b : tie.Need-enum-known-b
 enum-known-b c = search needs
@@ -60,11 +64,13 @@ short-requires-2 c κs = search needs
 
 returns-2 : tie.Need-returns-2
 returns-2 c =
-    rw (c .before .before .before .before .before .before .before .before .before .before .before .if1 .taken) (summed-short (groups-cut _ _ (c .before .before .before .before .before .before .before .before .before .before .head .ensures) (c .before .before .before .before .before .before .before .before .before .before .before .before .before .pre) (ap endsOut (c .before .before .before .before .before .before .before .before .a .given .1)) (c .before .before .before .before .before .wide .ensures) (c .before .before .before .before .part .ensures) (c .before .before .before .measure-groups .ensures) (ap endsOut (c .before .enum-told2 .given .1)) (c .short2 .ensures)))
+    let z = c .before .before .before .before .before .before .before .before in rw (z .before .before .before .if1 .taken)
+    (search (summed-short, groups-cut, ap endsOut (z .a .given .1), ap endsOut (c .before .enum-told2 .given .1)))
 
 returns-3 : tie.Need-returns-3
 returns-3 c =
-    rw (c .before .before .before .before .before .before .before .before .before .before .before .if1 .taken) (groups-summed _ _ (c .before .before .before .before .before .before .before .before .before .before .head .ensures) (c .before .before .before .before .before .before .before .before .before .before .before .before .before .pre) (ap endsOut (c .before .before .before .before .before .before .before .before .a .given .1)) (c .before .before .before .before .before .wide .ensures) (c .before .before .before .before .part .ensures) (c .before .before .before .measure-groups .ensures) (ap endsOut (c .before .b .given .1)))
+    let z = c .before .before .before .before .before .before .before .before in rw (z .before .before .before .if1 .taken)
+    (search (groups-summed, ap endsOut (z .a .given .1), ap endsOut (c .before .b .given .1)))
 
 returns-4 : tie.Need-returns-4
 unfolding main

@@ -32,7 +32,9 @@ trailing-run-requires c κs =
 
 returns : tie.Need-returns
 returns c =
-    tops-are _ (c .before .before .before .before .before .before .before .pre) (rw (c .before .before .before .part .ensures, c .before .before .before .before .wide .ensures)) (rw (c .before .before .part2 .ensures, c .before .before .before .before .wide .ensures) at (c .before .main-at .ensures .0)) _ (rw (c .before .before .part2 .ensures, c .before .before .before .before .wide .ensures) at (c .before .main-at .ensures .1)) (c .trailing-run .ensures)
+    let z = c .before .before in let y = z .before .before in tops-are _ (y .before .before .before .pre) (rw (z .before .part .ensures, y .wide .ensures))
+    (rw (z .part2 .ensures, y .wide .ensures) at (c .before .main-at .ensures .0)) _
+    (rw (z .part2 .ensures, y .wide .ensures) at (c .before .main-at .ensures .1)) (c .trailing-run .ensures)
 
 pub record-at-spec : {M : Type 1} → statement M
 record-at-spec =

@@ -32,7 +32,7 @@ main-rows-requires c κs =
 
 returns-2 : tie.Need-returns-2
 returns-2 c =
-    body-summed (c .before .before .before .a .given .0 .0) (first-there _ (c .before .before .before .before .before .byte-at .ensures .is) (ap byteOut (c .before .before .before .a .given .1))) (rw (c .before .part .ensures) at (c .main-rows .ensures))
+    search (body-summed, first-there, ap byteOut (c .before .before .before .a .given .1), rw (c .before .part .ensures) at (c .main-rows .ensures))
 
 pub rows-spec : {M : Type 1} → statement M
 rows-spec =

@@ -25,8 +25,9 @@ returns : tie.Need-returns
 unfolding kind
 returns c =
     let z = c .before .before .before .before .before .before .before in
-    let e = sym (c .before .before .before .in-store .ensures) ∙ c .before .before .if1 .taken in
-    more 196610 (all-looked kind (acts-are (z .args .m) (z .args .groups .now) (z .args .store .now)) e (c .before .check-fields .ensures) (c .run .ensures)) (omega arith)
+    let e = sym (c .before .before .before .in-store .ensures) ∙ c .before .before .if1 .taken in more 196610
+    (all-looked kind (acts-are (z .args .m) (z .args .groups .now) (z .args .store .now)) e (c .before .check-fields .ensures) (c .run .ensures))
+    (omega arith)
 
 returns-2 : tie.Need-returns-2
 unfolding kind

@@ -27,7 +27,9 @@ check-main-requires c κs =
 returns : tie.Need-returns
 unfolding multiStreamActs
 returns c =
-    rw (sym (c .before .before .before .before .before .groups-within .ensures) ∙ c .before .before .before .before .if1 .taken) (passed _ 0 (passed _ 0 (passed _ 0 (more 131075 (then (all-checked (c .before .before .before .head-bytes .ensures) (c .before .check-all .ensures)) (c .check-main .ensures)) (omega arith)))))
+    let z = c .before .before .before in rw (sym (z .before .before .groups-within .ensures) ∙ z .before .if1 .taken)
+    (passed _ 0 (passed _ 0 (passed _ 0 (more 131075 (then (all-checked (z .head-bytes .ensures) (c .before .check-all .ensures)) (c .check-main .ensures))
+    (omega arith)))))
 
 returns-2 : tie.Need-returns-2
 unfolding multiStreamActs

@@ -25,14 +25,17 @@ enum-told c = search needs
 returns : tie.Need-returns
 unfolding mainActs
 returns c =
-    part-stops _ _ _ 131074 (c .before .before .before .before .before .before .if1 .taken) (all-checked (c .before .before .before .before .main-bytes .ensures) (c .before .before .check-all .ensures)) (c .enum-told .given .1) (omega arith)
+    let z = c .before .before in part-stops _ _ _ 131074 (z .before .before .before .before .if1 .taken)
+    (all-checked (z .before .before .main-bytes .ensures) (z .check-all .ensures)) (c .enum-told .given .1) (omega arith)
 
 cast-check-groups : tie.Need-cast-check-groups
 cast-check-groups c = search needs
 
 check-groups-requires : tie.Need-check-groups-requires
 check-groups-requires c κs =
-    let w = all-checked (c .before .before .before .before .before .main-bytes .ensures) (c .before .before .before .check-all .ensures) in let n = rw (c .before .p1 .given .1) at (w .near) in (rows-there _ _ 5 _ (omega arith) (c .before .before .before .before .before .before .before .before .before .pre .0) (c .before .before .before .before .before .before .before .if1 .taken), omega arith, omega (arith, n, c .before .before .before .before .before .before .before .before .before .pre .1))
+    let z = c .before .before .before .before .before in let w = all-checked (z .main-bytes .ensures) (c .before .before .before .check-all .ensures) in
+    let n = rw (c .before .p1 .given .1) at (w .near) in
+    (rows-there _ _ 5 _ (omega arith) (z .before .before .before .before .pre .0) (z .before .before .if1 .taken), omega arith, omega (arith, n, z .before .before .before .before .pre .1))
 
 returns-2 : tie.Need-returns-2
 unfolding mainActs

@@ -7,7 +7,7 @@ use Rattle.multi_stream.proofs.writing.fill.Statement.{statement}
 use Rattle.multi_stream.proofs.writing.fill.Tie as tie
 
 fill-fields-requires : tie.Need-fill-fields-requires
-fill-fields-requires c κs = let z = c .before .before .before .before in fields-ready kind (acts-are (z .args .m) (z .args .groups .now) (z .args .store .now)) (z .pre)
+fill-fields-requires c κs = search (fields-ready, acts-are)
 
 cast-copy : tie.Need-cast-copy
 cast-copy c = search needs
@@ -27,10 +27,7 @@ same-length c = search needs
 
 returns : tie.Need-returns
 unfolding kind
-returns c =
-    let d = c .before .before .before .before .before .before in
-    let z = d .before .before .before .before .before in
-    all-filled kind (acts-are (z .args .m) (z .args .groups .now) (z .args .store .now)) (z .pre) (d .fill-fields .kept .1 .1 .0) (d .fill-fields .ensures) (c .before .before .copy .ensures)
+returns c = search (all-filled, acts-are)
 
 pub fill-spec : {M : Type 1} → statement M
 fill-spec =

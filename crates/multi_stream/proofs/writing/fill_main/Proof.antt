@@ -37,7 +37,7 @@ slice-aggregate-fill-all : tie.Need-slice-aggregate-fill-all
 slice-aggregate-fill-all c = search needs
 
 fill-all-requires : tie.Need-fill-all-requires
-fill-all-requires c κs = ready-part _ (c .before .main-bytes .ensures) (begin (c .before .before .before .before .before .before .before) (c .before .before .before .before .if1 .taken))
+fill-all-requires c κs = search (ready-part, begin)
 
 cast-fill-groups : tie.Need-cast-fill-groups
 cast-fill-groups c = search needs

@@ -21,7 +21,8 @@ two-requires-2 c κs = search needs
 
 returns : tie.Need-returns
 returns c =
-    more (rw (c .before .before .before .before .wide .ensures, c .before .before .before .wide2 .ensures) at (c .before .before .two .ensures)) (more (rw (c .before .wide3 .ensures) at (c .two2 .ensures)) none)
+    let z = c .before .before in more (rw (z .before .before .wide .ensures, z .before .wide2 .ensures) at (z .two .ensures))
+    (more (rw (c .before .wide3 .ensures) at (c .two2 .ensures)) none)
 
 pub main-bytes-spec : {M : Type 1} → statement M
 main-bytes-spec =

@@ -1,6 +1,5 @@
 -- `parsing::fill_pairs` meets its contract: what is still to store from here is what was to store from the start.
 use mathlib.Core.Path.{refl}
-use native.Mathlib.Omega.{arith}
 use Rattle.wire.specs.Layout.{flat}
 use Rattle.wire.proofs.reading.Loops.{Filling, fill-next, fill-end}
 use Rattle.pairs.specs.Layout.{pair}
@@ -30,8 +29,7 @@ put-row-requires : tie.Need-put-row-requires Inv-loop μ-loop
 put-row-requires c κs = search needs
 
 add-pos : tie.Need-add-pos Inv-loop μ-loop
-add-pos c =
-    omega (arith, pair-there _ _ _ (c .before .before .before .before .before .before .before .loop .inv .inside) (c .before .before .before .before .before .before .loop-test .taken) (c .before .before .before .before .before .before .before .loop .inv .sound))
+add-pos c = search (needs, pair-there)
 
 sub-left : tie.Need-sub-left Inv-loop μ-loop
 sub-left c = search needs
@@ -44,7 +42,9 @@ loop-less c = search needs
 
 loop-again : tie.Need-loop-again Inv-loop μ-loop
 loop-again c =
-    let h = pair-there _ _ _ (c .before .before .before .before .before .before .before .loop .inv .inside) (c .before .before .before .before .before .before .loop-test .taken) (c .before .before .before .before .before .before .before .loop .inv .sound) in fill-next (flat 2 pair) (λ r. r) 2 _ _ _ _ _ _ _ _ _ (c .before .before .before .before .before .before .before .loop .inv) (c .before .before .before .before .before .before .loop-test .taken) (pair-run _ _ h) refl refl (c .before .before .before .before .before .pair-at .ensures) (c .before .before .put-row .ensures)
+    let z = c .before .before .before .before .before in let h = pair-there _ _ _ (z .before .before .loop .inv .inside) (z .before .loop-test .taken)
+    (z .before .before .loop .inv .sound) in fill-next (flat 2 pair) (λ r. r) 2 _ _ _ _ _ _ _ _ _ (z .before .before .loop .inv) (z .before .loop-test .taken)
+    (pair-run _ _ h) refl refl (z .pair-at .ensures) (c .before .before .put-row .ensures)
 
 same-length : tie.Need-same-length Inv-loop μ-loop
 same-length c = search needs

@@ -21,11 +21,14 @@ add-t10 c = search needs
 
 returns : tie.Need-returns
 returns c =
-    rw (one-mul (c .before .before .before .before .args .r .count)) at (kids-stopped (pairActs (c .before .before .before .before .args .table .now)) (c .before .before .before .before .args .r .first) (c .before .before .before .before .args .r .count) (c .before .before .plain-pairs .ensures) (c .before .before .before .before .args .n) (c .if1 .taken) (pair-stopped (c .before .before .before .before .args .table .now) _ _ (c .before .before .plain-pairs .ensures .odd (c .if1 .taken))))
+    let z = c .before .before .before .before in rw (one-mul (z .args .r .count)) at (kids-stopped (pairActs (z .args .table .now)) (z .args .r .first)
+    (z .args .r .count) (c .before .before .plain-pairs .ensures) (z .args .n) (c .if1 .taken) (pair-stopped (z .args .table .now) _ _
+    (c .before .before .plain-pairs .ensures .odd (c .if1 .taken))))
 
 returns-2 : tie.Need-returns-2
 returns-2 c =
-    rw (one-mul (c .before .before .before .before .args .r .count)) at (kids-checked (pairActs (c .before .before .before .before .args .table .now)) (c .before .before .before .before .args .r .first) (c .before .before .before .before .args .r .count) (c .before .before .plain-pairs .ensures) (c .before .before .before .before .args .n) (c .if1 .left))
+    let z = c .before .before .before .before in rw (one-mul (z .args .r .count)) at (kids-checked (pairActs (z .args .table .now)) (z .args .r .first)
+    (z .args .r .count) (c .before .before .plain-pairs .ensures) (z .args .n) (c .if1 .left))
 
 pub check-pairs-spec : {M : Type 1} → statement M
 check-pairs-spec =

@@ -42,7 +42,8 @@ slice-aggregate-fill-all c = search needs
 
 fill-all-requires : tie.Need-fill-all-requires Inv-loop μ-loop
 fill-all-requires c κs =
-    pair-ready (c .before .before .before .before .before .before .before .before .before .before .args .table .now) (c .before .before .before .before .loop .i) (c .before .pair-byte .ensures) (fill-row _ _ (c .before .before .before .before .loop .inv .2) (rows-turn _ _ _ (c .before .before .before .loop-test .taken)))
+    let z = c .before .before .before in pair-ready (z .before .before .before .before .before .before .before .args .table .now) (z .before .loop .i)
+    (c .before .pair-byte .ensures) (fill-row _ _ (z .before .loop .inv .2) (rows-turn _ _ _ (z .loop-test .taken)))
 
 add-i : tie.Need-add-i Inv-loop μ-loop
 add-i c = search needs
@@ -52,7 +53,10 @@ loop-less c = search needs
 
 loop-again : tie.Need-loop-again Inv-loop μ-loop
 loop-again c =
-    let r = fill-row _ _ (c .before .before .before .before .before .before .before .loop .inv .2) (rows-turn _ _ _ (c .before .before .before .before .before .before .loop-test .taken)) in let w = pair-filled (c .before .before .before .before .before .before .before .before .before .before .before .before .before .args .table .now) (c .before .before .before .before .before .before .before .loop .i) (c .before .before .before .before .pair-byte .ensures) r (c .before .before .fill-all .ensures) in (omega arith, omega arith, fill-turn (c .before .before .before .before .before .before .before .loop .inv .2) (rows-turn _ _ _ (c .before .before .before .before .before .before .loop-test .taken)) (filled-long w) w)
+    let z = c .before .before .before .before .before .before in let r = fill-row _ _ (z .before .loop .inv .2) (rows-turn _ _ _ (z .loop-test .taken)) in
+    let w = pair-filled (z .before .before .before .before .before .before .before .args .table .now) (z .before .loop .i)
+    (c .before .before .before .before .pair-byte .ensures) r (c .before .before .fill-all .ensures) in
+    (omega arith, omega arith, search (fill-turn, rows-turn, filled-long))
 
 same-length : tie.Need-same-length Inv-loop μ-loop
 same-length c =

@@ -34,7 +34,8 @@ pair-byte-requires c κs =
 
 returns : tie.Need-returns Inv-loop μ-loop
 returns c =
-    going-odd (c .before .before .before .loop .inv) (pair-odd (c .before .before .before .before .before .before .before .args .table .now) (c .before .before .before .before .before .before .before .args .r .first + c .before .before .before .loop .i) (c .before .pair-byte .ensures) (c .if1 .taken)) refl
+    let z = c .before .before .before in going-odd (z .loop .inv) (pair-odd (z .before .before .before .before .args .table .now)
+    (z .before .before .before .before .args .r .first + z .loop .i) (c .before .pair-byte .ensures) (c .if1 .taken)) refl
 
 add-i : tie.Need-add-i Inv-loop μ-loop
 add-i c = search needs
@@ -43,8 +44,7 @@ loop-less : tie.Need-loop-less Inv-loop μ-loop
 loop-less c = search needs
 
 loop-again : tie.Need-loop-again Inv-loop μ-loop
-loop-again c =
-    going-turn (c .before .before .before .loop .inv) (pair-plain (c .before .before .before .before .before .before .before .args .table .now) (c .before .before .before .before .before .before .before .args .r .first + c .before .before .before .loop .i) (c .before .pair-byte .ensures) (c .if1 .left)) (c .before .before .loop-test .taken) (omega arith)
+loop-again c = search (needs, going-turn, pair-plain)
 
 returns-2 : tie.Need-returns-2 Inv-loop μ-loop
 returns-2 c =

@@ -26,14 +26,15 @@ mul-fill-conditions c = search needs
 
 fill-conditions-requires : tie.Need-fill-conditions-requires
 fill-conditions-requires c κs =
-    let a = asked _ _ _ _ (c .before .before .before .before .before .pre) (ap (λ (p : GroupPreset). p .conditions .count) (c .before .before .preset-from .ensures)) in (omega (arith, a .begun), a .sound, a .room)
+    let a = asked _ _ _ _ (c .before .before .before .before .before .pre) (ap (λ (p : GroupPreset). p .conditions .count)
+    (c .before .before .preset-from .ensures)) in (omega (arith, a .begun), a .sound, a .room)
 
 same-length : tie.Need-same-length
 same-length c = search needs
 
 returns : tie.Need-returns
 returns c =
-    preset-filled _ _ _ _ (c .before .before .before .before .before .before .before .before .pre) (c .before .before .before .before .before .preset-from .ensures) (ap (λ (p : GroupPreset). p .conditions .count) (c .before .before .before .before .before .preset-from .ensures)) (c .before .before .fill-conditions .ensures .0) (c .before .before .fill-conditions .ensures .1)
+    search (preset-filled, ap (λ (p : GroupPreset). p .conditions .count) (c .before .before .before .before .before .preset-from .ensures))
 
 pub fill-preset-spec : {M : Type 1} → statement M
 fill-preset-spec =

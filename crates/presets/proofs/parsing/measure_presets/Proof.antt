@@ -1,5 +1,4 @@
 -- `parsing::measure_presets` meets its contract.
-use native.Mathlib.Omega.{arith}
 use lib.ListN.{length}
 use Rattle.wire.proofs.reading.Loops.{Summing, sum-start, sum-turn, sum-cut, sum-end, sum-small, summed-as}
 use Rattle.wire.proofs.layouts.Families.{kids-summed}
@@ -29,12 +28,11 @@ enum-told : tie.Need-enum-told Inv-loop μ-loop
 enum-told c = search needs
 
 returns : tie.Need-returns Inv-loop μ-loop
-returns c =
-    summed-as kids-summed (sum-cut presets (λ x. length (x .1)) 16 _ _ _ (c .before .before .before .before .loop .inv) (c .before .before .before .loop-test .taken) (c .before .before .preset-rows .ensures) (c .enum-told .given .1))
+returns c = search (summed-as, kids-summed, sum-cut)
 
 add-rows : tie.Need-add-rows Inv-loop μ-loop
 add-rows c =
-    omega (arith, sum-small (c .before .before .before .preset-rows .ensures) (c .before .a .given .1), c .before .before .before .before .before .loop .inv .small, c .before .before .before .before .before .before .before .pre .1)
+    search (needs, sum-small (c .before .before .before .preset-rows .ensures) (c .before .a .given .1))
 
 sub-left : tie.Need-sub-left Inv-loop μ-loop
 sub-left c = search needs
@@ -43,8 +41,7 @@ loop-less : tie.Need-loop-less Inv-loop μ-loop
 loop-less c = search needs
 
 loop-again : tie.Need-loop-again Inv-loop μ-loop
-loop-again c =
-    sum-turn presets (λ x. length (x .1)) 16 _ _ _ (c .before .before .before .before .before .loop .inv) (c .before .before .before .before .loop-test .taken) (c .before .before .before .preset-rows .ensures) (c .before .a .given .1)
+loop-again c = search sum-turn
 
 returns-2 : tie.Need-returns-2 Inv-loop μ-loop
 returns-2 c =

@@ -23,8 +23,7 @@ short-requires : tie.Need-short-requires
 short-requires c κs = search needs
 
 returns : tie.Need-returns
-returns c =
-    three-lack _ _ (c .before .before .before .before .before .pre) (c .before .before .before .head .ensures) (ap endsOut (c .before .enum-told .given .1)) (c .short .ensures)
+returns c = search (three-lack, ap endsOut (c .before .enum-told .given .1))
 
 add-count-of : tie.Need-add-count-of
 add-count-of c = search needs
@@ -53,12 +52,10 @@ short-requires-2 : tie.Need-short-requires-2
 short-requires-2 c κs = search needs
 
 returns-2 : tie.Need-returns-2
-returns-2 c =
-    preset-lacks _ _ (c .before .before .before .before .before .before .before .before .before .before .before .pre) (after-1 (c .before .before .before .before .before .before)) (c .before .before .before .before .count-of .ensures .0) (c .before .before .before .measure-conditions .ensures) (ap endsOut (c .before .enum-told2 .given .1)) (c .short2 .ensures)
+returns-2 c = search (preset-lacks, after-1, ap endsOut (c .before .enum-told2 .given .1))
 
 returns-3 : tie.Need-returns-3
-returns-3 c =
-    preset-got _ _ (c .before .before .before .before .before .before .before .before .before .before .before .pre) (after-1 (c .before .before .before .before .before .before)) (c .before .before .before .before .count-of .ensures .0) (c .before .before .before .measure-conditions .ensures) (ap endsOut (c .before .b .given .1)) (c .before .before .before .before .count-of .ensures .1)
+returns-3 c = search (preset-got, after-1, ap endsOut (c .before .b .given .1))
 
 pub preset-rows-spec : {M : Type 1} → statement M
 preset-rows-spec =

@@ -1,8 +1,5 @@
 -- `tallying::tally_preset` meets its contract.
-use Prim.Native.Nat.{_+_}
-use lib.ListN.{getD}
 use mathlib.Core.Path.{refl, ap}
-use native.Mathlib.Omega.{arith}
 use Rattle.presets.specs.declared.rows.GroupPreset.{GroupPreset}
 use Rattle.wire.proofs.Fields.{part-below}
 use Rattle.presets.proofs.Taken.{tally-asked, preset-tallied}
@@ -22,7 +19,8 @@ cast-tally-conditions c = search needs
 
 tally-conditions-requires : tie.Need-tally-conditions-requires
 tally-conditions-requires c κs =
-    let (a, b) = tally-asked _ _ (c .before .before .before .pre .0) (c .before .before .before .pre .1) (ap (λ (p : GroupPreset). p .conditions .count) (c .before .preset-from .ensures)) in (a, b, search needs)
+    let (a, b) = tally-asked _ _ (c .before .before .before .pre .0) (c .before .before .before .pre .1)
+    (ap (λ (p : GroupPreset). p .conditions .count) (c .before .preset-from .ensures)) in (a, b, search needs)
 
 preset-zeros-requires : tie.Need-preset-zeros-requires
 preset-zeros-requires c κs = search needs
@@ -32,7 +30,8 @@ add-t8 c = search needs
 
 returns : tie.Need-returns
 returns c =
-    (preset-tallied _ _ (c .before .before .before .before .before .before .pre .0) (c .before .before .before .before .before .before .pre .1) (c .before .before .before .before .preset-from .ensures) (ap (λ (p : GroupPreset). p .conditions .count) (c .before .before .before .before .preset-from .ensures)) (c .before .preset-zeros .ensures .0) (c .before .before .tally-conditions .ensures .0) (c .before .before .tally-conditions .ensures .1), omega (arith, c .before .preset-zeros .ensures .1, c .before .before .tally-conditions .ensures .2, ap (λ (p : GroupPreset). p .conditions .count) (c .before .before .before .before .preset-from .ensures), part-below 0 4 (getD (c .before .before .before .before .before .before .args .body .now) (c .before .before .before .before .before .before .args .at + 2) 0)))
+    let z = c .before .before .before .before in
+    (search (preset-tallied, ap (λ (p : GroupPreset). p .conditions .count) (z .preset-from .ensures)), search (needs, part-below, ap (λ (p : GroupPreset). p .conditions .count) (z .preset-from .ensures)))
 
 pub tally-preset-spec : {M : Type 1} → statement M
 tally-preset-spec =

@@ -27,8 +27,7 @@ tally-preset-requires c κs =
     (c .before .loop .inv .inside, first-done presets _ _ _ (c .loop-test .taken) (c .before .loop .inv .sound))
 
 add-zeros : tie.Need-add-zeros Inv-loop μ-loop
-add-zeros c =
-    omega (arith, c .before .tally-preset .ensures .1, c .before .before .before .loop .inv .small, c .before .before .loop-test .taken, c .before .before .before .before .before .pre .2)
+add-zeros c = search needs
 
 sub-left : tie.Need-sub-left Inv-loop μ-loop
 sub-left c = search needs
@@ -38,8 +37,7 @@ loop-less c = search needs
 
 loop-again : tie.Need-loop-again Inv-loop μ-loop
 loop-again c =
-    let (x, e, q) = as-done (familyTally preset condition) (run presets _ _) (sym (c .before .tally-preset .ensures .0)) in
-    adding-turn presets _ 170 _ _ _ (c .before .before .before .loop .inv) (c .before .before .loop-test .taken) (sym e) (sym q) (c .before .tally-preset .ensures .1)
+    let (x, e, q) = as-done (familyTally preset condition) (run presets _ _) (sym (c .before .tally-preset .ensures .0)) in search (adding-turn, sym e, sym q)
 
 returns : tie.Need-returns Inv-loop μ-loop
 returns c =

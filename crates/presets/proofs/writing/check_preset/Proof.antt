@@ -1,7 +1,6 @@
 -- `writing::check_preset` meets its contract.
 use Rattle.presets.proofs.Writes.{front-acts, preset-passed, preset-near, preset-stopped, preset-checked}
 use Prim.Native.Nat.{_/_}
-use native.Mathlib.Omega.{arith}
 use lib.ListN.{length}
 use Rattle.wire.specs.Pen.{Checked}
 use Rattle.wire.specs.declared.pen.Fault.the-variants as F
@@ -46,8 +45,7 @@ enum-told : tie.Need-enum-told
 enum-told c = search needs
 
 returns : tie.Need-returns
-returns c =
-    preset-stopped (c .before .before .before .before .before .before .before .before .before .before .before .args .conditions .now) (presetCols (c .before .before .before .before .before .before .before .before .before .before .before .args .p)) (step-1 (c .before .before)) (c .enum-told .given .1)
+returns c = search (preset-stopped, step-1)
 
 cast-check-conditions : tie.Need-cast-check-conditions
 cast-check-conditions c = search needs
@@ -57,13 +55,13 @@ cast-check-conditions-2 c = search needs
 
 check-conditions-requires : tie.Need-check-conditions-requires
 check-conditions-requires c κs =
-    let f = preset-passed (c .before .before .before .before .before .before .before .before .before .before .before .before .before .before .args .conditions .now) (presetCols (c .before .before .before .before .before .before .before .before .before .before .before .before .before .before .args .p)) (step-1 (c .before .before .before .before .before)) (c .before .before .before .p2 .given .1) in
-    let k = preset-near (c .before .before .before .before .before .before .before .before .before .before .before .before .before .before .args .conditions .now) (presetCols (c .before .before .before .before .before .before .before .before .before .before .before .before .before .before .args .p)) (step-1 (c .before .before .before .before .before)) (c .before .before .before .p2 .given .1) in
-    (f .inside, search needs, omega (arith, k, c .before .before .before .before .before .before .before .before .before .before .before .before .before .before .pre))
+    let z = c .before .before .before .before .before .before .before .before .before .before .before .before .before .before in
+    let y = c .before .before .before in let f = preset-passed (z .args .conditions .now) (presetCols (z .args .p)) (step-1 (y .before .before))
+    (y .p2 .given .1) in let k = preset-near (z .args .conditions .now) (presetCols (z .args .p)) (step-1 (y .before .before)) (y .p2 .given .1) in
+    (f .inside, search needs, search (needs, k))
 
 returns-2 : tie.Need-returns-2
-returns-2 c =
-    preset-checked (c .before .before .before .before .before .before .before .before .before .before .before .before .before .before .before .args .conditions .now) (presetCols (c .before .before .before .before .before .before .before .before .before .before .before .before .before .before .before .args .p)) (step-1 (c .before .before .before .before .before .before)) (c .before .before .before .before .p2 .given .1) (c .check-conditions .ensures)
+returns-2 c = search (preset-checked, step-1)
 
 pub check-preset-spec : {M : Type 1} → statement M
 check-preset-spec =

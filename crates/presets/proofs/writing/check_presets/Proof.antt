@@ -22,7 +22,7 @@ check-preset-requires c κs = search needs
 
 returns : tie.Need-returns
 returns c =
-    plain-odd _ 99 _ _ (c .before .before .before .before .plain-presets .ensures) (c .before .before .if1 .taken) (rw (c .before .of-columns .ensures, row-acts) at (c .check-preset .ensures))
+    search (plain-odd, rw (c .before .of-columns .ensures, row-acts) at (c .check-preset .ensures))
 
 returns-2 : tie.Need-returns-2
 returns-2 c =

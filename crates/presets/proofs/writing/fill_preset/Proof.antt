@@ -30,8 +30,7 @@ slice-aggregate-fill-all : tie.Need-slice-aggregate-fill-all
 slice-aggregate-fill-all c = search needs
 
 fill-all-requires : tie.Need-fill-all-requires
-fill-all-requires c κs =
-    ready-part _ (c .before .head-bytes .ensures) (filling (c .before .before .before .before .before .args .conditions .now) (presetCols (c .before .before .before .before .before .args .p)) (c .before .before .before .before .before .pre))
+fill-all-requires c κs = search (ready-part, filling)
 
 cast-fill-conditions : tie.Need-cast-fill-conditions
 cast-fill-conditions c = search needs
@@ -42,7 +41,8 @@ cast-fill-conditions-2 c = search needs
 fill-conditions-requires : tie.Need-fill-conditions-requires
 unfolding writes
 fill-conditions-requires c κs =
-    (ready-few (c .before .before .before .before .before .before .before .before .before .before .before .before .args .conditions .now) (presetCols (c .before .before .before .before .before .before .before .before .before .before .before .before .args .p)) (c .before .before .before .before .before .before .before .before .before .before .before .before .pre) .inside, search needs, kids-ready preset (length (c .before .before .before .before .before .before .before .before .before .before .before .before .args .conditions .now) / 13) (rowActs (c .before .before .before .before .before .before .before .before .before .before .before .before .args .conditions .now)) (presetCols (c .before .before .before .before .before .before .before .before .before .before .before .before .args .p)) (step-1 (c .before .before .before .before .before .before)))
+    let z = c .before .before .before .before .before .before .before .before .before .before .before .before in
+    (ready-few (z .args .conditions .now) (presetCols (z .args .p)) (z .pre) .inside, search needs, kids-ready preset (length (z .args .conditions .now) / 13) (rowActs (z .args .conditions .now)) (presetCols (z .args .p)) (step-1 (c .before .before .before .before .before .before)))
 
 same-length : tie.Need-same-length
 same-length c = search needs
@@ -50,7 +50,9 @@ same-length c = search needs
 returns : tie.Need-returns
 unfolding writes
 returns c =
-    fill-end (kids-filled preset (length (c .before .before .before .before .before .before .before .before .before .before .before .before .before .before .before .args .conditions .now) / 13) (rowActs (c .before .before .before .before .before .before .before .before .before .before .before .before .before .before .before .args .conditions .now)) (presetCols (c .before .before .before .before .before .before .before .before .before .before .before .before .before .before .before .args .p)) (step-1 (c .before .before .before .before .before .before .before .before .before)) (c .before .before .fill-conditions .ensures)) refl
+    let z = c .before .before .before .before .before .before .before .before .before .before .before .before .before .before .before in
+    fill-end (kids-filled preset (length (z .args .conditions .now) / 13) (rowActs (z .args .conditions .now)) (presetCols (z .args .p))
+    (step-1 (c .before .before .before .before .before .before .before .before .before)) (c .before .before .fill-conditions .ensures)) refl
 
 pub fill-preset-spec : {M : Type 1} → statement M
 fill-preset-spec =

@@ -26,16 +26,14 @@ of-columns-requires c κs =
     omega (arith, c .before .loop .inv .0, c .before .loop .inv .1, c .before .before .before .before .before .pre .0, c .loop-test .taken)
 
 fill-preset-requires : tie.Need-fill-preset-requires Inv-loop μ-loop
-fill-preset-requires c κs =
-    rw (c .before .of-columns .ensures) (turn-ready (familyActs preset 13 condition (c .before .before .before .before .before .before .before .args .presets .now) (c .before .before .before .before .before .before .before .args .conditions .now)) 0 (c .before .before .before .before .before .before .before .args .count) (c .before .before .before .loop .left) (c .before .before .before .loop .inv .2) (c .before .before .loop-test .taken) _ (row-at (c .before .before .before .before .before .before .before .args .presets .now) (c .before .before .before .before .before .before .before .args .conditions .now) (c .before .before .before .loop .b) _ (c .before .before .before .loop .inv .1)))
+fill-preset-requires c κs = rw (c .before .of-columns .ensures) (search (turn-ready, row-at))
 
 sub-left : tie.Need-sub-left Inv-loop μ-loop
 sub-left c =
     search needs
 
 add-b : tie.Need-add-b Inv-loop μ-loop
-add-b c =
-    omega (arith, c .before .before .before .before .before .before .loop .inv .0, c .before .before .before .before .before .before .loop .inv .1, c .before .before .before .before .before .before .before .before .before .before .pre .1, c .before .before .before .before .before .loop-test .taken)
+add-b c = search needs
 
 loop-less : tie.Need-loop-less Inv-loop μ-loop
 loop-less c =
@@ -43,15 +41,14 @@ loop-less c =
 
 loop-again : tie.Need-loop-again Inv-loop μ-loop
 loop-again c =
-    (omega arith, omega (arith, c .before .before .before .before .before .before .loop .inv .0, c .before .before .before .before .before .before .loop .inv .1, c .before .before .before .before .before .loop-test .taken), turn-left (familyActs preset 13 condition (c .before .before .before .before .before .before .before .before .before .before .args .presets .now) (c .before .before .before .before .before .before .before .before .before .before .args .conditions .now)) 0 (c .before .before .before .before .before .before .before .before .before .before .args .count) (c .before .before .before .before .before .before .loop .left) (c .before .before .before .before .before .before .loop .inv .2) (c .before .before .before .before .before .loop-test .taken) _ (row-at (c .before .before .before .before .before .before .before .before .before .before .args .presets .now) (c .before .before .before .before .before .before .before .before .before .before .args .conditions .now) (c .before .before .before .before .before .before .loop .b) _ (c .before .before .before .before .before .before .loop .inv .1)) (c .before .before .before .before .before .before .loop .inv .0) (rw (c .before .before .before .before .of-columns .ensures) at (c .before .before .fill-preset .ensures)))
+    (omega arith, search needs, search (turn-left, row-at, rw (c .before .before .before .before .of-columns .ensures) at (c .before .before .fill-preset .ensures)))
 
 same-length : tie.Need-same-length Inv-loop μ-loop
 same-length c =
     c .before .loop .inv .2 .size
 
 returns : tie.Need-returns Inv-loop μ-loop
-returns c =
-    end-left (familyActs preset 13 condition (c .before .before .before .before .before .args .presets .now) (c .before .before .before .before .before .args .conditions .now)) 0 (c .before .before .before .before .before .args .count) (c .before .loop .left) (c .before .loop .inv .2) (c .loop-test .left)
+returns c = search end-left
 
 pub fill-presets-spec : {M : Type 1} → statement M
 fill-presets-spec =

@@ -18,7 +18,8 @@ two-requires-3 c κs = search needs
 
 returns : tie.Need-returns
 returns c =
-    more (c .before .before .before .two .ensures) (more (c .before .before .two2 .ensures) (more (rw (c .before .less-one .ensures) at (c .two3 .ensures)) none))
+    more (c .before .before .before .two .ensures)
+    (more (c .before .before .two2 .ensures) (more (rw (c .before .less-one .ensures) at (c .two3 .ensures)) none))
 
 pub head-bytes-spec : {M : Type 1} → statement M
 head-bytes-spec =

@@ -31,22 +31,21 @@ cast-plain-rows c = search needs
 
 plain-rows-requires : tie.Need-plain-rows-requires
 plain-rows-requires c κs =
-    (test-few (c .before .before .before .before .before .before .before .before .before .before .args .conditions .now) (presetCols (c .before .before .before .before .before .before .before .before .before .before .args .p)) (sym (tested (c .before .before .before)) ∙ c .before .before .if1 .taken) .inside, search needs)
+    let z = c .before .before .before .before .before .before .before .before .before .before in
+    (test-few (z .args .conditions .now) (presetCols (z .args .p)) (sym (tested (c .before .before .before)) ∙ c .before .before .if1 .taken) .inside, search needs)
 
 add-result : tie.Need-add-result
 add-result c = search needs
 
 returns : tie.Need-returns
 returns c =
-    kids-plain (c .before .before .before .before .before .before .before .before .before .before .before .before .before .before .args .conditions .now) (presetCols (c .before .before .before .before .before .before .before .before .before .before .before .before .before .before .args .p)) (c .before .before .before .plain-rows .ensures) (sym (tested (c .before .before .before .before .before .before .before)) ∙ c .before .before .before .before .before .before .if1 .taken) (c .before .if2 .taken)
+    let z = c .before .before .before .before .before .before in search (kids-plain, sym (tested (z .before)) ∙ z .if1 .taken)
 
 returns-2 : tie.Need-returns-2
-returns-2 c =
-    kid-odd (c .before .before .before .before .before .before .before .before .before .before .before .before .before .args .conditions .now) (presetCols (c .before .before .before .before .before .before .before .before .before .before .before .before .before .args .p)) (c .before .before .plain-rows .ensures) (c .if2 .left)
+returns-2 c = search kid-odd
 
 returns-3 : tie.Need-returns-3
-returns-3 c =
-    test-odd (c .before .before .before .before .before .before .before .before .args .conditions .now) (presetCols (c .before .before .before .before .before .before .before .before .args .p)) (sym (tested (c .before)) ∙ c .if1 .left)
+returns-3 c = search (test-odd, sym (tested (c .before)) ∙ c .if1 .left)
 
 pub plain-bytes-spec : {M : Type 1} → statement M
 plain-bytes-spec =

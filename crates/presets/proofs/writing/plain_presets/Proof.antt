@@ -36,19 +36,19 @@ sub-t10 c =
 
 returns : tie.Need-returns Inv-loop μ-loop
 returns c =
-    odd-going (c .before .before .before .before .loop .left) (c .before .before .before .before .loop .inv .2) _ (row-at (c .before .before .before .before .before .before .before .args .presets .now) (c .before .before .before .before .before .before .before .args .conditions .now) (c .before .before .before .before .loop .b) _ (c .before .before .before .before .loop .inv .1)) (rw (c .before .before .of-columns .ensures) at (c .before .plain-bytes .ensures)) (c .if1 .taken)
+    search (odd-going, row-at, rw (c .before .before .of-columns .ensures) at (c .before .plain-bytes .ensures))
 
 add-bytes : tie.Need-add-bytes Inv-loop μ-loop
 add-bytes c =
-    let l = c .if1 .left in omega (arith, turn-going (c .before .before .before .before .loop .left) (c .before .before .before .before .loop .inv .2) _ (row-at (c .before .before .before .before .before .before .before .args .presets .now) (c .before .before .before .before .before .before .before .args .conditions .now) (c .before .before .before .before .loop .b) _ (c .before .before .before .before .loop .inv .1)) (rw (c .before .before .of-columns .ensures) at (c .before .plain-bytes .ensures)) (c .before .before .before .before .loop .inv .0) (c .before .before .before .loop-test .taken) (omega (arith, l)) .few, c .before .before .before .before .loop .inv .0, c .before .before .before .loop-test .taken, c .before .before .before .before .before .before .before .pre .1)
+    let z = c .before .before .before .before in let l = c .if1 .left in
+    search (needs, turn-going (z .loop .left) (z .loop .inv .2) _ (row-at (z .before .before .before .args .presets .now) (z .before .before .before .args .conditions .now) (z .loop .b) _ (z .loop .inv .1)) (rw (c .before .before .of-columns .ensures) at (c .before .plain-bytes .ensures)) (z .loop .inv .0) (c .before .before .before .loop-test .taken) (omega (arith, l)))
 
 sub-left : tie.Need-sub-left Inv-loop μ-loop
 sub-left c =
     search needs
 
 add-b : tie.Need-add-b Inv-loop μ-loop
-add-b c =
-    omega (arith, c .before .before .before .before .loop .inv .0, c .before .before .before .before .loop .inv .1, c .before .before .before .before .before .before .before .pre .1, c .before .before .before .loop-test .taken)
+add-b c = search needs
 
 loop-less : tie.Need-loop-less Inv-loop μ-loop
 loop-less c =
@@ -56,7 +56,8 @@ loop-less c =
 
 loop-again : tie.Need-loop-again Inv-loop μ-loop
 loop-again c =
-    let l = c .if1 .left in (omega arith, omega (arith, c .before .before .before .before .loop .inv .0, c .before .before .before .before .loop .inv .1, c .before .before .before .loop-test .taken), turn-going (c .before .before .before .before .loop .left) (c .before .before .before .before .loop .inv .2) _ (row-at (c .before .before .before .before .before .before .before .args .presets .now) (c .before .before .before .before .before .before .before .args .conditions .now) (c .before .before .before .before .loop .b) _ (c .before .before .before .before .loop .inv .1)) (rw (c .before .before .of-columns .ensures) at (c .before .plain-bytes .ensures)) (c .before .before .before .before .loop .inv .0) (c .before .before .before .loop-test .taken) (omega (arith, l)))
+    let z = c .before .before .before .before in let l = c .if1 .left in
+    (omega arith, omega (arith, z .loop .inv .0, z .loop .inv .1, c .before .before .before .loop-test .taken), turn-going (z .loop .left) (z .loop .inv .2) _ (row-at (z .before .before .before .args .presets .now) (z .before .before .before .args .conditions .now) (z .loop .b) _ (z .loop .inv .1)) (rw (c .before .before .of-columns .ensures) at (c .before .plain-bytes .ensures)) (z .loop .inv .0) (c .before .before .before .loop-test .taken) (omega (arith, l)))
 
 returns-2 : tie.Need-returns-2 Inv-loop μ-loop
 returns-2 c =

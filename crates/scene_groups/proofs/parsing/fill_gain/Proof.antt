@@ -1,5 +1,5 @@
 -- `fill_gain` stores the columns of a gain that is there; of one that is not, it stores zeros.
-use mathlib.Core.Path.{refl, ap}
+use mathlib.Core.Path.{ap}
 use Rattle.wire.proofs.layouts.Straight.{size-there}
 use Rattle.wire.specs.Straight.{blanks}
 use Rattle.scene_groups.specs.Layout.{gain}
@@ -31,14 +31,15 @@ same-length : tie.Need-same-length
 same-length c = search needs
 
 returns : tie.Need-returns
-returns c = let h = c .before .before .before .before .before .before .if1 .taken in put-there 18 5 gain 2 h (gain-there _ _ h refl) refl (ap gainRow (c .before .before .before .before .before .gain-from .ensures)) (c .before .before .put-row .ensures)
+returns c =
+    search (put-there, gain-there, ap gainRow (c .before .before .before .before .before .gain-from .ensures))
 
 same-length-2 : tie.Need-same-length-2
 same-length-2 c = search needs
 
 returns-2 : tie.Need-returns-2
 unfolding blanks
-returns-2 c = put-none 18 4 gain 2 (c .before .before .before .before .before .before .before .before .pre .1) (c .before .before .before .before .before .if1 .left) (c .before .before .put-row2 .ensures)
+returns-2 c = search put-none
 
 pub fill-gain-spec : {M : Type 1} → statement M
 fill-gain-spec =

@@ -96,25 +96,25 @@ add-fill-gain : tie.Need-add-fill-gain
 add-fill-gain c = search needs
 
 fill-gain-requires : tie.Need-fill-gain-requires
-fill-gain-requires c κs = let f = flags (position c) in (omega (arith, room f, c .before .before .before .fill-position .ensures .on), flag-below 1 _ (f .before .part2 .ensures), search needs)
+fill-gain-requires c κs =
+    let f = flags (position c) in (search (needs, room f), flag-below 1 _ (f .before .part2 .ensures), search needs)
 
 add-fill-language : tie.Need-add-fill-language
 add-fill-language c = let s = start (flags (position (gain c))) in omega (arith, s .pre .2, s .good)
 
 fill-language-requires : tie.Need-fill-language-requires
-fill-language-requires c κs = let f = flags (position (gain c)) in (omega (arith, room f, c .before .before .before .fill-gain .ensures .on, gain c .before .before .before .fill-position .ensures .on), flag-below 0 _ (f .part3 .ensures), search needs)
+fill-language-requires c κs =
+    let f = flags (position (gain c)) in (search (needs, room f, gain c), flag-below 0 _ (f .part3 .ensures), search needs)
 
 same-length : tie.Need-same-length
 same-length c = search needs
 
 returns : tie.Need-returns
 returns c =
-    let z = c .before .before .before in
-    let y = gain z in
-    let x = position y in
-    let f = flags x in
-    group-put (whole (start f)) (f .before .before .before .before .before .wide2 .ensures) (f .before .before .part .ensures) (f .before .part2 .ensures) (f .part3 .ensures)
-    (head-so x) (x .before .before .before .put-row .ensures) (y .before .before .before .fill-position .ensures) (z .before .before .before .fill-gain .ensures) (c .before .before .fill-language .ensures)
+    let z = c .before .before .before in let y = gain z in let x = position y in let f = flags x in group-put (whole (start f))
+    (f .before .before .before .before .before .wide2 .ensures) (f .before .before .part .ensures) (f .before .part2 .ensures) (f .part3 .ensures) (head-so x)
+    (x .before .before .before .put-row .ensures) (y .before .before .before .fill-position .ensures) (z .before .before .before .fill-gain .ensures)
+    (c .before .before .fill-language .ensures)
 
 pub fill-group-spec : {M : Type 1} → statement M
 fill-group-spec =

@@ -1,5 +1,5 @@
 -- `fill_language` stores the columns of a language that is there; of one that is not, it stores zeros.
-use mathlib.Core.Path.{refl, ap}
+use mathlib.Core.Path.{ap}
 use Rattle.wire.proofs.layouts.Straight.{size-there}
 use Rattle.wire.specs.Straight.{blanks}
 use Rattle.scene_groups.specs.Layout.{language}
@@ -31,14 +31,15 @@ same-length : tie.Need-same-length
 same-length c = search needs
 
 returns : tie.Need-returns
-returns c = let h = c .before .before .before .before .before .before .if1 .taken in put-there 23 4 language 3 h (language-there _ _ h refl) refl (ap languageRow (c .before .before .before .before .before .language-from .ensures)) (c .before .before .put-row .ensures)
+returns c =
+    search (put-there, language-there, ap languageRow (c .before .before .before .before .before .language-from .ensures))
 
 same-length-2 : tie.Need-same-length-2
 same-length-2 c = search needs
 
 returns-2 : tie.Need-returns-2
 unfolding blanks
-returns-2 c = put-none 23 3 language 3 (c .before .before .before .before .before .before .before .before .pre .1) (c .before .before .before .before .before .if1 .left) (c .before .before .put-row2 .ensures)
+returns-2 c = search put-none
 
 pub fill-language-spec : {M : Type 1} → statement M
 fill-language-spec =

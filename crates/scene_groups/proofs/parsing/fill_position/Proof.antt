@@ -1,5 +1,5 @@
 -- `fill_position` stores the columns of a position that is there; of one that is not, it stores zeros.
-use mathlib.Core.Path.{refl, ap}
+use mathlib.Core.Path.{ap}
 use Rattle.wire.proofs.layouts.Straight.{size-there}
 use Rattle.wire.specs.Straight.{blanks}
 use Rattle.scene_groups.specs.Layout.{position}
@@ -31,14 +31,15 @@ same-length : tie.Need-same-length
 same-length c = search needs
 
 returns : tie.Need-returns
-returns c = let h = c .before .before .before .before .before .before .if1 .taken in put-there 7 11 position 5 h (position-there _ _ h refl) refl (ap positionRow (c .before .before .before .before .before .position-from .ensures)) (c .before .before .put-row .ensures)
+returns c =
+    search (put-there, position-there, ap positionRow (c .before .before .before .before .before .position-from .ensures))
 
 same-length-2 : tie.Need-same-length-2
 same-length-2 c = search needs
 
 returns-2 : tie.Need-returns-2
 unfolding blanks
-returns-2 c = put-none 7 10 position 5 (c .before .before .before .before .before .before .before .before .pre .1) (c .before .before .before .before .before .if1 .left) (c .before .before .put-row2 .ensures)
+returns-2 c = search put-none
 
 pub fill-position-spec : {M : Type 1} → statement M
 fill-position-spec =

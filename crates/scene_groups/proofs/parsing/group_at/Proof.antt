@@ -149,11 +149,10 @@ add-t17 c =
 
 returns : tie.Need-returns
 returns c =
-    let q = c .before .before .before .before in
-    let f = flags (placed q) in
-    group-done (whole (start f)) (f .before .before .before .before .before .wide2 .ensures) (f .before .before .part .ensures) (f .before .part2 .ensures) (f .part3 .ensures)
-    (placed q .before .size .ensures) (placed q .size2 .ensures) (c .size3 .ensures)
-    (fields-so q) (c .before .before .before .position-at .ensures) (c .before .before .gain-at .ensures) (c .before .language-at .ensures)
+    let q = c .before .before .before .before in let f = flags (placed q) in group-done (whole (start f))
+    (f .before .before .before .before .before .wide2 .ensures) (f .before .before .part .ensures) (f .before .part2 .ensures) (f .part3 .ensures)
+    (placed q .before .size .ensures) (placed q .size2 .ensures) (c .size3 .ensures) (fields-so q) (c .before .before .before .position-at .ensures)
+    (c .before .before .gain-at .ensures) (c .before .language-at .ensures)
 
 pub group-at-spec : {M : Type 1} → statement M
 group-at-spec =

@@ -62,9 +62,7 @@ enum-told-2 : tie.Need-enum-told-2
 enum-told-2 c = search needs
 
 returns-2 : tie.Need-returns-2
-returns-2 c =
-    singly-cut _ (after-1 (c .before .before .before .before .before .before)) (c .before .before .before .before .wide .ensures) (c .before .before .before .singles .ensures .0)
-    (c .before .before .head2 .ensures) (ap endsOut (c .enum-told2 .given .1))
+returns-2 c = search (singly-cut, after-1, ap endsOut (c .enum-told2 .given .1))
 
 part-requires : tie.Need-part-requires
 part-requires c κs = search needs
@@ -73,7 +71,7 @@ bytes-end-requires : tie.Need-bytes-end-requires
 bytes-end-requires c κs = (after-2 (c .before .before) .inside, omega arith)
 
 returns-3 : tie.Need-returns-3
-returns-3 c = with-language (after-2 (c .before .before .before)) (flags-of (c .before .before .before)) (c .before .before .part .ensures) (c .before .if1 .taken) (c .bytes-end .ensures)
+returns-3 c = search (with-language, after-2, flags-of)
 
 returns-4 : tie.Need-returns-4
 returns-4 c = no-language (after-2 (c .before .before)) (flags-of (c .before .before)) (c .before .part .ensures) (c .if1 .left) refl

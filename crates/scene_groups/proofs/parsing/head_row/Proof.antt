@@ -27,8 +27,8 @@ part-requires-7 c κs = search needs
 
 returns : tie.Need-returns
 returns c =
-    λ i. c .before .before .before .before .before .before .part .ensures i ∷ c .before .before .before .before .before .part2 .ensures i ∷ c .before .before .before .before .part3 .ensures i
-    ∷ c .before .before .before .part4 .ensures i ∷ c .before .before .part5 .ensures i ∷ c .before .part6 .ensures i ∷ c .part7 .ensures i ∷ []
+    let z = c .before .before .before in
+    λ i. z .before .before .before .part .ensures i ∷ z .before .before .part2 .ensures i ∷ z .before .part3 .ensures i ∷ z .part4 .ensures i ∷ c .before .before .part5 .ensures i ∷ c .before .part6 .ensures i ∷ c .part7 .ensures i ∷ []
 
 pub head-row-spec : {M : Type 1} → statement M
 head-row-spec =

@@ -40,11 +40,13 @@ part-requires-3 c κs = search needs
 
 returns : tie.Need-returns
 returns c =
-    λ i. record {
+    let z = c .before .before .before in λ i. record {
       present = 1;
-      first = (c .before .before .before .before .before .before .part .ensures ∙ ap (part 0 8) (c .before .before .before .before .before .before .before .wide .ensures)) i;
-      second = (c .before .before .before .part2 .ensures ∙ ap (part 0 8) (c .before .before .before .before .wide2 .ensures)) i;
-      third = (c .part3 .ensures ∙ ap (part 0 8) (c .before .wide3 .ensures)) i;
+      first = (z .before .before .before .part .ensures ∙ ap (part 0 8)
+          (z .before .before .before .before .wide .ensures)) i;
+      second = (z .part2 .ensures ∙ ap (part 0 8) (z .before .wide2 .ensures)) i;
+      third =
+          (c .part3 .ensures ∙ ap (part 0 8) (c .before .wide3 .ensures)) i;
     }
 
 pub language-from-spec : {M : Type 1} → statement M

@@ -25,7 +25,9 @@ cast-result : tie.Need-cast-result
 cast-result c = search needs
 
 returns : tie.Need-returns
-returns c = rw (← c .before .part .ensures, ← c .part2 .ensures) (singles-so _ _ _ (rw (c .before .part .ensures) (part-below 2 1 _)) (rw (c .part2 .ensures) (part-below 1 1 _)) refl)
+returns c =
+    rw (← c .before .part .ensures, ← c .part2 .ensures) (singles-so _ _ _ (rw (c .before .part .ensures) (part-below 2 1 _))
+    (rw (c .part2 .ensures) (part-below 1 1 _)) refl)
 
 pub singles-spec : {M : Type 1} → statement M
 singles-spec =

@@ -1,6 +1,5 @@
 -- `tally_groups` sums the tallies of the rows: what is summed up, and what is left, come to the whole.
 use mathlib.Core.List.{[], _∷_}
-use native.Mathlib.Omega.{arith}
 use Rattle.wire.specs.Layout.{flat, of, tally}
 use Rattle.wire.proofs.reading.Loops.{first-done}
 use Rattle.wire.proofs.reading.Adding.{Adding, adding-start, adding-turn, adding-end}
@@ -25,7 +24,7 @@ group-zeros-requires : tie.Need-group-zeros-requires Inv-loop μ-loop
 group-zeros-requires c κs = search needs
 
 add-zeros : tie.Need-add-zeros Inv-loop μ-loop
-add-zeros c = omega (arith, c .group-zeros .ensures .1, c .before .before .before .loop .inv .small, c .before .before .loop-test .taken, c .before .before .before .before .before .pre .2)
+add-zeros c = search needs
 
 sub-left : tie.Need-sub-left Inv-loop μ-loop
 sub-left c = search needs
@@ -34,7 +33,7 @@ loop-less : tie.Need-loop-less Inv-loop μ-loop
 loop-less c = search needs
 
 loop-again : tie.Need-loop-again Inv-loop μ-loop
-loop-again c = adding-turn (flat 27 group) _ 21 _ _ _ (c .before .before .before .loop .inv) (c .before .before .loop-test .taken) (c .before .group-at .ensures) (c .group-zeros .ensures .0) (c .group-zeros .ensures .1)
+loop-again c = search adding-turn
 
 returns : tie.Need-returns Inv-loop μ-loop
 returns c = adding-end (flat 27 group) _ 21 _ _ _ (c .before .loop .inv) (c .loop-test .left)

@@ -96,7 +96,8 @@ slice-aggregate-check-all-3 : tie.Need-slice-aggregate-check-all-3
 slice-aggregate-check-all-3 c = search needs
 
 check-all-requires-3 : tie.Need-check-all-requires-3
-check-all-requires-3 c κs = let p = c .before .before .before in (omega (arith, step-2 p .near, step-1 (second p) .near, first (second p) .pre .0), search needs)
+check-all-requires-3 c κs =
+    let p = c .before .before .before in (search (needs, step-2 p, step-1 (second p), first (second p)), search needs)
 
 language-bytes-requires : tie.Need-language-bytes-requires
 language-bytes-requires c κs = search needs
@@ -105,7 +106,8 @@ slice-aggregate-check-all-4 : tie.Need-slice-aggregate-check-all-4
 slice-aggregate-check-all-4 c = search needs
 
 check-all-requires-4 : tie.Need-check-all-requires-4
-check-all-requires-4 c κs = let p = c .before .before .before in (omega (arith, step-3 p .near, step-2 (third p) .near, step-1 (second (third p)) .near, first (second (third p)) .pre .0), search needs)
+check-all-requires-4 c κs =
+    let p = c .before .before .before in (search (needs, step-3 p, step-2 (third p), step-1 (second (third p)), first (second (third p))), search needs)
 
 returns : tie.Need-returns
 returns c =

@@ -57,13 +57,19 @@ fill-all-requires : tie.Need-fill-all-requires
 fill-all-requires c κs = ready-part _ (c .before .head-bytes .ensures) (begin (c .before .before .before .before .before))
 
 fill-position-requires : tie.Need-fill-position-requires
-fill-position-requires c κs = let d = c .before .before .before in let s = first d .args in (first d .pre .0, fill-row (positionPart (positionOf (s .groups .now) (s .b))) (gainActs (cols (first d))) (step-1 d) refl)
+fill-position-requires c κs =
+    let d = c .before .before .before in let s = first d .args in
+    (first d .pre .0, fill-row (positionPart (positionOf (s .groups .now) (s .b))) (gainActs (cols (first d))) (step-1 d) refl)
 
 fill-gain-requires : tie.Need-fill-gain-requires
-fill-gain-requires c κs = let d = c .before .before .before in let s = first (second d) in (s .pre .0, fill-row (gainPart (gainOf (s .args .groups .now) (s .args .b))) (languageActs (cols s)) (step-2 d) refl)
+fill-gain-requires c κs =
+    let d = c .before .before .before in let s = first (second d) in
+    (s .pre .0, fill-row (gainPart (gainOf (s .args .groups .now) (s .args .b))) (languageActs (cols s)) (step-2 d) refl)
 
 fill-language-requires : tie.Need-fill-language-requires
-fill-language-requires c κs = let d = c .before .before .before in let s = first (second (third d)) in (s .pre .0, fill-row (languagePart (languageOf (s .args .groups .now) (s .args .b))) [] (step-3 d) refl)
+fill-language-requires c κs =
+    let d = c .before .before .before in let s = first (second (third d)) in
+    (s .pre .0, fill-row (languagePart (languageOf (s .args .groups .now) (s .args .b))) [] (step-3 d) refl)
 
 same-length : tie.Need-same-length
 same-length c = step-4 (c .before .before) .size

@@ -21,8 +21,8 @@ is-flag-requires-5 c κs = search needs
 
 returns : tie.Need-returns
 returns c =
-    let p = c .before .before in
-    λ i. p .before .before .is-flag .ensures i && (p .before .is-flag2 .ensures i && (p .is-flag3 .ensures i && (c .before .is-flag4 .ensures i && c .is-flag5 .ensures i)))
+    let p = c .before .before in λ i. p .before .before .is-flag .ensures i && (p .before .is-flag2 .ensures i &&
+    (p .is-flag3 .ensures i && (c .before .is-flag4 .ensures i && c .is-flag5 .ensures i)))
 
 pub flags-hold-spec : {M : Type 1} → statement M
 flags-hold-spec =

@@ -48,12 +48,13 @@ add-result-3 c = omega (arith, most c)
 
 returns : tie.Need-returns
 returns c =
-    let s = start c .args in
-    plain-so (groupCols (groupOf (s .groups .now) (s .b))) (sym (c .before .before .before .before .before .before .before .plain .ensures) ∙ c .before .before .before .before .before .before .if1 .taken)
-    (λ i. 3 + ((c .before .before .before .before .size .ensures ∙ ap fives (c .before .before .before .before .before .column .ensures)) i + ((c .before .before .size2 .ensures ∙ ap twos (c .before .before .before .column2 .ensures)) i + (c .size3 .ensures ∙ ap threes (c .before .column3 .ensures)) i)))
+    let z = c .before .before .before in let s = start c .args in plain-so (groupCols (groupOf (s .groups .now) (s .b)))
+    (sym (z .before .before .before .before .plain .ensures) ∙ z .before .before .before .if1 .taken)
+    (λ i. 3 + ((z .before .size .ensures ∙ ap fives (z .before .before .column .ensures)) i + ((c .before .before .size2 .ensures ∙ ap twos
+    (z .column2 .ensures)) i + (c .size3 .ensures ∙ ap threes (c .before .column3 .ensures)) i)))
 
 returns-2 : tie.Need-returns-2
-returns-2 c = let s = c .before .before .before .args in odd-so (groupCols (groupOf (s .groups .now) (s .b))) (sym (c .before .plain .ensures) ∙ c .if1 .left)
+returns-2 c = search (odd-so, sym (c .before .plain .ensures) ∙ c .if1 .left)
 
 pub full-bytes-spec : {M : Type 1} → statement M
 full-bytes-spec =

@@ -29,7 +29,9 @@ two-requires-2 : tie.Need-two-requires-2
 two-requires-2 c κs = search needs
 
 returns : tie.Need-returns
-returns c = more (rw (c .before .before .before .before .before .column .ensures) at (c .before .before .before .before .two .ensures)) (more (c .before .before .before .flags-byte .ensures) (more (rw (c .before .before .column2 .ensures, c .before .column3 .ensures) at (c .two2 .ensures)) none))
+returns c =
+    let z = c .before .before in more (rw (z .before .before .before .column .ensures) at (z .before .before .two .ensures))
+    (more (z .before .flags-byte .ensures) (more (rw (z .column2 .ensures, c .before .column3 .ensures) at (c .two2 .ensures)) none))
 
 pub head-bytes-spec : {M : Type 1} → statement M
 head-bytes-spec =

@@ -24,8 +24,8 @@ fits-all-requires c κs = search needs
 
 returns : tie.Need-returns
 returns c =
-    λ i. c .fits-all .ensures .of _ (c .before .before .head-bytes .ensures) i
-    && (c .before .before .before .before .before .position-fits .ensures i && (c .before .before .before .before .gain-fits .ensures i && c .before .before .before .language-fits .ensures i))
+    let z = c .before .before in λ i. c .fits-all .ensures .of _ (z .head-bytes .ensures) i && (z .before .before .before .position-fits .ensures i &&
+    (z .before .before .gain-fits .ensures i && z .before .language-fits .ensures i))
 
 pub plain-spec : {M : Type 1} → statement M
 plain-spec =

@@ -22,13 +22,13 @@ full-bytes-requires c κs = search needs
 
 returns : tie.Need-returns
 returns c =
-    let s = c .before .before .before .before .before .before .before .args in
-    bare-so (groupCols (groupOf (s .groups .now) (s .b))) (c .before .before .before .before .before .bare .ensures) (c .before .before .before .before .if1 .taken) (c .before .fits-all .ensures .of _ (c .before .before .before .head-bytes .ensures)) (c .if2 .taken)
+    let z = c .before .before .before in let s = z .before .before .before .before .args in bare-so (groupCols (groupOf (s .groups .now) (s .b)))
+    (z .before .before .bare .ensures) (z .before .if1 .taken) (c .before .fits-all .ensures .of _ (z .head-bytes .ensures)) (c .if2 .taken)
 
 returns-2 : tie.Need-returns-2
 returns-2 c =
-    let s = c .before .before .before .before .before .before .before .args in
-    bare-odd (groupCols (groupOf (s .groups .now) (s .b))) (c .before .before .before .before .before .bare .ensures) (c .before .before .before .before .if1 .taken) (c .before .fits-all .ensures .of _ (c .before .before .before .head-bytes .ensures)) (c .if2 .left)
+    let z = c .before .before .before in let s = z .before .before .before .before .args in bare-odd (groupCols (groupOf (s .groups .now) (s .b)))
+    (z .before .before .bare .ensures) (z .before .if1 .taken) (c .before .fits-all .ensures .of _ (z .head-bytes .ensures)) (c .if2 .left)
 
 returns-3 : tie.Need-returns-3
 returns-3 c = search needs

@@ -21,8 +21,8 @@ two-requires-5 c κs = search needs
 
 returns : tie.Need-returns
 returns c =
-    let p = c .before .before in
-    more (p .before .before .two .ensures) (more (p .before .two2 .ensures) (more (p .two3 .ensures) (more (c .before .two4 .ensures) (more (c .two5 .ensures) none))))
+    let p = c .before .before in more (p .before .before .two .ensures) (more (p .before .two2 .ensures)
+    (more (p .two3 .ensures) (more (c .before .two4 .ensures) (more (c .two5 .ensures) none))))
 
 pub position-bytes-spec : {M : Type 1} → statement M
 position-bytes-spec =

@@ -2,7 +2,6 @@
 use Prim.Native.Nat.{_+_}
 use mathlib.Core.Path.{sym, ap, _∙_}
 use mathlib.Core.List.{_∷_}
-use native.Mathlib.Omega.{arith}
 use Rattle.wire.specs.Bits.{part}
 use Rattle.scopes.specs.Rows.{idBytes, scopeRow, scopeAt}
 use Rattle.scopes.proofs.Taken.{scope-taken}
@@ -27,11 +26,14 @@ add-scope-of c = search needs
 
 scope-of-requires : tie.Need-scope-of-requires
 scope-of-requires c κs =
-    omega (arith, c .before .before .before .before .before .before .pre, ap (idBytes (c .before .before .before .before .before .before .args .types .now)) (c .before .part .ensures ∙ ap (part 0 2) (c .before .before .wide .ensures)))
+    search (needs, ap (idBytes (c .before .before .before .before .before .before .args .types .now)) (c .before .part .ensures ∙ ap (part 0 2) (c .before .before .wide .ensures)))
 
 returns : tie.Need-returns
 returns c =
-    (λ i. (c .before .part2 .ensures ∙ ap (part 2 6) (c .before .before .before .wide .ensures)) i ∷ scopeRow ((c .scope-of .ensures ∙ ap (scopeAt (c .before .before .before .before .before .before .before .args .types .now) (c .before .before .before .before .before .before .before .args .body .now) (c .before .before .before .before .before .before .before .args .at + 1)) (c .before .before .part .ensures ∙ ap (part 0 2) (c .before .before .before .wide .ensures))) i)) ∙ sym (scope-taken (c .before .before .before .before .before .before .before .args .types .now) (c .before .before .before .before .before .before .before .args .body .now) (c .before .before .before .before .before .before .before .args .at))
+    let z = c .before .before .before .before .before .before .before in let y = c .before .before in
+    (λ i. (c .before .part2 .ensures ∙ ap (part 2 6) (y .before .wide .ensures)) i ∷ scopeRow ((c .scope-of .ensures ∙ ap
+    (scopeAt (z .args .types .now) (z .args .body .now) (z .args .at + 1)) (y .part .ensures ∙ ap (part 0 2) (y .before .wide .ensures))) i)) ∙ sym
+    (scope-taken (z .args .types .now) (z .args .body .now) (z .args .at))
 
 pub scope-at-spec : {M : Type 1} → statement M
 scope-at-spec =

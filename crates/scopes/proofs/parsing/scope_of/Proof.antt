@@ -27,7 +27,9 @@ part-requires-2 c κs = search needs
 
 returns : tie.Need-returns
 returns c =
-    rw (← (c .before .before .before .before .before .case-of .ensures), eq-eqb _ _ (c .before .before .before .before .if1 .taken)) (λ i. Group (c .before .before .before .before .before .before .before .before .args .kind) ((c .before .part .ensures ∙ ap (part 7 1) (c .before .before .wide .ensures)) i) (record { 0 = (c .part2 .ensures ∙ ap (part 0 7) (c .before .before .wide .ensures)) i }))
+    let z = c .before .before in rw (← (z .before .before .before .case-of .ensures), eq-eqb _ _ (z .before .before .if1 .taken))
+    (λ i. Group (z .before .before .before .before .before .before .args .kind) ((c .before .part .ensures ∙ ap (part 7 1) (z .wide .ensures)) i)
+    (record { 0 = (c .part2 .ensures ∙ ap (part 0 7) (z .wide .ensures)) i }))
 
 shared-slice-read-wide-2 : tie.Need-shared-slice-read-wide-2
 shared-slice-read-wide-2 c =
@@ -44,7 +46,12 @@ part-requires-4 c κs = search needs
 
 returns-2 : tie.Need-returns-2
 returns-2 c =
-    rw (← (c .before .before .before .before .before .before .case-of .ensures), ne-eqb _ _ (c .before .before .before .before .before .if1 .left), eq-eqb _ _ (c .before .before .before .before .if2 .taken)) (λ i. Preset ((c .before .part3 .ensures ∙ ap (part 5 3) (c .before .before .wide2 .ensures)) i) (record { 0 = (c .part4 .ensures ∙ ap (part 0 5) (c .before .before .wide2 .ensures)) i }))
+    let z = c .before .before in
+    rw (← (z .before .before .before .before .case-of .ensures), ne-eqb _ _ (z .before .before .before .if1 .left), eq-eqb _ _ (z .before .before .if2 .taken))
+    (λ i. Preset ((c .before .part3 .ensures ∙ ap (part 5 3) (z .wide2 .ensures)) i) (record {
+      0 = (c .part4 .ensures ∙ ap (part 0 5)
+          (z .wide2 .ensures)) i;
+    }))
 
 returns-3 : tie.Need-returns-3
 returns-3 c =

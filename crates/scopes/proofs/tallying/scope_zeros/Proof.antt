@@ -1,5 +1,5 @@
 -- `scopes::tallying::scope_zeros` meets its contract.
-use mathlib.Core.Path.{refl, sym}
+use mathlib.Core.Path.{sym}
 use native.Mathlib.Omega.{arith}
 use native.Mathlib.Nat.{add-zero}
 use Rattle.scopes.proofs.Tallied.{told}
@@ -35,20 +35,16 @@ enum-told-2 : tie.Need-enum-told-2
 enum-told-2 c = search needs
 
 returns : tie.Need-returns
-returns c =
-    (told (c .before .before .before .args .reserved-type) (c .before .before .before .args .scope) (c .before .before .idle-bits .ensures) (c .enum-told .given .1) refl (sym (add-zero (c .before .before .idle-bits .result))), omega arith)
+returns c = (search (told, sym (add-zero (c .before .before .idle-bits .result))), omega arith)
 
 returns-2 : tie.Need-returns-2
-returns-2 c =
-    (told (c .before .before .before .before .before .args .reserved-type) (c .before .before .before .before .before .args .scope) (c .before .before .before .before .idle-bits .ensures) (c .before .before .scope .given .1) (c .idle-bits2 .ensures) refl, omega arith)
+returns-2 c = search (needs, told)
 
 returns-3 : tie.Need-returns-3
-returns-3 c =
-    (told (c .before .before .before .before .before .args .reserved-type) (c .before .before .before .before .before .args .scope) (c .before .before .before .before .idle-bits .ensures) (c .before .before .scope2 .given .1) (c .idle-bits3 .ensures) refl, omega arith)
+returns-3 c = search (needs, told)
 
 returns-4 : tie.Need-returns-4
-returns-4 c =
-    (told (c .before .before .before .args .reserved-type) (c .before .before .before .args .scope) (c .before .before .idle-bits .ensures) (c .enum-told2 .given .1) refl (sym (add-zero (c .before .before .idle-bits .result))), omega arith)
+returns-4 c = (search (told, sym (add-zero (c .before .before .idle-bits .result))), omega arith)
 
 pub scope-zeros-spec : {M : Type 1} → statement M
 scope-zeros-spec =

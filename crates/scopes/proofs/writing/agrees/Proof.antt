@@ -27,19 +27,23 @@ enum-told-4 c = search needs
 
 returns : tie.Need-returns
 returns c =
-    λ i. eqb (ap caseIs (sym (c .enum-told .given .1)) i) ((c .before .before .case-of .ensures ∙ ap (caseAt (c .before .before .before .before .before .args .types .now)) (c .before .before .before .kind-of .ensures)) i)
+    let z = c .before .before in λ i. eqb (ap caseIs (sym (c .enum-told .given .1)) i) ((z .case-of .ensures ∙ ap
+    (caseAt (z .before .before .before .args .types .now)) (z .before .kind-of .ensures)) i)
 
 returns-2 : tie.Need-returns-2
 returns-2 c =
-    λ i. eqb (ap caseIs (sym (c .enum-told2 .given .1)) i) ((c .before .before .case-of .ensures ∙ ap (caseAt (c .before .before .before .before .before .args .types .now)) (c .before .before .before .kind-of .ensures)) i)
+    let z = c .before .before in λ i. eqb (ap caseIs (sym (c .enum-told2 .given .1)) i) ((z .case-of .ensures ∙ ap
+    (caseAt (z .before .before .before .args .types .now)) (z .before .kind-of .ensures)) i)
 
 returns-3 : tie.Need-returns-3
 returns-3 c =
-    λ i. eqb (ap caseIs (sym (c .enum-told3 .given .1)) i) ((c .before .before .case-of .ensures ∙ ap (caseAt (c .before .before .before .before .before .args .types .now)) (c .before .before .before .kind-of .ensures)) i)
+    let z = c .before .before in λ i. eqb (ap caseIs (sym (c .enum-told3 .given .1)) i) ((z .case-of .ensures ∙ ap
+    (caseAt (z .before .before .before .args .types .now)) (z .before .kind-of .ensures)) i)
 
 returns-4 : tie.Need-returns-4
 returns-4 c =
-    λ i. eqb (ap caseIs (sym (c .enum-told4 .given .1)) i) ((c .before .before .case-of .ensures ∙ ap (caseAt (c .before .before .before .before .before .args .types .now)) (c .before .before .before .kind-of .ensures)) i)
+    let z = c .before .before in λ i. eqb (ap caseIs (sym (c .enum-told4 .given .1)) i) ((z .case-of .ensures ∙ ap
+    (caseAt (z .before .before .before .args .types .now)) (z .before .kind-of .ensures)) i)
 
 pub agrees-spec : {M : Type 1} → statement M
 agrees-spec =

@@ -11,8 +11,7 @@ slice-aggregate-fill-all : tie.Need-slice-aggregate-fill-all
 slice-aggregate-fill-all c = search needs
 
 fill-all-requires : tie.Need-fill-all-requires
-fill-all-requires c κs =
-    type-ready (c .before .before .before .before .args .reserved-type) (c .before .before .before .before .args .scope) (c .before .before .before .before .pre) (c .before .type-byte .ensures)
+fill-all-requires c κs = search type-ready
 
 has-id-requires : tie.Need-has-id-requires
 has-id-requires c κs = search needs
@@ -24,15 +23,13 @@ slice-aggregate-fill-all-2 : tie.Need-slice-aggregate-fill-all-2
 slice-aggregate-fill-all-2 c = search needs
 
 fill-all-requires-2 : tie.Need-fill-all-requires-2
-fill-all-requires-2 c κs =
-    id-ready (c .before .before .before .before .before .before .before .before .before .before .before .args .reserved-type) (c .before .before .before .before .before .before .before .before .before .before .before .args .scope) (c .before .before .before .before .before .before .before .before .before .before .before .pre) (c .before .before .before .before .before .before .before .before .type-byte .ensures) (c .before .before .before .before .before .before .fill-all .ensures) (c .before .before .has-id .ensures) (c .before .id-byte .ensures)
+fill-all-requires-2 c κs = search id-ready
 
 same-length : tie.Need-same-length
 same-length c = search needs
 
 returns : tie.Need-returns
-returns c =
-    scope-filled (c .before .before .before .before .before .before .before .before .before .before .before .before .before .before .args .reserved-type) (c .before .before .before .before .before .before .before .before .before .before .before .before .before .before .args .scope) (c .before .before .before .before .before .before .before .before .before .before .before .before .before .before .pre) (c .before .before .before .before .before .before .before .before .before .before .before .type-byte .ensures) (c .before .before .before .before .before .before .before .before .before .fill-all .ensures) (c .before .before .before .before .before .has-id .ensures) (c .before .before .before .before .id-byte .ensures) (c .before .before .fill-all2 .ensures)
+returns c = search scope-filled
 
 pub fill-scope-spec : {M : Type 1} → statement M
 fill-scope-spec =

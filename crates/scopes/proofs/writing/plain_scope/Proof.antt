@@ -27,15 +27,20 @@ has-id-requires c κs = search needs
 
 returns : tie.Need-returns
 returns c =
-    scope-plain (c .before .before .before .before .before .before .before .before .before .args .types .now) (c .before .before .before .before .before .before .before .before .before .args .reserved-type) (c .before .before .before .before .before .before .before .before .before .args .scope) (c .before .before .before .before .before .agrees .ensures) (c .before .before .before .before .before .before .before .type-byte .ensures) (c .before .before .before .before .before .before .id-byte .ensures) (c .before .before .before .fits-all .ensures) (c .before .before .if1 .taken) (ap (λ (b : Bool). pick b 2 1) (sym (c .if2 .taken) ∙ c .before .has-id .ensures))
+    let z = c .before .before .before .before .before in let y = z .before .before .before .before in
+    scope-plain (y .args .types .now) (y .args .reserved-type) (y .args .scope) (z .agrees .ensures) (z .before .before .type-byte .ensures)
+    (z .before .id-byte .ensures) (c .before .before .before .fits-all .ensures) (c .before .before .if1 .taken)
+    (ap (λ (b : Bool). pick b 2 1) (sym (c .if2 .taken) ∙ c .before .has-id .ensures))
 
 returns-2 : tie.Need-returns-2
 returns-2 c =
-    scope-plain (c .before .before .before .before .before .before .before .before .before .args .types .now) (c .before .before .before .before .before .before .before .before .before .args .reserved-type) (c .before .before .before .before .before .before .before .before .before .args .scope) (c .before .before .before .before .before .agrees .ensures) (c .before .before .before .before .before .before .before .type-byte .ensures) (c .before .before .before .before .before .before .id-byte .ensures) (c .before .before .before .fits-all .ensures) (c .before .before .if1 .taken) (ap (λ (b : Bool). pick b 2 1) (sym (c .if2 .left) ∙ c .before .has-id .ensures))
+    let z = c .before .before .before .before .before in let y = z .before .before .before .before in
+    scope-plain (y .args .types .now) (y .args .reserved-type) (y .args .scope) (z .agrees .ensures) (z .before .before .type-byte .ensures)
+    (z .before .id-byte .ensures) (c .before .before .before .fits-all .ensures) (c .before .before .if1 .taken)
+    (ap (λ (b : Bool). pick b 2 1) (sym (c .if2 .left) ∙ c .before .has-id .ensures))
 
 returns-3 : tie.Need-returns-3
-returns-3 c =
-    scope-odd (c .before .before .before .before .before .before .before .args .types .now) (c .before .before .before .before .before .before .before .args .reserved-type) (c .before .before .before .before .before .before .before .args .scope) (c .before .before .before .agrees .ensures) (c .before .before .before .before .before .type-byte .ensures) (c .before .before .before .before .id-byte .ensures) (c .before .fits-all .ensures) (c .if1 .left)
+returns-3 c = search scope-odd
 
 pub plain-scope-spec : {M : Type 1} → statement M
 plain-scope-spec =

@@ -36,7 +36,8 @@ mul-fill-pairs c = search needs
 
 fill-pairs-requires : tie.Need-fill-pairs-requires
 fill-pairs-requires c κs =
-    members-ask _ _ _ _ (c .before .before .before .before .before .before .before .before .pre) (c .before .before .wide2 .ensures) (c .before .members-of .ensures .0)
+    members-ask _ _ _ _ (c .before .before .before .before .before .before .before .before .pre) (c .before .before .wide2 .ensures)
+    (c .before .members-of .ensures .0)
 
 cast-last : tie.Need-cast-last
 cast-last c = search needs
@@ -49,7 +50,8 @@ cast-switch-group-from c = search needs
 
 shared-slice-read-wide-3 : tie.Need-shared-slice-read-wide-3
 shared-slice-read-wide-3 c =
-    default-there _ _ _ _ (c .before .before .before .before .before .before .before .before .before .before .before .before .pre) (c .before .before .before .before .before .before .wide2 .ensures) (c .before .before .before .before .before .members-of .ensures .0)
+    let z = c .before .before .before .before .before in default-there _ _ _ _ (z .before .before .before .before .before .before .before .pre)
+    (z .before .wide2 .ensures) (z .members-of .ensures .0)
 
 wide-requires-3 : tie.Need-wide-requires-3
 wide-requires-3 c κs = search needs
@@ -64,8 +66,7 @@ same-length : tie.Need-same-length
 same-length c = search needs
 
 returns : tie.Need-returns
-returns c =
-    switch-filled _ _ _ _ (c .before .before .before .before .before .before .before .before .before .before .before .before .before .before .pre) (c .before .before .before .before .before .before .before .before .wide2 .ensures) (c .before .before .before .before .before .before .before .members-of .ensures .0) (c .before .before .before .before .before .before .before .before .before .before .wide .ensures) (c .before .wide3 .ensures) (c .switch-group-from .ensures) (c .before .before .before .before .before .fill-pairs .ensures)
+returns c = search switch-filled
 
 pub fill-switch-group-spec : {M : Type 1} → statement M
 fill-switch-group-spec =

@@ -29,12 +29,12 @@ enum-told : tie.Need-enum-told Inv-loop μ-loop
 enum-told c = search needs
 
 returns : tie.Need-returns Inv-loop μ-loop
-returns c =
-    summed-as kids-summed (sum-cut switchGroups (λ x. length (x .1)) 32 _ _ _ (c .before .before .before .before .loop .inv) (c .before .before .before .loop-test .taken) (c .before .before .switch-group-rows .ensures) (c .enum-told .given .1))
+returns c = search (summed-as, kids-summed, sum-cut)
 
 add-rows : tie.Need-add-rows Inv-loop μ-loop
 add-rows c =
-    omega (arith, sum-small (c .before .before .before .switch-group-rows .ensures) (c .before .a .given .1), c .before .before .before .before .before .loop .inv .small, c .before .before .before .before .before .before .before .pre .1)
+    let z = c .before .before .before in
+    omega (arith, sum-small (z .switch-group-rows .ensures) (c .before .a .given .1), z .before .before .loop .inv .small, z .before .before .before .before .pre .1)
 
 sub-left : tie.Need-sub-left Inv-loop μ-loop
 sub-left c = search needs
@@ -43,8 +43,7 @@ loop-less : tie.Need-loop-less Inv-loop μ-loop
 loop-less c = search needs
 
 loop-again : tie.Need-loop-again Inv-loop μ-loop
-loop-again c =
-    sum-turn switchGroups (λ x. length (x .1)) 32 _ _ _ (c .before .before .before .before .before .loop .inv) (c .before .before .before .before .loop-test .taken) (c .before .before .before .switch-group-rows .ensures) (c .before .a .given .1)
+loop-again c = search sum-turn
 
 returns-2 : tie.Need-returns-2 Inv-loop μ-loop
 returns-2 c =

@@ -26,7 +26,8 @@ part-requires-7 c κs = search needs
 
 returns : tie.Need-returns
 returns c =
-    rw (c .part7 .ensures, c .before .part6 .ensures, c .before .before .part5 .ensures, c .before .before .before .part4 .ensures, c .before .before .before .before .part3 .ensures, c .before .before .before .before .before .part2 .ensures, c .before .before .before .before .before .before .part .ensures)
+    let z = c .before .before .before in
+    rw (c .part7 .ensures, c .before .part6 .ensures, c .before .before .part5 .ensures, z .part4 .ensures, z .before .part3 .ensures, z .before .before .part2 .ensures, z .before .before .before .part .ensures)
 
 pub switch-group-from-spec : {M : Type 1} → statement M
 switch-group-from-spec =

@@ -24,8 +24,7 @@ short-requires : tie.Need-short-requires
 short-requires c κs = search needs
 
 returns : tie.Need-returns
-returns c =
-    two-lack _ _ (c .before .before .before .before .before .pre) (c .before .before .before .head .ensures) (ap endsOut (c .before .enum-told .given .1)) (c .short .ensures)
+returns c = search (two-lack, ap endsOut (c .before .enum-told .given .1))
 
 add-wide : tie.Need-add-wide
 add-wide c = search needs
@@ -60,12 +59,10 @@ short-requires-2 : tie.Need-short-requires-2
 short-requires-2 c κs = search needs
 
 returns-2 : tie.Need-returns-2
-returns-2 c =
-    all-lack (after-1 (c .before .before .before .before .before .before .before)) (c .before .before .before .before .before .wide .ensures) (c .before .before .before .before .members-of .ensures) (c .before .before .before .head2 .ensures) (ap endsOut (c .before .enum-told2 .given .1)) (c .short2 .ensures)
+returns-2 c = search (all-lack, after-1, ap endsOut (c .before .enum-told2 .given .1))
 
 returns-3 : tie.Need-returns-3
-returns-3 c =
-    all-got (after-1 (c .before .before .before .before .before .before .before)) (c .before .before .before .before .before .wide .ensures) (c .before .before .before .before .members-of .ensures) (c .before .before .before .head2 .ensures) (ap endsOut (c .before .b .given .1))
+returns-3 c = search (all-got, after-1, ap endsOut (c .before .b .given .1))
 
 pub switch-group-rows-spec : {M : Type 1} → statement M
 switch-group-rows-spec =

@@ -35,15 +35,15 @@ add-begins : tie.Need-add-begins
 add-begins c = search needs
 
 pairs-zeros-requires : tie.Need-pairs-zeros-requires
-pairs-zeros-requires c κs =
-    (two-known _ _ (c .before .before .before .before .before .before .pre .0) (c .before .before .before .before .before .before .pre .1), members-known _ _ (c .before .before .before .before .before .before .pre .0) (c .before .before .before .before .before .before .pre .1) (c .before .wide2 .ensures) (c .members-of .ensures .0), c .members-of .ensures .1)
+pairs-zeros-requires c κs = search (needs, two-known, members-known)
 
 add-last : tie.Need-add-last
 add-last c = search needs
 
 shared-slice-read-wide-3 : tie.Need-shared-slice-read-wide-3
 shared-slice-read-wide-3 c =
-    default-known _ _ (c .before .before .before .before .before .before .before .before .pre .0) (c .before .before .before .before .before .before .before .before .pre .1) (c .before .before .before .wide2 .ensures) (c .before .before .members-of .ensures .0)
+    let z = c .before .before .before .before .before .before .before .before in default-known _ _ (z .pre .0) (z .pre .1)
+    (c .before .before .before .wide2 .ensures) (c .before .before .members-of .ensures .0)
 
 wide-requires-3 : tie.Need-wide-requires-3
 wide-requires-3 c κs = search needs
@@ -80,7 +80,8 @@ add-t14 c = search needs
 
 returns : tie.Need-returns
 returns c =
-    (switch-tallied _ _ (c .before .before .before .before .before .before .before .before .before .before .before .before .before .before .before .pre .0) (c .before .before .before .before .before .before .before .before .before .before .before .before .before .before .before .pre .1) (c .before .before .before .before .before .before .before .before .before .before .wide2 .ensures) (c .before .before .before .before .before .before .before .before .before .members-of .ensures .0) (c .before .before .before .before .before .before .before .before .before .before .before .before .wide .ensures) (c .before .before .before .before .before .before .wide3 .ensures) (λ i. (c .before .before .before .before .idle-bits .ensures ∙ ap (zeros 1) (c .before .before .before .before .before .part .ensures)) i + (c .before .before .idle-bits2 .ensures ∙ ap (zeros 3) (c .before .before .before .part2 .ensures)) i + (c .idle-bits3 .ensures ∙ ap (zeros 1) (c .before .part3 .ensures)) i) (c .before .before .before .before .before .before .before .before .pairs-zeros .ensures .0) refl, omega (arith, c .before .before .before .before .before .before .before .before .pairs-zeros .ensures .1, c .before .before .before .before .before .before .before .before .before .members-of .ensures .1))
+    let z = c .before .before .before .before .before .before .before .before in let y = c .before .before .before in
+    (switch-tallied _ _ (z .before .before .before .before .before .before .before .pre .0) (z .before .before .before .before .before .before .before .pre .1) (z .before .before .wide2 .ensures) (z .before .members-of .ensures .0) (z .before .before .before .before .wide .ensures) (y .before .before .before .wide3 .ensures) (λ i. (y .before .idle-bits .ensures ∙ ap (zeros 1) (y .before .before .part .ensures)) i + (c .before .before .idle-bits2 .ensures ∙ ap (zeros 3) (y .part2 .ensures)) i + (c .idle-bits3 .ensures ∙ ap (zeros 1) (c .before .part3 .ensures)) i) (z .pairs-zeros .ensures .0) refl, omega (arith, z .pairs-zeros .ensures .1, z .before .members-of .ensures .1))
 
 pub switch-group-zeros-spec : {M : Type 1} → statement M
 switch-group-zeros-spec =

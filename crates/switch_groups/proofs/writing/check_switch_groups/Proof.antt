@@ -22,7 +22,7 @@ check-switch-group-requires c κs = search needs
 
 returns : tie.Need-returns
 returns c =
-    plain-odd _ 35 _ _ (c .before .before .before .before .plain-rows .ensures) (c .before .before .if1 .taken) (rw (c .before .of-columns .ensures, row-acts) at (c .check-switch-group .ensures))
+    search (plain-odd, rw (c .before .of-columns .ensures, row-acts) at (c .check-switch-group .ensures))
 
 returns-2 : tie.Need-returns-2
 returns-2 c =

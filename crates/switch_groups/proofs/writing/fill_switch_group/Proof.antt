@@ -12,12 +12,12 @@ slice-aggregate-fill-all : tie.Need-slice-aggregate-fill-all
 slice-aggregate-fill-all c = search needs
 
 fill-all-requires : tie.Need-fill-all-requires
-fill-all-requires c κs =
-    head-ready (c .before .before .before .before .before .args .members .now) (c .before .before .before .before .before .args .g) (c .before .before .before .before .before .pre) (c .before .head-bytes .ensures)
+fill-all-requires c κs = search head-ready
 
 fill-pairs-requires : tie.Need-fill-pairs-requires
 fill-pairs-requires c κs =
-    (row-ready (c .before .before .before .before .before .before .before .before .before .args .members .now) (c .before .before .before .before .before .before .before .before .before .args .g) (c .before .before .before .before .before .before .before .before .before .pre) .inside, members-ready (c .before .before .before .before .before .before .before .before .before .args .members .now) (c .before .before .before .before .before .before .before .before .before .args .g) (c .before .before .before .before .before .before .before .before .before .pre) (c .before .before .before .before .before .head-bytes .ensures) (c .before .before .before .fill-all .ensures))
+    let z = c .before .before .before .before .before .before .before .before .before in
+    (row-ready (z .args .members .now) (z .args .g) (z .pre) .inside, members-ready (z .args .members .now) (z .args .g) (z .pre) (c .before .before .before .before .before .head-bytes .ensures) (c .before .before .before .fill-all .ensures))
 
 default-bytes-requires : tie.Need-default-bytes-requires
 default-bytes-requires c κs = search needs
@@ -26,16 +26,13 @@ slice-aggregate-fill-all-2 : tie.Need-slice-aggregate-fill-all-2
 slice-aggregate-fill-all-2 c = search needs
 
 fill-all-requires-2 : tie.Need-fill-all-requires-2
-fill-all-requires-2 c κs =
-    default-ready (c .before .before .before .before .before .before .before .before .before .before .before .before .before .before .before .args .members .now) (c .before .before .before .before .before .before .before .before .before .before .before .before .before .before .before .args .g) (c .before .before .before .before .before .before .before .before .before .before .before .before .before .before .before .pre) (c .before .before .before .before .before .before .before .before .before .before .before .head-bytes .ensures) (c .before .before .before .before .before .before .before .before .before .fill-all .ensures) (c .before .before .before .before .before .fill-pairs .ensures) (c .before .default-bytes .ensures)
+fill-all-requires-2 c κs = search default-ready
 
 same-length : tie.Need-same-length
-same-length c =
-    filled-long (row-filled (c .before .before .before .before .before .before .before .before .before .before .before .before .before .before .before .before .before .before .args .members .now) (c .before .before .before .before .before .before .before .before .before .before .before .before .before .before .before .before .before .before .args .g) (c .before .before .before .before .before .before .before .before .before .before .before .before .before .before .before .before .before .before .pre) (c .before .before .before .before .before .before .before .before .before .before .before .before .before .before .head-bytes .ensures) (c .before .before .before .before .before .before .before .before .before .before .before .before .fill-all .ensures) (c .before .before .before .before .before .before .before .before .fill-pairs .ensures) (c .before .before .before .before .default-bytes .ensures) (c .before .before .fill-all2 .ensures))
+same-length c = search (needs, filled-long, row-filled)
 
 returns : tie.Need-returns
-returns c =
-    row-filled (c .before .before .before .before .before .before .before .before .before .before .before .before .before .before .before .before .before .before .args .members .now) (c .before .before .before .before .before .before .before .before .before .before .before .before .before .before .before .before .before .before .args .g) (c .before .before .before .before .before .before .before .before .before .before .before .before .before .before .before .before .before .before .pre) (c .before .before .before .before .before .before .before .before .before .before .before .before .before .before .head-bytes .ensures) (c .before .before .before .before .before .before .before .before .before .before .before .before .fill-all .ensures) (c .before .before .before .before .before .before .before .before .fill-pairs .ensures) (c .before .before .before .before .default-bytes .ensures) (c .before .before .fill-all2 .ensures)
+returns c = search row-filled
 
 pub fill-switch-group-spec : {M : Type 1} → statement M
 fill-switch-group-spec =

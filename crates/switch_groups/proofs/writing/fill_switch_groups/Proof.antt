@@ -31,7 +31,8 @@ of-columns-requires c κs =
 
 fill-switch-group-requires : tie.Need-fill-switch-group-requires Inv-loop μ-loop
 fill-switch-group-requires c κs =
-    rw (c .before .of-columns .ensures, row-acts) (fill-row _ _ (c .before .before .before .loop .inv .1) (rows-turn _ _ _ (c .before .before .loop-test .taken)))
+    rw (c .before .of-columns .ensures, row-acts) (fill-row _ _ (c .before .before .before .loop .inv .1)
+    (rows-turn _ _ _ (c .before .before .loop-test .taken)))
 
 add-i : tie.Need-add-i Inv-loop μ-loop
 add-i c = search needs
@@ -42,7 +43,7 @@ loop-less c = search needs
 loop-again : tie.Need-loop-again Inv-loop μ-loop
 loop-again c =
     let w = rw (c .before .before .before .before .of-columns .ensures, row-acts) at (c .before .before .fill-switch-group .ensures) in
-    (omega arith, fill-turn (c .before .before .before .before .before .before .loop .inv .1) (rows-turn _ _ _ (c .before .before .before .before .before .loop-test .taken)) (filled-long w) w)
+    (omega arith, search (fill-turn, rows-turn, filled-long))
 
 same-length : tie.Need-same-length Inv-loop μ-loop
 same-length c =

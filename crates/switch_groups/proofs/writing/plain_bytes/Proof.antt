@@ -30,22 +30,22 @@ cast-count c = search needs
 
 plain-pairs-requires : tie.Need-plain-pairs-requires
 plain-pairs-requires c κs =
-    row-behind (c .before .before .before .before .before .before .before .before .before .before .before .args .members .now) (c .before .before .before .before .before .before .before .before .before .before .before .args .g) (c .before .before .before .before .before .before .before .before .before .in-table .ensures) (c .before .before .before .before .before .before .before .head-bytes .ensures) (c .before .before .before .before .before .fits-all .ensures) (c .before .before .before .before .default-bytes .ensures) (c .before .before .fits-all2 .ensures) (c .before .if1 .taken) .inside
+    let z = c .before .before .before .before .before .before .before in row-behind (z .before .before .before .before .args .members .now)
+    (z .before .before .before .before .args .g) (z .before .before .in-table .ensures) (z .head-bytes .ensures)
+    (c .before .before .before .before .before .fits-all .ensures) (c .before .before .before .before .default-bytes .ensures)
+    (c .before .before .fits-all2 .ensures) (c .before .if1 .taken) .inside
 
 add-result : tie.Need-add-result
 add-result c = search needs
 
 returns : tie.Need-returns
-returns c =
-    row-plain (c .before .before .before .before .before .before .before .before .before .before .before .before .before .args .members .now) (c .before .before .before .before .before .before .before .before .before .before .before .before .before .args .g) (c .before .before .before .before .before .before .before .before .before .before .before .in-table .ensures) (c .before .before .before .before .before .before .before .before .before .head-bytes .ensures) (c .before .before .before .before .before .before .before .fits-all .ensures) (c .before .before .before .before .before .before .default-bytes .ensures) (c .before .before .before .before .fits-all2 .ensures) (c .before .before .before .if1 .taken) (c .before .plain-pairs .ensures) (c .if2 .taken)
+returns c = search row-plain
 
 returns-2 : tie.Need-returns-2
-returns-2 c =
-    row-odd-kid (c .before .before .before .before .before .before .before .before .before .before .before .before .before .args .members .now) (c .before .before .before .before .before .before .before .before .before .before .before .before .before .args .g) (c .before .before .before .before .before .before .before .before .before .before .before .in-table .ensures) (c .before .before .before .before .before .before .before .before .before .head-bytes .ensures) (c .before .before .before .before .before .before .before .fits-all .ensures) (c .before .before .before .before .before .before .default-bytes .ensures) (c .before .before .before .before .fits-all2 .ensures) (c .before .before .before .if1 .taken) (c .before .plain-pairs .ensures) (c .if2 .left)
+returns-2 c = search row-odd-kid
 
 returns-3 : tie.Need-returns-3
-returns-3 c =
-    row-odd (c .before .before .before .before .before .before .before .before .before .before .args .members .now) (c .before .before .before .before .before .before .before .before .before .before .args .g) (c .before .before .before .before .before .before .before .before .in-table .ensures) (c .before .before .before .before .before .before .head-bytes .ensures) (c .before .before .before .before .fits-all .ensures) (c .before .before .before .default-bytes .ensures) (c .before .fits-all2 .ensures) (c .if1 .left)
+returns-3 c = search row-odd
 
 pub plain-bytes-spec : {M : Type 1} → statement M
 plain-bytes-spec =

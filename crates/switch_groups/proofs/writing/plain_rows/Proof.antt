@@ -31,11 +31,13 @@ plain-bytes-requires c κs = search needs
 
 returns : tie.Need-returns Inv-loop μ-loop
 returns c =
-    going-odd (c .before .before .before .before .loop .inv) (rw (c .before .before .of-columns .ensures, row-acts) at (c .before .plain-bytes .ensures)) (c .if1 .taken)
+    search (going-odd, rw (c .before .before .of-columns .ensures, row-acts) at (c .before .plain-bytes .ensures))
 
 add-bytes : tie.Need-add-bytes Inv-loop μ-loop
 add-bytes c =
-    let q = rw (c .before .before .of-columns .ensures, row-acts) at (c .before .plain-bytes .ensures) in let l = c .if1 .left in omega (arith, going-turn (c .before .before .before .before .loop .inv) q (c .before .before .before .loop-test .taken) (omega (arith, l)) .few, c .before .before .before .loop-test .taken, c .before .before .before .before .before .before .before .pre .1)
+    let z = c .before .before .before in let q = rw (c .before .before .of-columns .ensures, row-acts) at (c .before .plain-bytes .ensures) in
+    let l = c .if1 .left in
+    omega (arith, going-turn (z .before .loop .inv) q (z .loop-test .taken) (omega (arith, l)) .few, z .loop-test .taken, z .before .before .before .before .pre .1)
 
 add-i : tie.Need-add-i Inv-loop μ-loop
 add-i c = search needs
@@ -45,7 +47,8 @@ loop-less c = search needs
 
 loop-again : tie.Need-loop-again Inv-loop μ-loop
 loop-again c =
-    going-turn (c .before .before .before .before .loop .inv) (rw (c .before .before .of-columns .ensures, row-acts) at (c .before .plain-bytes .ensures)) (c .before .before .before .loop-test .taken) (let l = c .if1 .left in omega (arith, l))
+    let z = c .before .before in going-turn (z .before .before .loop .inv) (rw (z .of-columns .ensures, row-acts) at (c .before .plain-bytes .ensures))
+    (z .before .loop-test .taken) (let l = c .if1 .left in omega (arith, l))
 
 returns-2 : tie.Need-returns-2 Inv-loop μ-loop
 returns-2 c =

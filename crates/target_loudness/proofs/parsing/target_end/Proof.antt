@@ -48,7 +48,8 @@ head-requires-2 c κs =
 
 returns-2 : tie.Need-returns-2
 returns-2 c =
-    there-ends _ _ (c .before .before .before .before .before .before .before .before .if1 .taken) (one-more (after-1 (c .before .before .before .before)) (omega (arith, c .before .part .ensures, ap (part 0 1) (c .before .before .wide .ensures))) (c .head2 .ensures))
+    let z = c .before .before in there-ends _ _ (z .before .before .before .before .before .before .if1 .taken)
+    (one-more (after-1 (z .before .before)) (omega (arith, c .before .part .ensures, ap (part 0 1) (z .wide .ensures))) (c .head2 .ensures))
 
 returns-3 : tie.Need-returns-3
 returns-3 c =

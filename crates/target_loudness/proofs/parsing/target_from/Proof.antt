@@ -53,7 +53,9 @@ part-requires-6 c κs = search needs
 
 returns : tie.Need-returns
 returns c =
-    rw (c .before .before .before .before .before .part2 .ensures, c .before .before .before .before .part3 .ensures, c .before .before .part4 .ensures, c .before .part5 .ensures, c .part6 .ensures) (target-taken _ _ (c .before .before .before .before .before .before .before .before .before .wide .ensures) (ap (λ (k : ℕ). c .before .before .before .before .before .before .before .before .before .before .before .before .args .at + 1 + k) (c .before .before .before .before .before .before .before .before .part .ensures)) (c .before .before .before .before .before .before .wide2 .ensures) (rw (c .before .before .before .before .before .before .before .before .part .ensures) at (c .before .before .before .lower-at .ensures)))
+    let z = c .before .before .before .before in let y = z .before .before .before .before in
+    rw (z .before .part2 .ensures, z .part3 .ensures, c .before .before .part4 .ensures, c .before .part5 .ensures, c .part6 .ensures)
+    (search (target-taken, ap (λ (k : ℕ). y .before .before .before .before .args .at + 1 + k) (y .part .ensures), rw (y .part .ensures) at (c .before .before .before .lower-at .ensures)))
 
 pub target-from-spec : {M : Type 1} → statement M
 target-from-spec =

@@ -23,7 +23,7 @@ add-result c = search needs
 
 returns : tie.Need-returns
 returns c =
-    (rw (eq-eqb _ 1 (c .before .before .before .if1 .taken), c .part .ensures, c .before .wide .ensures), omega (arith, c .part .ensures, part-below 0 1 (c .before .wide .result)))
+    (rw (eq-eqb _ 1 (c .before .before .before .if1 .taken), c .part .ensures, c .before .wide .ensures), search (needs, part-below))
 
 returns-2 : tie.Need-returns-2
 returns-2 c =

@@ -23,7 +23,7 @@ add-result c = search needs
 
 returns : tie.Need-returns
 returns c =
-    (rw (eq-eqb _ 1 (c .before .before .before .if1 .taken)) (λ i. c .idle-bits2 .ensures i + (c .before .before .lower-zeros .ensures .0 i + c .before .idle-bits .ensures i)), omega (arith, c .before .before .lower-zeros .ensures .1))
+    (rw (eq-eqb _ 1 (c .before .before .before .if1 .taken)) (λ i. c .idle-bits2 .ensures i + (c .before .before .lower-zeros .ensures .0 i + c .before .idle-bits .ensures i)), search needs)
 
 returns-2 : tie.Need-returns-2
 returns-2 c =

@@ -45,11 +45,13 @@ slice-aggregate-check-all-3 c = search needs
 
 check-all-requires-3 : tie.Need-check-all-requires-3
 check-all-requires-3 c κs =
-    (omega (arith, step-1 (c .before .before .before .before .before .before) .near, step-2 (c .before .before) .near, c .before .before .before .before .before .before .before .before .before .before .before .pre), search needs)
+    (search (needs, step-1 (c .before .before .before .before .before .before), step-2 (c .before .before)), search needs)
 
 returns : tie.Need-returns
 returns c =
-    target-checked (targetCols (c .before .before .before .before .before .before .before .before .before .before .before .before .args .t)) (c .before .before .before .before .before .before .before .before .before .before .if1 .taken) (step-1 (c .before .before .before .before .before .before .before)) (step-2 (c .before .before .before)) (all-checked (c .before .before .depends-bytes .ensures) (c .check-all3 .ensures))
+    let z = c .before .before .before .before .before .before .before in target-checked (targetCols (z .before .before .before .before .before .args .t))
+    (z .before .before .before .if1 .taken) (step-1 z) (step-2 (c .before .before .before)) (all-checked (c .before .before .depends-bytes .ensures)
+    (c .check-all3 .ensures))
 
 returns-2 : tie.Need-returns-2
 returns-2 c =

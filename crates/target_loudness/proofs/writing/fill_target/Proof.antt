@@ -12,8 +12,7 @@ slice-aggregate-fill-all : tie.Need-slice-aggregate-fill-all
 slice-aggregate-fill-all c = search needs
 
 fill-all-requires : tie.Need-fill-all-requires
-fill-all-requires c κs =
-    upper-ready (targetCols (c .before .before .before .before .before .before .args .t)) (c .before .before .before .if1 .taken) (c .before .before .before .before .before .before .pre) (c .before .upper-bytes .ensures)
+fill-all-requires c κs = search upper-ready
 
 lower-bytes-requires : tie.Need-lower-bytes-requires
 lower-bytes-requires c κs = search needs
@@ -23,7 +22,7 @@ slice-aggregate-fill-all-2 c = search needs
 
 fill-all-requires-2 : tie.Need-fill-all-requires-2
 fill-all-requires-2 c κs =
-    lower-ready (targetCols (c .before .before .before .before .before .before .before .before .before .before .before .before .before .args .t)) (c .before .before .before .before .before .before .before .before .before .before .if1 .taken) (c .before .before .before .before .before .before .before .before .before .before .before .before .before .pre) (c .before .before .before .before .before .before .before .before .upper-bytes .ensures) (c .before .before .before .before .before .before .fill-all .ensures) (c .before .lower-bytes .ensures)
+    search (lower-ready (targetCols (c .before .before .before .before .before .before .before .before .before .before .before .before .before .args .t)))
 
 depends-bytes-requires : tie.Need-depends-bytes-requires
 depends-bytes-requires c κs = search needs
@@ -32,15 +31,13 @@ slice-aggregate-fill-all-3 : tie.Need-slice-aggregate-fill-all-3
 slice-aggregate-fill-all-3 c = search needs
 
 fill-all-requires-3 : tie.Need-fill-all-requires-3
-fill-all-requires-3 c κs =
-    depends-ready (targetCols (c .before .before .before .before .before .before .before .before .before .before .before .before .before .before .before .before .before .before .before .args .t)) (c .before .before .before .before .before .before .before .before .before .before .before .before .before .before .before .before .if1 .taken) (c .before .before .before .before .before .before .before .before .before .before .before .before .before .before .before .before .before .before .before .pre) (c .before .before .before .before .before .before .before .before .before .before .before .before .before .before .upper-bytes .ensures) (c .before .before .before .before .before .before .before .before .before .before .before .before .fill-all .ensures) (c .before .before .before .before .before .before .before .lower-bytes .ensures) (c .before .before .before .before .before .fill-all2 .ensures) (c .before .depends-bytes .ensures)
+fill-all-requires-3 c κs = search depends-ready
 
 same-length : tie.Need-same-length
 same-length c = search needs
 
 returns : tie.Need-returns
-returns c =
-    target-filled (targetCols (c .before .before .before .before .before .before .before .before .before .before .before .before .before .before .before .before .before .before .before .before .before .before .args .t)) (c .before .before .before .before .before .before .before .before .before .before .before .before .before .before .before .before .before .before .before .if1 .taken) (c .before .before .before .before .before .before .before .before .before .before .before .before .before .before .before .before .before .before .before .before .before .before .pre) (c .before .before .before .before .before .before .before .before .before .before .before .before .before .before .before .before .before .upper-bytes .ensures) (c .before .before .before .before .before .before .before .before .before .before .before .before .before .before .before .fill-all .ensures) (c .before .before .before .before .before .before .before .before .before .before .lower-bytes .ensures) (c .before .before .before .before .before .before .before .before .fill-all2 .ensures) (c .before .before .before .before .depends-bytes .ensures) (c .before .before .fill-all3 .ensures)
+returns c = search target-filled
 
 returns-2 : tie.Need-returns-2
 returns-2 c =

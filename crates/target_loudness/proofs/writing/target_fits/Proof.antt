@@ -34,11 +34,16 @@ fits-all-requires-3 c κs = search needs
 
 returns : tie.Need-returns
 returns c =
-    fits-with (targetCols (c .before .before .before .before .before .before .before .before .before .before .before .before .before .args .t)) (c .before .before .before .before .before .before .before .before .before .before .before .if1 .taken) (c .before .before .before .before .before .before .before .before .fits-all .ensures .of _ (c .before .before .before .before .before .before .before .before .before .before .upper-bytes .ensures)) (c .before .before .before .before .before .fits-all2 .ensures .of _ (c .before .before .before .before .before .before .before .depends-bytes .ensures)) (c .before .before .before .if2 .taken) (c .fits-all3 .ensures .of _ (c .before .before .lower-bytes .ensures))
+    let z = c .before .before .before .before .before .before .before in let y = c .before .before in let x = z .before .before .before in
+    fits-with (targetCols (x .before .before .before .args .t)) (x .before .if1 .taken) (z .before .fits-all .ensures .of _ (x .upper-bytes .ensures))
+    (y .before .before .before .fits-all2 .ensures .of _ (z .depends-bytes .ensures)) (y .before .if2 .taken)
+    (c .fits-all3 .ensures .of _ (y .lower-bytes .ensures))
 
 returns-2 : tie.Need-returns-2
 returns-2 c =
-    fits-without (targetCols (c .before .before .before .before .before .before .before .before .before .before .args .t)) (c .before .before .before .before .before .before .before .before .if1 .taken) (c .before .before .before .before .before .fits-all .ensures .of _ (c .before .before .before .before .before .before .before .upper-bytes .ensures)) (c .before .before .fits-all2 .ensures .of _ (c .before .before .before .before .depends-bytes .ensures)) (c .if2 .left)
+    let z = c .before .before .before .before in let y = z .before .before .before in fits-without (targetCols (y .before .before .before .args .t))
+    (y .before .if1 .taken) (z .before .fits-all .ensures .of _ (y .upper-bytes .ensures)) (c .before .before .fits-all2 .ensures .of _
+    (z .depends-bytes .ensures)) (c .if2 .left)
 
 returns-3 : tie.Need-returns-3
 returns-3 c =

@@ -74,8 +74,7 @@ shared-slice-read-t32 : tie.Need-shared-slice-read-t32
 shared-slice-read-t32 c = search needs
 
 returns-3 : tie.Need-returns-3
-returns-3 c =
-    rw (ne-eqb _ _ (c .before .before .before .before .if1 .left), ne-eqb _ _ (c .before .before .before .if2 .left), eq-eqb _ _ (c .before .before .if3 .taken)) refl
+returns-3 c = search (ne-eqb, eq-eqb)
 
 returns-4 : tie.Need-returns-4
 returns-4 c =
