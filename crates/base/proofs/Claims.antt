@@ -79,7 +79,8 @@ pub same-bytes : (body out : List ℕ) (m : MpegH3dAudio) → Every Byte body �
 same-bytes body out m b e l = claims .round .writes-what-is-read body [] m [] out b e l
 
 -- two bodies that agree in the Rust's struct and in the trailing bytes are one body
-pub one-body : (body body′ : List ℕ) (m m′ : MpegH3dAudio) → Every Byte body → Every Byte body′ → reading kind body [] ≡ leaves (accepted m) [] → reading kind body′ [] ≡ leaves (accepted m′) []
+pub one-body : (body body′ : List ℕ) (m m′ : MpegH3dAudio) → Every Byte body → Every Byte body′ → reading kind body [] ≡ leaves (accepted m) []
+    → reading kind body′ [] ≡ leaves (accepted m′) []
     → kind .value m [] body ≡ kind .value m′ [] body′ → trail kind m body ≡ trail kind m′ body′ → body ≡ body′
 one-body body body′ m m′ b b′ e e′ v t = claims .round .apart body body′ [] [] m m′ [] [] b b′ e e′ (λ i. record { value = v i; trailing = t i })
 
@@ -105,7 +106,8 @@ unfolding kind B.payloads
 inside body m e =
     let (s, j, q, a, h) = claims .bounded .payloads-inside body [] m [] e in
     let w = body-of body s j in
-    let l : kind .payloads (s .tree) ≡ payloads m = ap (λ (t : Tree). given (t .1 .0)) (w .is) ∙ given-so (w .listing) ∙ sym (ap payloads (sym q ∙ record-so body w (m .trailing))) in
+    let l : kind .payloads (s .tree) ≡ payloads m =
+    ap (λ (t : Tree). given (t .1 .0)) (w .is) ∙ given-so (w .listing) ∙ sym (ap payloads (sym q ∙ record-so body w (m .trailing))) in
     subst (λ (l : List Payload). Every (Within body) (m .trailing ∷ l)) l h
 
 -- offset and length of sets that are absent are not read
@@ -130,7 +132,8 @@ unfolding kind withPlace each
 flag body m e =
     let w = was kind body [] m [] e in
     let r = body-of body (w .sound) (w .judges) in
-    ap (λ (x : MpegH3dAudio). x .«compatible_sets» .present) (sym (w .top-is)) ∙ ap (λ (t : Tree). eqb (getD (t .0) 2 0) 1) (r .is) ∙ turned (part 6 1 (getD body 1 0)) (part-below 6 1 (getD body 1 0))
+    ap (λ (x : MpegH3dAudio). x .«compatible_sets» .present) (sym (w .top-is)) ∙ ap (λ (t : Tree). eqb (getD (t .0) 2 0) 1) (r .is)
+    ∙ turned (part 6 1 (getD body 1 0)) (part-below 6 1 (getD body 1 0))
 
 -- ---- the promises fix the answers themselves
 

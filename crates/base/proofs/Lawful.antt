@@ -33,7 +33,8 @@ kept m = go (m .«interactivity_enabled») (m .«compatible_sets» .present)
   where
     top : Bool → Bool → List ℕ
     top a b =
-        heedsOf body (of (m .«profile_level_indication» ∷ bit a ∷ bit b ∷ m .«compatible_sets» .indications .offset ∷ m .«compatible_sets» .indications .length ∷ m .«reserved_flags» ∷ m .«reserved_layout» ∷ m .«reference_channel_layout» ∷ []))
+        heedsOf body
+        (of (m .«profile_level_indication» ∷ bit a ∷ bit b ∷ m .«compatible_sets» .indications .offset ∷ m .«compatible_sets» .indications .length ∷ m .«reserved_flags» ∷ m .«reserved_layout» ∷ m .«reference_channel_layout» ∷ []))
 
     go : (a b : Bool) → fields (baseOf (top a b) (m .trailing)) ≡ top a b
     go true true = refl

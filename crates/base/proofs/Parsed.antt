@@ -37,7 +37,8 @@ use Rattle.base.specs.Contract.{sized}
 use Rattle.base.proofs.Mirrored.{turned, mirrored}
 
 -- a program whose last part is this one ends where that ends
-end-last : {A B : Type 0} (p : Prog A) (g : A → B) {whole-byte : Prog B} {s : List ℕ} {start at : ℕ} → From whole-byte s start (p >>= λ a. ret (g a)) at → endOf (run p s at) ≡ endOf (run whole-byte s start)
+end-last : {A B : Type 0} (p : Prog A) (g : A → B) {whole-byte : Prog B} {s : List ℕ} {start at : ℕ} → From whole-byte s start (p >>= λ a. ret (g a)) at
+    → endOf (run p s at) ≡ endOf (run whole-byte s start)
 end-last {A} p g {whole-byte} {s} {start} {at} w = go (run p s at) refl
   where
     go : (o : Out A) → run p s at ≡ o → endOf o ≡ endOf (run whole-byte s start)
@@ -71,7 +72,8 @@ unfolding sets run
 sets-absent s = refl
 
 -- they are there as the flag says
-sets-flag : (a : Bool) (s : List ℕ) (at : ℕ) {x : Option Payload} {k : ℕ} → run (sets a) s at ≡ done x k → setsOf x ≡ record { present = not a; indications = span (offsetOf x) (lengthOf x) }
+sets-flag : (a : Bool) (s : List ℕ) (at : ℕ) {x : Option Payload} {k : ℕ} → run (sets a) s at ≡ done x k
+    → setsOf x ≡ record { present = not a; indications = span (offsetOf x) (lengthOf x) }
 unfolding sets
 sets-flag true s at e = rw (← run-ret _ s at e .0) refl
 sets-flag false s at e =
@@ -129,7 +131,9 @@ unfolding kind withPlace each
 record-so s w r =
     let x = w .listing in
     let e = turned (flagOf s) (part-below 6 1 (getD s 1 0)) in
-    ap (λ (t : Tree). kind .top t r) (w .is) ∙ ap (λ (y : CompatibleSets). recordOf s (part 0 8 (getD s 0 0)) y r) ((λ i. record { present = e i; indications = span (offsetOf x) (lengthOf x) }) ∙ sym (sets-flag _ s 3 (w .reads)))
+    ap (λ (t : Tree). kind .top t r) (w .is)
+    ∙ ap (λ (y : CompatibleSets). recordOf s (part 0 8 (getD s 0 0)) y r)
+    ((λ i. record { present = e i; indications = span (offsetOf x) (lengthOf x) }) ∙ sym (sets-flag _ s 3 (w .reads)))
 
 -- the walk along a body says what it needs
 pub sizes-are : (t : Tree) (k : ℕ) → sizes kind (record { tree = t; before = k }) ≡ sized k
@@ -172,7 +176,8 @@ module _ (body : List ℕ) {k : ℕ} (m : Measures kind body (accepted (sized k)
   pub sets-sound : (2 < length body) × (isDone (run (sets (eqb (flagOf body) 1)) body 3) ≡ true)
   sets-sound = (was-read .inside, ap isDone (was-read .reads))
 
-  pub tops-are : {l : CompatibleSets} {p : Payload} {t : MpegH3dAudio} (x : ℕ) → getD body 0 0 < 256 → done l x ≡ mapOut setsOf (run (sets (eqb (flagOf body) 1)) body 3) → p ≡ tail k body
+  pub tops-are : {l : CompatibleSets} {p : Payload} {t : MpegH3dAudio} (x : ℕ) → getD body 0 0 < 256 → done l x ≡ mapOut setsOf (run (sets (eqb (flagOf body) 1)) body 3)
+      → p ≡ tail k body
       → t ≡ recordOf body (getD body 0 0) l p → Tops kind body t
   tops-are {l} {p} {t} x h f g d =
       let z : done l x ≡ done (setsOf (was-read .listing)) (knows .sound .before) = f ∙ ap (mapOut setsOf) (was-read .reads) in

@@ -37,7 +37,9 @@ detail-sizes : (f : Columns) (s : List ℕ) (at : ℕ) → spans detail f s at �
 unfolding took putsAt put split total sizes ones steered all has free flatten
 detail-sizes f s at =
     let b = getD s at 0 in
-    ap (λ (l : List ℕ). 1 ∷ l) (sizes-so (5 ∷ 7 ∷ []) (optional 5 gain ▹ optional 7 position ▹ end) refl refl (putsAt (flagCells ∷ []) s at 0 f) s at 1 ∙ flagged (part 0 1 b) (part 2 1 b) (part-below 0 1 b) (part-below 2 1 b)) ∙ sym (ones-more (behind b))
+    ap (λ (l : List ℕ). 1 ∷ l)
+    (sizes-so (5 ∷ 7 ∷ []) (optional 5 gain ▹ optional 7 position ▹ end) refl refl (putsAt (flagCells ∷ []) s at 0 f) s at 1 ∙ flagged (part 0 1 b) (part 2 1 b) (part-below 0 1 b) (part-below 2 1 b))
+    ∙ sym (ones-more (behind b))
 
 -- the sizes behind the first byte
 abbrev pub rest : List ℕ → ℕ → List ℕ
@@ -112,7 +114,8 @@ module _ (s : List ℕ) (at : ℕ) {b m : ℕ} (e : b ≡ getD s at 0) (a : m �
   parts-taken : (f : Columns) → taken detail f s at ≡ with-all f m
   unfolding took putsAt put split total
   parts-taken f =
-      let q : m ≡ at + 1 + total (pick (eqb (headed f 5) 1) (took gain (headed f) s (at + 1) 0) (headed f, []) .1) = a ∙ ap (λ (b : ℕ). at + 1 + part 2 1 b) e ∙ ap (λ (k : ℕ). at + 1 + k) (sym (spans-long (headed f 5) (part-below 2 1 (getD s at 0)) (headed f) s (at + 1))) in
+      let q : m ≡ at + 1 + total (pick (eqb (headed f 5) 1) (took gain (headed f) s (at + 1) 0) (headed f, []) .1) =
+      a ∙ ap (λ (b : ℕ). at + 1 + part 2 1 b) e ∙ ap (λ (k : ℕ). at + 1 + k) (sym (spans-long (headed f 5) (part-below 2 1 (getD s at 0)) (headed f) s (at + 1))) in
       ap (with-all f) (sym q)
 
   pub detail-taken : {g p : List ℕ} → PartTaken 5 2 gain (part 2 1 b) (blanks 1) s (at + 1) g → PartTaken 7 6 position (part 0 1 b) (blanks 5) s m p
@@ -124,7 +127,9 @@ module _ (s : List ℕ) (at : ℕ) {b m : ℕ} (e : b ≡ getD s at 0) (a : m �
         let f₁ = with-gain f in
         let f₂ = with-all f m in
         let v : f 1 ≡ 1 = flag-is 1 11 f z in
-        let h : 1 ∷ part 4 4 b ∷ part 3 1 b ∷ part 1 1 b ∷ [] ≡ each f₂ 1 4 = (λ t. sym v t ∷ part 4 4 (e t) ∷ part 3 1 (e t) ∷ part 1 1 (e t) ∷ []) ∙ (sym (each-off (optional 7 position end) f₁ s m 0 1 4 refl ∙ each-off (optional 5 gain end) f₀ s (at + 1) 0 1 4 refl)) in
+        let h : 1 ∷ part 4 4 b ∷ part 3 1 b ∷ part 1 1 b ∷ [] ≡ each f₂ 1 4 =
+        (λ t. sym v t ∷ part 4 4 (e t) ∷ part 3 1 (e t) ∷ part 1 1 (e t) ∷ [])
+        ∙ (sym (each-off (optional 7 position end) f₁ s m 0 1 4 refl ∙ each-off (optional 5 gain end) f₀ s (at + 1) 0 1 4 refl)) in
         let w : f 6 ≡ 0 = ap (λ (l : List ℕ). getD l 5 0) z in
         let i : g ≡ each f₂ 5 2 = x .of f₀ (rw (e, w)) ∙ sym (each-off (optional 7 position end) f₁ s m 0 5 2 refl) in
         let o : each f 8 5 ≡ 0 ∷ 0 ∷ 0 ∷ 0 ∷ 0 ∷ [] = ap (drop 7) z in
@@ -132,7 +137,8 @@ module _ (s : List ℕ) (at : ℕ) {b m : ℕ} (e : b ≡ getD s at 0) (a : m �
         (λ t. h t ++ (i t ++ j t)) ∙ ap (λ (q : Columns). each q 1 12) (sym (parts-taken f)) ∙ part-there 1 11 detail f s at refl z;
   }
 
-pub condition-taken : (s : List ℕ) (at : ℕ) {b v : ℕ} {d : List ℕ} → b ≡ getD s at 0 → v ≡ part 0 1 b → PartTaken 1 12 detail v (blanks 11) s (at + 1) d → part 1 7 b ∷ d ≡ row 13 (taken condition blank s at)
+pub condition-taken : (s : List ℕ) (at : ℕ) {b v : ℕ} {d : List ℕ} → b ≡ getD s at 0 → v ≡ part 0 1 b → PartTaken 1 12 detail v (blanks 11) s (at + 1) d
+    → part 1 7 b ∷ d ≡ row 13 (taken condition blank s at)
 unfolding condition took putsAt put split total all has free flatten each blanks
 condition-taken s at {b} {v} {d} e q x =
     let f = putsAt (idCells ∷ []) s at 0 blank in
@@ -152,7 +158,8 @@ module _ (s : List ℕ) (at : ℕ) {b v : ℕ} (e : b ≡ getD s at 0) (q : v �
   long-without t = condition-long s at ∙ ap (λ (x : Bool). 1 + pick x (1 + behind (getD s (at + 1) 0)) 0) (ne-eqb _ 1 (λ z. t (sym flag-so ∙ z)))
 
   module _ (w : Whole 13 condition s at) {i : ℕ} (r : i ≡ part 1 7 b) where
-    pub condition-with : v ≡ 1 → {d : List ℕ} {k : ℕ} → PartTaken 1 12 detail 1 (blanks 11) s (at + 1) d → k ≡ behind (getD s (at + 1) 0) → done (i ∷ d) (at + 2 + k) ≡ run (flat 13 condition) s at
+    pub condition-with : v ≡ 1 → {d : List ℕ} {k : ℕ} → PartTaken 1 12 detail 1 (blanks 11) s (at + 1) d → k ≡ behind (getD s (at + 1) 0)
+        → done (i ∷ d) (at + 2 + k) ≡ run (flat 13 condition) s at
     condition-with t {d} {k} x h =
         let n : at + 2 + k ≡ at + total (spans condition blank s at) = omega (arith, long-with t, h) in
         let z : i ∷ d ≡ row 13 (taken condition blank s at) = ap (λ (i : ℕ). i ∷ d) r ∙ condition-taken s at e q (rw t x) in
@@ -161,5 +168,6 @@ module _ (s : List ℕ) (at : ℕ) {b v : ℕ} (e : b ≡ getD s at 0) (q : v �
     pub condition-without : (v ≡ 1 → ⊥) → done (i ∷ 0 ∷ blanks 11) (at + 1) ≡ run (flat 13 condition) s at
     condition-without t =
         let n : at + 1 ≡ at + total (spans condition blank s at) = omega (arith, long-without t) in
-        let z : i ∷ 0 ∷ blanks 11 ≡ row 13 (taken condition blank s at) = ap (λ (i : ℕ). i ∷ 0 ∷ blanks 11) r ∙ condition-taken s at e q (taken-none 1 11 detail s (at + 1) (omega (arith, part-below 0 1 b, q)) t) in
+        let z : i ∷ 0 ∷ blanks 11 ≡ row 13 (taken condition blank s at) =
+        ap (λ (i : ℕ). i ∷ 0 ∷ blanks 11) r ∙ condition-taken s at e q (taken-none 1 11 detail s (at + 1) (omega (arith, part-below 0 1 b, q)) t) in
         (λ j. done (z j) (n j)) ∙ sym (w .is)

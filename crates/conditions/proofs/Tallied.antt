@@ -16,7 +16,8 @@ pub condition-tally : (g : Columns) → tally (condition ∷ []) g ≡ pick (eqb
 unfolding tally cells shown condition sum flatten
 condition-tally g = simp (zero-add) (go (eqb (g 1) 1) (eqb (g 5) 1) (eqb (g 7) 1))
   where
-    go : (x y z : Bool) → sum (λ (c : Cell). idle c (g (column c))) (pick x (flagCells ++ (pick y (flatten gainCells) [] ++ (pick z (flatten positionCells) [] ++ []))) [] ++ []) ≡ pick x (zeros 4 (g 2) + pick z (zeros 2 (g 9) + zeros 4 (g 11)) 0) 0
+    go : (x y z : Bool)
+        → sum (λ (c : Cell). idle c (g (column c))) (pick x (flagCells ++ (pick y (flatten gainCells) [] ++ (pick z (flatten positionCells) [] ++ []))) [] ++ []) ≡ pick x (zeros 4 (g 2) + pick z (zeros 2 (g 9) + zeros 4 (g 11)) 0) 0
     go true true true = simp (zero-add, add-zero)
     go true true false = simp (zero-add, add-zero)
     go true false true = simp (zero-add, add-zero)

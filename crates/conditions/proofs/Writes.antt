@@ -37,7 +37,8 @@ condition-acts g =
     λ i. demand F.Field (flags (eqb (g 1) 1) (eqb (g 5) 1) (eqb (g 7) 1) i) ∷ demand F.Empty (counts (eqb (g 1) 1) (eqb (g 5) 1) (eqb (g 7) 1) i)
     ∷ (matches-loose condition g (unfold loose in refl) i ++ (map byte (idBytes g) ++ (when (eqb (g 1) 1) (detailActs g) ++ [])))
   where
-    flags : (x y z : Bool) → isFlag (g 1) && every flagged g (pick x (flagCells ++ (pick y (flatten gainCells) [] ++ (pick z (flatten positionCells) [] ++ []))) [] ++ []) ≡ isFlag (g 1) && pick x (isFlag (g 3) && (isFlag (g 5) && (isFlag (g 4) && isFlag (g 7)))) true
+    flags : (x y z : Bool)
+        → isFlag (g 1) && every flagged g (pick x (flagCells ++ (pick y (flatten gainCells) [] ++ (pick z (flatten positionCells) [] ++ []))) [] ++ []) ≡ isFlag (g 1) && pick x (isFlag (g 3) && (isFlag (g 5) && (isFlag (g 4) && isFlag (g 7)))) true
     flags true true true = rw (and-true (isFlag (g 7)))
     flags true true false = rw (and-true (isFlag (g 7)))
     flags true false true = rw (and-true (isFlag (g 7)))
@@ -63,10 +64,12 @@ fill-there {all} a {v} {n₀} {n} {l} {o} t w = subst (λ (q : List Act). Fillin
 
 -- ---- the quick test
 
-three-clean : (y z : Bool) (a b c : List (List Field)) → clean (map byte a ++ (when y (map byte b) ++ (when z (map byte c) ++ []))) ≡ fitAll a && (pick y (fitAll b) true && pick z (fitAll c) true)
+three-clean : (y z : Bool) (a b c : List (List Field))
+    → clean (map byte a ++ (when y (map byte b) ++ (when z (map byte c) ++ []))) ≡ fitAll a && (pick y (fitAll b) true && pick z (fitAll c) true)
 unfolding clean
 three-clean y z a b c =
-    clean-append (map byte a) (when y (map byte b) ++ (when z (map byte c) ++ [])) ∙ (λ i. clean-all a i && (clean-append (when y (map byte b)) (when z (map byte c) ++ []) ∙ (λ i. clean-when y b i && (clean-append (when z (map byte c)) [] ∙ and-true (clean (when z (map byte c))) ∙ clean-when z c) i)) i)
+    clean-append (map byte a) (when y (map byte b) ++ (when z (map byte c) ++ []))
+    ∙ (λ i. clean-all a i && (clean-append (when y (map byte b)) (when z (map byte c) ++ []) ∙ (λ i. clean-when y b i && (clean-append (when z (map byte c)) [] ∙ and-true (clean (when z (map byte c))) ∙ clean-when z c) i)) i)
 
 abbrev plainFits : Columns → Bool
 plainFits g = fitAll (idBytes g) && pick (eqb (g 1) 1) (detailFits g) true
@@ -96,7 +99,8 @@ condition-clean : (g : Columns) → clean (flatActs condition g) ≡ plainFits g
 unfolding clean
 condition-clean g =
     ap clean (condition-acts g)
-    ∙ ap (λ (b : Bool). flagsOf g && b) (clean-append (map byte (idBytes g)) (when (eqb (g 1) 1) (detailActs g) ++ []) ∙ λ i. clean-all (idBytes g) i && (ap clean (append-nil (when (eqb (g 1) 1) (detailActs g))) ∙ go (eqb (g 1) 1)) i)
+    ∙ ap (λ (b : Bool). flagsOf g && b)
+    (clean-append (map byte (idBytes g)) (when (eqb (g 1) 1) (detailActs g) ++ []) ∙ λ i. clean-all (idBytes g) i && (ap clean (append-nil (when (eqb (g 1) 1) (detailActs g))) ∙ go (eqb (g 1) 1)) i)
     ∙ absorb (flagsOf g) (plainFits g) (flags-too g)
   where
     go : (x : Bool) → clean (when x (detailActs g)) ≡ pick x (detailFits g) true
@@ -107,7 +111,8 @@ condition-bytes : (g : Columns) → length (bytes (flatActs condition g)) ≡ 1 
 unfolding bytes
 condition-bytes g = ap (λ (l : List Act). length (bytes l)) (condition-acts g) ∙ go (eqb (g 1) 1) (eqb (g 5) 1) (eqb (g 7) 1)
   where
-    go : (x y z : Bool) → length (bytes (map byte (idBytes g) ++ (when x (map byte (fieldsOf g (flagCells ∷ [])) ++ (when y (map byte (fieldsOf g gainCells)) ++ (when z (map byte (fieldsOf g positionCells)) ++ []))) ++ []))) ≡ 1 + pick x (1 + (pick y 1 0 + pick z 3 0)) 0
+    go : (x y z : Bool)
+        → length (bytes (map byte (idBytes g) ++ (when x (map byte (fieldsOf g (flagCells ∷ [])) ++ (when y (map byte (fieldsOf g gainCells)) ++ (when z (map byte (fieldsOf g positionCells)) ++ []))) ++ []))) ≡ 1 + pick x (1 + (pick y 1 0 + pick z 3 0)) 0
     go true true true = refl
     go true true false = refl
     go true false true = refl
@@ -145,7 +150,8 @@ module _ (g : Columns) where
             go′ false q e = absurd (let z : _≡_ {A = ℕ} 0 1 = cc q in omega arith)
 
 -- what the tests of its parts say of a detail
-pub long-so : (g : Columns) {x y z : Bool} → fitAll (fieldsOf g (flagCells ∷ [])) ≡ x → pick (eqb (g 5) 1) (fitAll (fieldsOf g gainCells)) true ≡ y → pick (eqb (g 7) 1) (fitAll (fieldsOf g positionCells)) true ≡ z → pick (x && (y && z)) (2 + (g 5 + g 7 * 3)) 0 ≡ detailLong g
+pub long-so : (g : Columns) {x y z : Bool} → fitAll (fieldsOf g (flagCells ∷ [])) ≡ x → pick (eqb (g 5) 1) (fitAll (fieldsOf g gainCells)) true ≡ y
+    → pick (eqb (g 7) 1) (fitAll (fieldsOf g positionCells)) true ≡ z → pick (x && (y && z)) (2 + (g 5 + g 7 * 3)) 0 ≡ detailLong g
 long-so g e₁ e₂ e₃ = sym (λ i. pick (e₁ i && (e₂ i && e₃ i)) (2 + (g 5 + g 7 * 3)) 0)
 
 -- the byte as a number tells
@@ -190,18 +196,22 @@ gainActs g = when (eqb (g 5) 1) (map byte (fieldsOf g gainCells))
 abbrev positionActs : Columns → List Act
 positionActs g = when (eqb (g 7) 1) (map byte (fieldsOf g positionCells))
 
-pub row-begun : (g : Columns) {n₀ : ℕ} {l : List ℕ} → Ready (flatActs condition g) n₀ l → Filling (plainActs g) (map byte (idBytes g) ++ (when (eqb (g 1) 1) (detailActs g) ++ [])) n₀ l n₀ l
+pub row-begun : (g : Columns) {n₀ : ℕ} {l : List ℕ} → Ready (flatActs condition g) n₀ l
+    → Filling (plainActs g) (map byte (idBytes g) ++ (when (eqb (g 1) 1) (detailActs g) ++ [])) n₀ l n₀ l
 row-begun g w = fill-demand (fill-demand (fill-start (rw (condition-acts g) at w)))
 
 module _ (g : Columns) {n₀ n : ℕ} {l o : List ℕ} where
-  pub flags-filled : {v : ℕ} → Spells (map (fieldOf g) flagCells) v → Ready (detailActs g) n₀ l → FillsAll true (v ∷ []) n₀ l n o → Filling (detailActs g) (gainActs g ++ (positionActs g ++ [])) n₀ l n o
+  pub flags-filled : {v : ℕ} → Spells (map (fieldOf g) flagCells) v → Ready (detailActs g) n₀ l → FillsAll true (v ∷ []) n₀ l n o
+      → Filling (detailActs g) (gainActs g ++ (positionActs g ++ [])) n₀ l n o
   flags-filled s w f = fill-part _ (more s none) (fill-start w) f
 
-  pub gain-filled : {r : ℕ} {o′ : List ℕ} → Filling (detailActs g) (gainActs g ++ (positionActs g ++ [])) n₀ l n o → Filled (gainActs g) n o r o′ → Filling (detailActs g) (positionActs g ++ []) n₀ l r o′
+  pub gain-filled : {r : ℕ} {o′ : List ℕ} → Filling (detailActs g) (gainActs g ++ (positionActs g ++ [])) n₀ l n o → Filled (gainActs g) n o r o′
+      → Filling (detailActs g) (positionActs g ++ []) n₀ l r o′
   gain-filled w f = fill-turn w refl (filled-long f) f
 
   pub position-filled : {r : ℕ} {o′ : List ℕ} → Filling (detailActs g) (positionActs g ++ []) n₀ l n o → Filled (positionActs g) n o r o′ → Filled (detailActs g) n₀ l r o′
   position-filled w f = fill-end (fill-turn w refl (filled-long f) f) refl
 
-  pub id-filled : {v : ℕ} → Spells (map (fieldOf g) idCells) v → Ready (flatActs condition g) n₀ l → FillsAll true (v ∷ []) n₀ l n o → Filling (plainActs g) (when (eqb (g 1) 1) (detailActs g) ++ []) n₀ l n o
+  pub id-filled : {v : ℕ} → Spells (map (fieldOf g) idCells) v → Ready (flatActs condition g) n₀ l → FillsAll true (v ∷ []) n₀ l n o
+      → Filling (plainActs g) (when (eqb (g 1) 1) (detailActs g) ++ []) n₀ l n o
   id-filled s w f = fill-part _ (more s none) (row-begun g w) f

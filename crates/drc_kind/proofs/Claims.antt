@@ -98,7 +98,8 @@ claims = P.claims kind lawful samples
 -- ---- spelled out for this record and tables 9 to 12
 
 -- what is read writes back the same bytes, at the front of the output and nowhere else
-pub same-bytes : (body out : List ℕ) (lent after : Lent) (m : MpegH3dAudioDrcLoudness) → Every Byte body → reading kind body lent ≡ leaves (accepted m) after → length body ≤ length out
+pub same-bytes : (body out : List ℕ) (lent after : Lent) (m : MpegH3dAudioDrcLoudness) → Every Byte body → reading kind body lent ≡ leaves (accepted m) after
+    → length body ≤ length out
     → writing kind m after body out ≡ gives (accepted (length body)) (body ++ drop (length body) out)
 same-bytes body out lent after m b e l = claims .round .writes-what-is-read body lent m after out b e l
 
@@ -106,7 +107,8 @@ same-bytes body out lent after m b e l = claims .round .writes-what-is-read body
 pub one-body : (body body′ : List ℕ) (lent lent′ after after′ : Lent) (m m′ : MpegH3dAudioDrcLoudness) → Every Byte body → Every Byte body′
     → reading kind body lent ≡ leaves (accepted m) after → reading kind body′ lent′ ≡ leaves (accepted m′) after′
     → kind .value m after body ≡ kind .value m′ after′ body′ → trail kind m body ≡ trail kind m′ body′ → body ≡ body′
-one-body body body′ lent lent′ after after′ m m′ b b′ e e′ v t = claims .round .apart body body′ lent lent′ m m′ after after′ b b′ e e′ (λ i. record { value = v i; trailing = t i })
+one-body body body′ lent lent′ after after′ m m′ b b′ e e′ v t =
+    claims .round .apart body body′ lent lent′ m m′ after after′ b b′ e e′ (λ i. record { value = v i; trailing = t i })
 
 -- 3 is given exactly if the body is otherwise accepted and a table has fewer rows than it needs; it names the lowest of the four that is short, and the rows it needs
 sized-so : (body : List ℕ) (z : Sizes) → measuring kind body ≡ accepted z → (i : ℕ) × (a : ℕ) × (l : ℕ) × (d : ℕ) × (z ≡ sized i a l d (z .before))
@@ -125,13 +127,15 @@ pub lacks-room : (body : List ℕ) (lent : Lent) (t r : ℕ)
     ↔ ((i : ℕ) × (a : ℕ) × (l : ℕ) × (d : ℕ) × (k : ℕ) × (measuring kind body ≡ accepted (sized i a l d k)) × Lowest (needed i a l d) lent t r)
 lacks-room body lent t r = (forth, back)
   where
-    forth : reading kind body lent ≡ leaves (refuses 3 (t ∷ r ∷ [])) lent → (i : ℕ) × (a : ℕ) × (l : ℕ) × (d : ℕ) × (k : ℕ) × (measuring kind body ≡ accepted (sized i a l d k)) × Lowest (needed i a l d) lent t r
+    forth : reading kind body lent ≡ leaves (refuses 3 (t ∷ r ∷ [])) lent
+        → (i : ℕ) × (a : ℕ) × (l : ℕ) × (d : ℕ) × (k : ℕ) × (measuring kind body ≡ accepted (sized i a l d k)) × Lowest (needed i a l d) lent t r
     forth h =
         let (z, e, w) = claims .more-room .no-room body lent t r .0 h in
         let (i, a, l, d, q) = sized-so body z e in
         (i, a, l, d, z .before, e ∙ ap accepted q, subst (λ (z : Sizes). Lowest (z .tables) lent t r) q w)
 
-    back : (i : ℕ) × (a : ℕ) × (l : ℕ) × (d : ℕ) × (k : ℕ) × (measuring kind body ≡ accepted (sized i a l d k)) × Lowest (needed i a l d) lent t r → reading kind body lent ≡ leaves (refuses 3 (t ∷ r ∷ [])) lent
+    back : (i : ℕ) × (a : ℕ) × (l : ℕ) × (d : ℕ) × (k : ℕ) × (measuring kind body ≡ accepted (sized i a l d k)) × Lowest (needed i a l d) lent t r
+        → reading kind body lent ≡ leaves (refuses 3 (t ∷ r ∷ [])) lent
     back (i, a, l, d, k, e, w) = claims .more-room .no-room body lent t r .1 (sized i a l d k, e, w)
 
 -- ---- columns that writing does not read
@@ -148,7 +152,8 @@ pub absent-info : (m : MpegH3dAudioDrcLoudness) (p p′ : DrcLoudnessInfo) (inst
     → writing kind (without m p) (instructions ∷ additional ∷ loudness ∷ downmixes ∷ []) store out ≡ writing kind (without m p′) (instructions ∷ additional ∷ loudness ∷ downmixes ∷ []) store out
 unfolding kind heededRows
 absent-info m p p′ instructions additional loudness downmixes store out =
-    claims .writing .unread (without m p) (without m p′) _ _ store out (alike m p p′) (rows-agree refl (λ i. refl) (rows-agree refl (λ i. refl) (rows-agree refl (λ i. refl) (rows-agree refl (λ i. refl) none-read))))
+    claims .writing .unread (without m p) (without m p′) _ _ store out (alike m p p′)
+    (rows-agree refl (λ i. refl) (rows-agree refl (λ i. refl) (rows-agree refl (λ i. refl) (rows-agree refl (λ i. refl) none-read))))
 
 -- of a scope only what it makes: not a plain scope's reserved bits and ID, not a preset's kind, and none but the case where that is above 2
 pub record SameScope (g g′ : Columns) : Type 0 where
@@ -168,7 +173,8 @@ scoped-alike g g′ h = λ i j. go j (eqb j 1) (eqb j 2) (eqb j 3) (eqb j 4) (h 
     through : Bool → Bool → Bool → Bool → DrcScope → ℕ → ℕ
     through a b c d s v = pick a (caseIs s) (pick b (kindIs s) (pick c (reservedIs s) (pick d (idIs s) v)))
 
-    go : (j : ℕ) (a b c d : Bool) → (a || (b || (c || (d || false))) ≡ false → g j ≡ g′ j) → through a b c d (scopeIs (g 1) (g 2) (g 3) (g 4)) (g j) ≡ through a b c d (scopeIs (g′ 1) (g′ 2) (g′ 3) (g′ 4)) (g′ j)
+    go : (j : ℕ) (a b c d : Bool) → (a || (b || (c || (d || false))) ≡ false → g j ≡ g′ j)
+        → through a b c d (scopeIs (g 1) (g 2) (g 3) (g 4)) (g j) ≡ through a b c d (scopeIs (g′ 1) (g′ 2) (g′ 3) (g′ 4)) (g′ j)
     go j true b c d o = ap caseIs (h .scope)
     go j false true c d o = ap kindIs (h .scope)
     go j false false true d o = ap reservedIs (h .scope)
@@ -176,7 +182,8 @@ scoped-alike g g′ h = λ i j. go j (eqb j 1) (eqb j 2) (eqb j 3) (eqb j 4) (h 
     go j false false false false o = o refl
 
 -- tables 9 and 11 that agree so are written alike, faults and places included
-pub scope-unread : (m : MpegH3dAudioDrcLoudness) (t t′ additional l l′ downmixes store out : List ℕ) → length t ≡ length t′ → length l ≡ length l′ → ((i : ℕ) → SameScope (at 24 t i) (at 24 t′ i)) → ((i : ℕ) → SameScope (at 7 l i) (at 7 l′ i))
+pub scope-unread : (m : MpegH3dAudioDrcLoudness) (t t′ additional l l′ downmixes store out : List ℕ) → length t ≡ length t′ → length l ≡ length l′
+    → ((i : ℕ) → SameScope (at 24 t i) (at 24 t′ i)) → ((i : ℕ) → SameScope (at 7 l i) (at 7 l′ i))
     → writing kind m (t ∷ additional ∷ l ∷ downmixes ∷ []) store out ≡ writing kind m (t′ ∷ additional ∷ l′ ∷ downmixes ∷ []) store out
 unfolding kind heededRows
 scope-unread m t t′ additional l l′ downmixes store out n k p q =
@@ -311,7 +318,8 @@ lists-so t lent run h =
     let ls = t .1 .1 .0 in
     let L = filled (tables pieces (t .1)) lent in
     let size : Family → ℕ = λ x. length (x .1) in
-    let a = ap (each (λ i. row 24 (at 24 (table 0 L) i)) 0) (h .instructions) ∙ parents-found instructionRows is (drop (length (flatten (parents instruction is))) (table 0 lent)) [] in
+    let a =
+    ap (each (λ i. row 24 (at 24 (table 0 L) i)) 0) (h .instructions) ∙ parents-found instructionRows is (drop (length (flatten (parents instruction is))) (table 0 lent)) [] in
     let b = ap (each (λ i. row 7 (at 7 (table 2 L) i)) 0) (h .entries) ∙ borne-found entryRows ls (drop (length (flatten (map (borneRow entry) ls))) (table 2 lent)) in
     let P : ℕ × Family → Type 0 = λ y. ScopeRead I.types (y .1 .0) in
     let p = every-firsts size 0 (λ (x : Family). ScopeRead I.types (x .0)) is (every-as Instructed (λ (x : Family). ScopeRead I.types (x .0)) (λ x g. g .scope) (h .instructed)) in

@@ -147,6 +147,7 @@ acts-most m lent store c =
     )
 
 -- where writing answers 10, the length is at most 82,989
-pub largest : (m : MpegH3dAudioDrcLoudness) (lent : Lent) (store out after : List ℕ) (n : ℕ) → m .trailing .length < 65536 → Writes kind m lent store out (refuses 10 (n ∷ [])) after → n ≤ 82989
+pub largest : (m : MpegH3dAudioDrcLoudness) (lent : Lent) (store out after : List ℕ) (n : ℕ) → m .trailing .length < 65536
+    → Writes kind m lent store out (refuses 10 (n ∷ [])) after → n ≤ 82989
 unfolding kind
 largest m lent store out after n h w = longest kind m lent store 17454 (acts-most m lent store) h out after n w

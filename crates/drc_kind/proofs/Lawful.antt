@@ -93,7 +93,8 @@ kept m = go (m .info .present)
   where
     top : Bool → List ℕ
     top a =
-        heedsOf body (of (m .reserved ∷ bit a ∷ m .info .part .«reserved_drc» ∷ m .info .part .«reserved_loudness» ∷ m .info .part .«reserved_downmix» ∷ m .info .part .«drc_instructions» ∷ m .info .part .«loudness_infos» ∷ m .info .part .«downmix_definitions» ∷ []))
+        heedsOf body
+        (of (m .reserved ∷ bit a ∷ m .info .part .«reserved_drc» ∷ m .info .part .«reserved_loudness» ∷ m .info .part .«reserved_downmix» ∷ m .info .part .«drc_instructions» ∷ m .info .part .«loudness_infos» ∷ m .info .part .«downmix_definitions» ∷ []))
 
     go : (a : Bool) → fields (drcOf (top a) (m .trailing)) ≡ top a
     go true = refl

@@ -79,7 +79,8 @@ module _ (fin : List ℕ → Prog Family) where
       rest : List ℕ → Prog Family
       rest l = given (F 15) 8 R.target >>= λ t. fin (each F 0 14 ++ (l ++ (F 15 ∷ t)))
 
-      go : (x : Bool) → _≡_ {A = Prog Family} ((pick x (reads I.limiter F) (ret F) >>= λ g. reads (optional 15 L.target end) g) >>= row24) (pick x R.limiter (ret (none 1)) >>= rest)
+      go : (x : Bool)
+          → _≡_ {A = Prog Family} ((pick x (reads I.limiter F) (ret F) >>= λ g. reads (optional 15 L.target end) g) >>= row24) (pick x R.limiter (ret (none 1)) >>= rest)
       go true = λ i. look 1 (λ a. target-so (puts ((num 8 14 ∷ []) ∷ []) a F) z i)
       go false = target-so F z ∙ (λ i. given (F 15) 8 R.target >>= λ t. fin (each F 0 14 ++ (y i ++ (F 15 ∷ t))))
 
@@ -116,7 +117,9 @@ module _ {B : Type 0} (types : List ℕ) (F : Columns) (next : Columns → Prog 
       of-case b c = reads ids (typed F b c) >>= next
 
       scopes : List ℕ → Bool → Bool → Prog (List ℕ)
-      scopes b x y = pick x (u8 >>= λ i. ret (1 ∷ kindOf b ∷ part 7 1 i ∷ part 0 7 i ∷ [])) (pick y (u8 >>= λ i. ret (2 ∷ kindOf b ∷ part 5 3 i ∷ part 0 5 i ∷ [])) (ret (0 ∷ kindOf b ∷ 0 ∷ 0 ∷ [])))
+      scopes b x y =
+          pick x (u8 >>= λ i. ret (1 ∷ kindOf b ∷ part 7 1 i ∷ part 0 7 i ∷ []))
+          (pick y (u8 >>= λ i. ret (2 ∷ kindOf b ∷ part 5 3 i ∷ part 0 5 i ∷ [])) (ret (0 ∷ kindOf b ∷ 0 ∷ 0 ∷ [])))
 
       go : (b : List ℕ) (x y : Bool) → of-case b (pick x 1 (pick y 2 0)) ≡ scopes b x y >>= then (getD b 0 0)
       go b true y = λ i. look 1 (λ x. g b x i)
@@ -142,25 +145,30 @@ from-scope t sc =
     ret (part 2 6 t ∷ sc ++ (part 6 2 s ∷ part 0 6 s ∷ part 7 1 dm ∷ part 0 7 dm ∷ part 5 3 c ∷ 0 ∷ part 2 3 c ∷ (hi * 256 + lo) ∷ part 1 1 c ∷ l ++ (part 0 1 c ∷ t′)), ids)
 
 -- the columns G behind the scope
-settled-so : (G : Columns) (t : ℕ) (sc : List ℕ) → each G 0 5 ≡ part 2 6 t ∷ sc → each G 10 1 ≡ none 1 → each G 14 1 ≡ none 1 → each G 16 8 ≡ none 8 → reads settled G >>= to-ids ≡ from-scope t sc
+settled-so : (G : Columns) (t : ℕ) (sc : List ℕ) → each G 0 5 ≡ part 2 6 t ∷ sc → each G 10 1 ≡ none 1 → each G 14 1 ≡ none 1 → each G 16 8 ≡ none 8
+    → reads settled G >>= to-ids ≡ from-scope t sc
 unfolding reads puts put split total u8 _>>=_ each
 settled-so G t sc e x y z = λ i. look 1 (λ a. look 1 (λ b. look 1 (λ c. step a b c i)))
   where
     F : List ℕ → List ℕ → List ℕ → Columns
     F a b c = puts ((reserved 3 9 ∷ num 3 11 ∷ flag 13 ∷ flag 15 ∷ []) ∷ []) c (puts ((reserved 1 7 ∷ num 7 8 ∷ []) ∷ []) b (puts ((reserved 2 5 ∷ num 6 6 ∷ []) ∷ []) a G))
 
-    step : (a b c : List ℕ) → to-ids (F a b c) ≡ many (part 2 3 (getD c 0 0)) R.additional >>= λ ids. u8 >>= λ hi. u8 >>= λ lo. given (part 1 1 (getD c 0 0)) 1 R.limiter >>= λ l. given (part 0 1 (getD c 0 0)) 8 R.target >>= λ t′.
-        ret (part 2 6 t ∷ sc ++ (part 6 2 (getD a 0 0) ∷ part 0 6 (getD a 0 0) ∷ part 7 1 (getD b 0 0) ∷ part 0 7 (getD b 0 0) ∷ part 5 3 (getD c 0 0) ∷ 0 ∷ part 2 3 (getD c 0 0) ∷ (hi * 256 + lo) ∷ part 1 1 (getD c 0 0) ∷ l ++ (part 0 1 (getD c 0 0) ∷ t′)), ids)
+    step : (a b c : List ℕ)
+        → to-ids (F a b c) ≡ many (part 2 3 (getD c 0 0)) R.additional >>= λ ids. u8 >>= λ hi. u8 >>= λ lo. given (part 1 1 (getD c 0 0)) 1 R.limiter >>= λ l. given (part 0 1 (getD c 0 0)) 8 R.target >>= λ t′.
+        ret
+        (part 2 6 t ∷ sc ++ (part 6 2 (getD a 0 0) ∷ part 0 6 (getD a 0 0) ∷ part 7 1 (getD b 0 0) ∷ part 0 7 (getD b 0 0) ∷ part 5 3 (getD c 0 0) ∷ 0 ∷ part 2 3 (getD c 0 0) ∷ (hi * 256 + lo) ∷ part 1 1 (getD c 0 0) ∷ l ++ (part 0 1 (getD c 0 0) ∷ t′)), ids)
     step a b c =
         (λ i. many (part 2 3 (getD c 0 0)) (additional-so i) >>= λ l. effect-so (λ r. ret (r, l)) (F a b c) y z i)
         ∙ (λ i. many (part 2 3 (getD c 0 0)) R.additional >>= λ ids. u8 >>= λ hi. u8 >>= λ lo. given (part 1 1 (getD c 0 0)) 1 R.limiter >>= λ l. given (part 0 1 (getD c 0 0)) 8 R.target >>= λ t′.
-        ret (e i ++ (part 6 2 (getD a 0 0) ∷ part 0 6 (getD a 0 0) ∷ part 7 1 (getD b 0 0) ∷ part 0 7 (getD b 0 0) ∷ part 5 3 (getD c 0 0) ∷ getD (x i) 0 0 ∷ part 2 3 (getD c 0 0) ∷ (hi * 256 + lo) ∷ part 1 1 (getD c 0 0) ∷ l ++ (part 0 1 (getD c 0 0) ∷ t′)), ids))
+        ret
+        (e i ++ (part 6 2 (getD a 0 0) ∷ part 0 6 (getD a 0 0) ∷ part 7 1 (getD b 0 0) ∷ part 0 7 (getD b 0 0) ∷ part 5 3 (getD c 0 0) ∷ getD (x i) 0 0 ∷ part 2 3 (getD c 0 0) ∷ (hi * 256 + lo) ∷ part 1 1 (getD c 0 0) ∷ l ++ (part 0 1 (getD c 0 0) ∷ t′)), ids))
 
 pub instruction-so : I.instructions ≡ R.instruction
 unfolding R.instruction reads puts put split total each
 instruction-so =
     bind-assoc (reads (scope I.types) blank) (λ g. reads settled g) to-ids
-    ∙ scope-so I.types blank (λ g. reads settled g >>= to-ids) from-scope (λ b x. settled-so (with-group blank b x) (getD b 0 0) _ refl refl refl refl) (λ b x. settled-so (with-preset blank b x) (getD b 0 0) _ refl refl refl refl)
+    ∙ scope-so I.types blank (λ g. reads settled g >>= to-ids) from-scope (λ b x. settled-so (with-group blank b x) (getD b 0 0) _ refl refl refl refl)
+    (λ b x. settled-so (with-preset blank b x) (getD b 0 0) _ refl refl refl refl)
     (λ b. settled-so (typed blank b 0) (getD b 0 0) _ refl refl refl refl)
 
 -- ---- the loudness entries and the downmix definitions
@@ -202,7 +210,8 @@ module _ (instruction : Prog Family) (entry : Prog Borne) (definition : Prog (Li
       missing : ℕ → Prog Tree
       missing b0 = ret (treeIs (part 1 7 b0 ∷ part 0 1 b0 ∷ 0 ∷ 0 ∷ 0 ∷ 0 ∷ 0 ∷ 0 ∷ []) [] [] [])
 
-      go : (a : List ℕ) (x : Bool) → _≡_ {A = Prog Tree} ((pick x (reads counts (F a)) (ret (F a)) >>= λ g. ret g) >>= to-lists) (pick x (there (getD a 0 0)) (missing (getD a 0 0)))
+      go : (a : List ℕ) (x : Bool)
+          → _≡_ {A = Prog Tree} ((pick x (reads counts (F a)) (ret (F a)) >>= λ g. ret g) >>= to-lists) (pick x (there (getD a 0 0)) (missing (getD a 0 0)))
       go a true = refl
       go a false = refl
 

@@ -96,7 +96,8 @@ bodyOver instruction loudness downmix = do
     is ← many (part 0 6 a) instruction
     ls ← many (part 0 6 l) loudness
     ds ← many (part 0 5 d) downmix
-    ret (treeIs (part 1 7 b0 ∷ part 0 1 b0 ∷ part 6 2 a ∷ part 6 2 l ∷ part 5 3 d ∷ part 0 6 a ∷ part 0 6 l ∷ part 0 5 d ∷ []) is ls ds)) (ret (treeIs (part 1 7 b0 ∷ part 0 1 b0 ∷ 0 ∷ 0 ∷ 0 ∷ 0 ∷ 0 ∷ 0 ∷ []) [] [] []))
+    ret (treeIs (part 1 7 b0 ∷ part 0 1 b0 ∷ part 6 2 a ∷ part 6 2 l ∷ part 5 3 d ∷ part 0 6 a ∷ part 0 6 l ∷ part 0 5 d ∷ []) is ls ds)) (ret
+      (treeIs (part 1 7 b0 ∷ part 0 1 b0 ∷ 0 ∷ 0 ∷ 0 ∷ 0 ∷ 0 ∷ 0 ∷ []) [] [] []))
 
 abbrev pub body : Prog Tree
 body = bodyOver instruction loudness downmix

@@ -22,7 +22,8 @@ read-back (R.Done m) = refl
 read-back (R.Refused x) = ap R.Refused (refused-back x)
 
 measure-of : E.Sizes → Measured
-measure-of z = M.Done (record { instructions = rowsAt 0 (z .tables); additional = rowsAt 1 (z .tables); loudness = rowsAt 2 (z .tables); downmixes = rowsAt 3 (z .tables); k = z .before })
+measure-of z =
+    M.Done (record { instructions = rowsAt 0 (z .tables); additional = rowsAt 1 (z .tables); loudness = rowsAt 2 (z .tables); downmixes = rowsAt 3 (z .tables); k = z .before })
 
 measured-back : (r : Measured) → answer-by measure-of M.Refused (measured r) ≡ r
 unfolding measure-of

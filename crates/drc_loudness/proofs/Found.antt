@@ -89,7 +89,8 @@ module _ {s : List ℕ} {p : Places} (f : Found s p) where
 -- ---- the record and the sizes, from the bytes
 
 module _ {s : List ℕ} {p : Places} (f : Found s p) (h : length s < 65536) where
-  pub counted : {r : Sizes} {i : DrcLoudnessInfo} → i ≡ infoIn s → r .instructions ≡ i .«drc_instructions» → r .additional ≡ p .additional → r .loudness ≡ i .«loudness_infos» → r .downmixes ≡ i .«downmix_definitions» → r .k ≡ p .k → Measures kind s (accepted (sized r))
+  pub counted : {r : Sizes} {i : DrcLoudnessInfo} → i ≡ infoIn s → r .instructions ≡ i .«drc_instructions» → r .additional ≡ p .additional
+      → r .loudness ≡ i .«loudness_infos» → r .downmixes ≡ i .«downmix_definitions» → r .k ≡ p .k → Measures kind s (accepted (sized r))
   unfolding sizes
   counted e a b c d k =
       measures-walked kind s h (found-reads s p f)
@@ -106,7 +107,8 @@ none-of : {A : Type 0} (l : List A) → length l ≡ 0 → l ≡ []
 none-of [] e = refl
 none-of (x ∷ l) e = absurd (omega (arith, e))
 
-pub bare-counted : {s : List ℕ} {p : Places} (f : Found s p) → length s < 65536 → {z : Sizes} → Measures kind s (accepted (sized z)) → eqb (z .instructions) 0 && (eqb (z .loudness) 0 && eqb (z .downmixes) 0) ≡ true → Bare s p
+pub bare-counted : {s : List ℕ} {p : Places} (f : Found s p) → length s < 65536 → {z : Sizes} → Measures kind s (accepted (sized z))
+    → eqb (z .instructions) 0 && (eqb (z .loudness) 0 && eqb (z .downmixes) 0) ≡ true → Bare s p
 unfolding sizes kind needs tables
 bare-counted {s} {p} f h {z} m e =
     let c = sizes-walked kind s h (found-reads s p f) m in
@@ -124,7 +126,8 @@ unfolding kind tables firsts flatMap
 bare-opens {s} {p} b h t₁ t₂ t₃ t₄ =
     let f = b .found in
     let e : tree f ≡ treeIs (topOf s) [] [] [] = λ i. treeIs (topOf s) (b .no-instructions i) (b .no-entries i) (b .no-downmixes i) in
-    let none : Every Empty (kind .tables (tree f)) = subst (λ (t : Tree). Every Empty (kind .tables t)) (sym e) (all-cons refl (all-cons refl (all-cons refl (all-cons refl all-nil)))) in
+    let none : Every Empty (kind .tables (tree f)) =
+    subst (λ (t : Tree). Every Empty (kind .tables t)) (sym e) (all-cons refl (all-cons refl (all-cons refl (all-cons refl all-nil)))) in
     record { gives = empty-opens kind s h (found-reads s p f) f (t₁ ∷ t₂ ∷ t₃ ∷ t₄ ∷ []) refl none }
 
 -- ---- the tally
@@ -171,7 +174,8 @@ abbrev downmixesTally : List (List ℕ) → ℕ
 downmixesTally l = sum (λ r. tally (downmix ∷ []) (of r)) l
 
 -- with the counts as code has them
-pub zeros-so : {s : List ℕ} {p : Places} → Found s p → length s < 65536 → {i : DrcLoudnessInfo} → i ≡ infoIn s → {r a x y z at : ℕ} → at ≡ rowsAt s → r ≡ a + x + (y + z) → a ≡ tally layouts (of (topOf s))
+pub zeros-so : {s : List ℕ} {p : Places} → Found s p → length s < 65536 → {i : DrcLoudnessInfo} → i ≡ infoIn s → {r a x y z at : ℕ} → at ≡ rowsAt s → r ≡ a + x + (y + z)
+    → a ≡ tally layouts (of (topOf s))
     → x ≡ instructionsTally (rowsOf (run (many (i .«drc_instructions») instructions) s at))
     → y ≡ entriesTally (rowsOf (run (many (i .«loudness_infos») entries) s (p .loudness)))
     → z ≡ downmixesTally (rowsOf (run (many (i .«downmix_definitions») (flat 4 downmix)) s (p .downmixes))) → Tallies kind s (accepted r)
@@ -179,5 +183,6 @@ unfolding kind B.zeros B.layouts
 zeros-so {s} {p} f h e q w a x y z =
     let x′ = x ∙ (λ j. instructionsTally (rowsOf (run (many (e j .«drc_instructions») instructions) s (q j)))) ∙ (λ j. instructionsTally (rowsOf (f .instructions-read j))) in
     let y′ = y ∙ (λ j. entriesTally (rowsOf (run (many (e j .«loudness_infos») entries) s (p .loudness)))) ∙ (λ j. entriesTally (rowsOf (f .entries-read j))) in
-    let z′ = z ∙ (λ j. downmixesTally (rowsOf (run (many (e j .«downmix_definitions») (flat 4 downmix)) s (p .downmixes)))) ∙ (λ j. downmixesTally (rowsOf (f .downmixes-read j))) in
+    let z′ =
+    z ∙ (λ j. downmixesTally (rowsOf (run (many (e j .«downmix_definitions») (flat 4 downmix)) s (p .downmixes)))) ∙ (λ j. downmixesTally (rowsOf (f .downmixes-read j))) in
     tallies-walked kind s h (found-reads s p f) (omega (arith, w, a, x′, y′, z′))

@@ -56,8 +56,11 @@ module _ {s : List ℕ} {p : Places} (f : Found s p) (short : length s < 65536) 
 
   module _ {i : DrcLoudnessInfo} (e : i ≡ infoIn s) where
     -- what is asked for before each list is stored, with the counts as code has them
-    pub instructions-ask : {at : ℕ} → at ≡ rowsAt s → Fillable (many (i .«drc_instructions») instructions) 2 (λ l. length (kids l)) s at 0 t₂ × (24 * i .«drc_instructions» ≤ length t₁)
-    instructions-ask q = rw (q, e) (record { value = f .in-instructions; end = p .loudness; reads = f .instructions-read; begun = f .head; all = short; before = omega arith; room = omega (arith, space .additional) }, omega (arith, space .instructions, instructions-counted f))
+    pub instructions-ask : {at : ℕ} → at ≡ rowsAt s
+        → Fillable (many (i .«drc_instructions») instructions) 2 (λ l. length (kids l)) s at 0 t₂ × (24 * i .«drc_instructions» ≤ length t₁)
+    instructions-ask q =
+        rw (q, e)
+        (record { value = f .in-instructions; end = p .loudness; reads = f .instructions-read; begun = f .head; all = short; before = omega arith; room = omega (arith, space .additional) }, omega (arith, space .instructions, instructions-counted f))
 
     pub entries-ask : (p .loudness ≤ length s) × (length s < 65536) × (isDone (run (many (i .«loudness_infos») entries) s (p .loudness)) ≡ true) × (7 * i .«loudness_infos» ≤ length t₃)
     entries-ask = rw e (at-entries f, short, ap isDone (f .entries-read), omega (arith, space .entries, entries-counted f))
@@ -75,19 +78,28 @@ module _ {s : List ℕ} {p : Places} (f : Found s p) (short : length s < 65536) 
         go : Every Shaped (kind .tables (tree f)) → Every (Wide 2) (kids (f .in-instructions)) × Every (Wide 4) (f .in-downmixes)
         go (all-cons _ (all-cons a (all-cons _ (all-cons b all-nil)))) = (a, b)
 
-    instructions-stored : {at : ℕ} {t′ u′ : List ℕ} → at ≡ rowsAt s → Nests instructions (λ x. length (x .1)) (λ n x. brokenRow instruction (n, x)) (λ x. flatten (x .1)) s at (i .«drc_instructions») t₁ t₂ t′ u′
+    instructions-stored : {at : ℕ} {t′ u′ : List ℕ} → at ≡ rowsAt s
+        → Nests instructions (λ x. length (x .1)) (λ n x. brokenRow instruction (n, x)) (λ x. flatten (x .1)) s at (i .«drc_instructions») t₁ t₂ t′ u′
         → Both instruction (f .in-instructions) t₁ t₂ t′ u′
-    instructions-stored q v = both instructionRows instructions {end = p .loudness} (f .in-instructions) t₁ t₂ v (rw (q, e) (f .instructions-read)) (wide .0) (space .instructions) (space .additional)
+    instructions-stored q v =
+        both instructionRows instructions {end = p .loudness} (f .in-instructions) t₁ t₂ v (rw (q, e) (f .instructions-read)) (wide .0) (space .instructions) (space .additional)
 
-    entries-stored : {t′ : List ℕ} → t′ ≡ sets t₃ 0 (flatMap (borneRow entry) (rowsOf (run (many (i .«loudness_infos») entries) s (p .loudness)))) → t′ ≡ flatten (map (borneRow entry) (f .in-entries)) ++ drop (length (flatten (map (borneRow entry) (f .in-entries)))) t₃
+    entries-stored : {t′ : List ℕ} → t′ ≡ sets t₃ 0 (flatMap (borneRow entry) (rowsOf (run (many (i .«loudness_infos») entries) s (p .loudness))))
+        → t′ ≡ flatten (map (borneRow entry) (f .in-entries)) ++ drop (length (flatten (map (borneRow entry) (f .in-entries)))) t₃
     entries-stored q =
-        rows-front (borneRow entry) 7 (f .in-entries) t₃ (q ∙ (λ j. sets t₃ 0 (flatMap (borneRow entry) (rowsOf (run (many (e j .«loudness_infos») entries) s (p .loudness)))))) (f .entries-read) (borne-wide entryRows (f .in-entries)) (space .entries)
+        rows-front (borneRow entry) 7 (f .in-entries) t₃
+        (q ∙ (λ j. sets t₃ 0 (flatMap (borneRow entry) (rowsOf (run (many (e j .«loudness_infos») entries) s (p .loudness)))))) (f .entries-read)
+        (borne-wide entryRows (f .in-entries)) (space .entries)
 
-    downmixes-stored : {t′ : List ℕ} → t′ ≡ sets t₄ 0 (flatMap (λ r. r) (rowsOf (run (many (i .«downmix_definitions») (flat 4 downmix)) s (p .downmixes)))) → t′ ≡ flatten (f .in-downmixes) ++ drop (length (flatten (f .in-downmixes))) t₄
-    downmixes-stored q = flat-front 4 (f .in-downmixes) t₄ (q ∙ (λ j. sets t₄ 0 (flatMap (λ r. r) (rowsOf (run (many (e j .«downmix_definitions») (flat 4 downmix)) s (p .downmixes)))))) (f .downmixes-read) (wide .1) (space .downmixes)
+    downmixes-stored : {t′ : List ℕ} → t′ ≡ sets t₄ 0 (flatMap (λ r. r) (rowsOf (run (many (i .«downmix_definitions») (flat 4 downmix)) s (p .downmixes))))
+        → t′ ≡ flatten (f .in-downmixes) ++ drop (length (flatten (f .in-downmixes))) t₄
+    downmixes-stored q =
+        flat-front 4 (f .in-downmixes) t₄ (q ∙ (λ j. sets t₄ 0 (flatMap (λ r. r) (rowsOf (run (many (e j .«downmix_definitions») (flat 4 downmix)) s (p .downmixes))))))
+        (f .downmixes-read) (wide .1) (space .downmixes)
 
 -- all four tables
-pub stored : {s : List ℕ} {p : Places} → Found s p → length s < 65536 → (t₁ t₂ t₃ t₄ : List ℕ) {u₁ u₂ u₃ u₄ : List ℕ} {i : DrcLoudnessInfo} {at : ℕ} → i ≡ infoIn s → at ≡ rowsAt s → Roomy kind s (t₁ ∷ t₂ ∷ t₃ ∷ t₄ ∷ [])
+pub stored : {s : List ℕ} {p : Places} → Found s p → length s < 65536 → (t₁ t₂ t₃ t₄ : List ℕ) {u₁ u₂ u₃ u₄ : List ℕ} {i : DrcLoudnessInfo} {at : ℕ} → i ≡ infoIn s
+    → at ≡ rowsAt s → Roomy kind s (t₁ ∷ t₂ ∷ t₃ ∷ t₄ ∷ [])
     → Nests instructions (λ x. length (x .1)) (λ n x. brokenRow instruction (n, x)) (λ x. flatten (x .1)) s at (i .«drc_instructions») t₁ t₂ u₁ u₂
     → u₃ ≡ sets t₃ 0 (flatMap (borneRow entry) (rowsOf (run (many (i .«loudness_infos») entries) s (p .loudness))))
     → u₄ ≡ sets t₄ 0 (flatMap (λ r. r) (rowsOf (run (many (i .«downmix_definitions») (flat 4 downmix)) s (p .downmixes))))

@@ -92,7 +92,8 @@ head-spans : (s : List ℕ) → spans head blank s 0 ≡ ones 1 ++ pick (eqb (fl
 unfolding head took putsAt put split total ones
 head-spans s = go (eqb (flagAt s) 1)
   where
-    go : (x : Bool) → _≡_ {A = List ℕ} (1 ∷ (pick x (took counts (putsAt ((reserved 7 0 ∷ flag 1 ∷ []) ∷ []) s 0 0 blank) s 1 0) (putsAt ((reserved 7 0 ∷ flag 1 ∷ []) ∷ []) s 0 0 blank, []) .1 ++ [])) (1 ∷ pick x (1 ∷ 1 ∷ 1 ∷ []) [])
+    go : (x : Bool)
+        → _≡_ {A = List ℕ} (1 ∷ (pick x (took counts (putsAt ((reserved 7 0 ∷ flag 1 ∷ []) ∷ []) s 0 0 blank) s 1 0) (putsAt ((reserved 7 0 ∷ flag 1 ∷ []) ∷ []) s 0 0 blank, []) .1 ++ [])) (1 ∷ pick x (1 ∷ 1 ∷ 1 ∷ []) [])
     go true = refl
     go false = refl
 
@@ -181,7 +182,8 @@ info-there s t = ap (λ (b : Bool). pick b (infoThere s) (noInfo .part)) (eq-eqb
 -- the info, as code has it
 pub info-of : (s : List ℕ) → flagAt s ≡ 1 → {i : DrcLoudnessInfo} → i ≡ infoThere s → {r : Info} → r ≡ record { present = true; part = i } → r ≡ infoAt s
 unfolding infoAt
-info-of s t e q = q ∙ (λ j. record { present = true; part = e j }) ∙ sym (ap (λ (b : Bool). record { present = b; part = pick b (infoThere s) (noInfo .part) }) (eq-eqb (flagAt s) 1 t))
+info-of s t e q =
+    q ∙ (λ j. record { present = true; part = e j }) ∙ sym (ap (λ (b : Bool). record { present = b; part = pick b (infoThere s) (noInfo .part) }) (eq-eqb (flagAt s) 1 t))
 
 pub info-none : (s : List ℕ) → eqb (flagAt s) 1 ≡ false → {r : Info} → r ≡ noInfo → r ≡ infoAt s
 unfolding infoAt
@@ -240,7 +242,9 @@ module _ (s : List ℕ) (t : flagAt s ≡ 1) (h : 4 ≤ length s) {i : DrcLoudne
 
   module _ {r : Sum} (x : Summed (many (i .«drc_instructions») instructions) ids (7 * i .«drc_instructions») s 4 r) where
     summed : Summed (many (infoIn s .«drc_instructions») instructions) ids (7 * infoIn s .«drc_instructions») s (rowsAt s) r
-    summed = subst (λ (at : ℕ). Summed (many (infoIn s .«drc_instructions») instructions) ids (7 * infoIn s .«drc_instructions») s at r) (sym (rows-four s t)) (subst (λ (i : DrcLoudnessInfo). Summed (many (i .«drc_instructions») instructions) ids (7 * i .«drc_instructions») s 4 r) same x)
+    summed =
+        subst (λ (at : ℕ). Summed (many (infoIn s .«drc_instructions») instructions) ids (7 * infoIn s .«drc_instructions») s at r) (sym (rows-four s t))
+        (subst (λ (i : DrcLoudnessInfo). Summed (many (i .«drc_instructions») instructions) ids (7 * i .«drc_instructions») s 4 r) same x)
 
     pub instructions-found : {v m : ℕ} → r ≡ S.Got v m → InInstructions s v m
     instructions-found g =
@@ -271,7 +275,8 @@ module _ {s : List ℕ} {v m n : ℕ} (w : InEntries s v m n) {i : DrcLoudnessIn
 
   pub all-found : {k : ℕ} → o ≡ done tt k → Found s (record { loudness = m; downmixes = n; additional = v; k = k })
   all-found d =
-      let y = end-onward (many (infoIn s .«downmix_definitions») (flat 4 downmix)) (λ ds. ret (treeOf s (w .before .on .value) (w .on .value) ds)) (w .on .place) same-downmixes d in
+      let y =
+      end-onward (many (infoIn s .«downmix_definitions») (flat 4 downmix)) (λ ds. ret (treeOf s (w .before .on .value) (w .on .value) ds)) (w .on .place) same-downmixes d in
       record {
         in-instructions = w .before .on .value;
         in-entries = w .on .value;
@@ -285,7 +290,8 @@ module _ {s : List ℕ} {v m n : ℕ} (w : InEntries s v m n) {i : DrcLoudnessIn
       }
 
   pub downmixes-cut : {x y : Short} → o ≡ short x → y ≡ shortOf o → run (kind .program) s 0 ≡ short y
-  downmixes-cut d z = sym (end-cut-off (many (infoIn s .«downmix_definitions») (flat 4 downmix)) (λ ds. ret (treeOf s (w .before .on .value) (w .on .value) ds)) (w .on .place) same-downmixes d z)
+  downmixes-cut d z =
+      sym (end-cut-off (many (infoIn s .«downmix_definitions») (flat 4 downmix)) (λ ds. ret (treeOf s (w .before .on .value) (w .on .value) ds)) (w .on .place) same-downmixes d z)
 
 -- ---- what was found
 

@@ -41,11 +41,13 @@ drc-acts m lent store = go m (m .info .present)
     ends m t f =
         let p = m .info .part in
         let there = m .info .present in
-        demand F.Range (within there (p .«drc_instructions») 24 (table 0 lent) && (within there (p .«loudness_infos») 7 (table 2 lent) && t (within there (p .«downmix_definitions») 4 (table 3 lent))))
+        demand F.Range
+        (within there (p .«drc_instructions») 24 (table 0 lent) && (within there (p .«loudness_infos») 7 (table 2 lent) && t (within there (p .«downmix_definitions») 4 (table 3 lent))))
         ∷ demand F.Field true
         ∷ demand F.Empty true
         ∷ map byte (headFields m)
-        ++ when there (map byte (countFields p) ++ (rows (instructionActs lent) 0 (p .«drc_instructions») ++ (rows (entryActs lent store) 0 (p .«loudness_infos») ++ f (rows (downmixActs lent) 0 (p .«downmix_definitions»)))))
+        ++ when there
+        (map byte (countFields p) ++ (rows (instructionActs lent) 0 (p .«drc_instructions») ++ (rows (entryActs lent store) 0 (p .«loudness_infos») ++ f (rows (downmixActs lent) 0 (p .«downmix_definitions»)))))
 
     go : (m : MpegH3dAudioDrcLoudness) (a : Bool) → kind .acts (with m a) lent store ≡ drcActs (with m a) lent store
     go m a = case a ∙ λ i. ends (with m a) (λ t. and-true t i) (λ q. append-nil q i)
@@ -57,7 +59,8 @@ drc-acts m lent store = go m (m .info .present)
 -- ---- the rows of the lists stand in their tables
 
 module _ (i : Info) (a b c : List ℕ) where
-  pub all-there : {x y z : Bool} → i .present ≡ true → x ≡ leb (i .part .«drc_instructions») (length a / 24) → y ≡ leb (i .part .«loudness_infos») (length b / 7) → z ≡ leb (i .part .«downmix_definitions») (length c / 4) → x && (y && z) ≡ allWithin i a b c
+  pub all-there : {x y z : Bool} → i .present ≡ true → x ≡ leb (i .part .«drc_instructions») (length a / 24) → y ≡ leb (i .part .«loudness_infos») (length b / 7)
+      → z ≡ leb (i .part .«downmix_definitions») (length c / 4) → x && (y && z) ≡ allWithin i a b c
   unfolding allWithin
   all-there p e f g = λ k. within-there _ _ 24 a p e k && (within-there _ _ 7 b p f k && within-there _ _ 4 c p g k)
 
@@ -109,7 +112,8 @@ module _ {i : DrcLoudnessInfo} {a b c : List ℕ} (l : Listed i a b c) where
 -- ---- the info in the fill pass
 
 module _ (i : Info) (lent : Lent) (store : List ℕ) {n : ℕ} {l : List ℕ} where
-  pub info-begins : i .present ≡ true → Ready (infoActs i lent store) n l → Filling (infoActs i lent store) (when true (map byte (countFields (i .part))) ++ listsActs (i .part) lent store) n l n l
+  pub info-begins : i .present ≡ true → Ready (infoActs i lent store) n l
+      → Filling (infoActs i lent store) (when true (map byte (countFields (i .part))) ++ listsActs (i .part) lent store) n l n l
   unfolding infoActs
   info-begins t r = part-begins (i .present) (map byte (countFields (i .part))) (listsActs (i .part) lent store) t r
 

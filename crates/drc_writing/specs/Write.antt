@@ -50,7 +50,8 @@ allWithin i a b c =
     && (within (i .present) (i .part .«loudness_infos») 7 b && within (i .present) (i .part .«downmix_definitions») 4 c)
 
 abbrev pub listsActs : DrcLoudnessInfo → Lent → List ℕ → List Act
-listsActs i lent store = rows (instructionActs lent) 0 (i .«drc_instructions») ++ (rows (entryActs lent store) 0 (i .«loudness_infos») ++ rows (downmixActs lent) 0 (i .«downmix_definitions»))
+listsActs i lent store =
+    rows (instructionActs lent) 0 (i .«drc_instructions») ++ (rows (entryActs lent store) 0 (i .«loudness_infos») ++ rows (downmixActs lent) 0 (i .«downmix_definitions»))
 
 unfoldable pub infoActs : Info → Lent → List ℕ → List Act
 infoActs i lent store = when (i .present) (map byte (countFields (i .part)) ++ listsActs (i .part) lent store)

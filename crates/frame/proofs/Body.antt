@@ -105,7 +105,8 @@ placed-stands (carrying l i o n) w ks e x f = let y = set-both o n w ks (apart-o
 placed-stands (list l k r p) w ks e x f = placed-stands p w ks e (x .1) f
 
 -- the place of a payload that stands in the body is small
-placed-small : {T M : Type 0} (p : Pieces T M) (x : T) (f : Columns) (s : List ℕ) → Every (Within s) (payloads p x) → length s < 65536 → ((j : ℕ) → f j < 65536) → (j : ℕ) → withPlace p x f j < 65536
+placed-small : {T M : Type 0} (p : Pieces T M) (x : T) (f : Columns) (s : List ℕ) → Every (Within s) (payloads p x) → length s < 65536 → ((j : ℕ) → f j < 65536) → (j : ℕ)
+    → withPlace p x f j < 65536
 unfolding withPlace payloads
 placed-small (last l) x f s h n c j = c j
 placed-small (carrying l i o m) x f s h n c j = go (x .0) h (eqb j o) (eqb j m)
@@ -206,7 +207,8 @@ pub record Lawful-body {T M Top : Type 0} (b : Body T M Top) : Type 1 where
   pub kept : (m : Top) → b .fields (b .made (heedsOf b (of (b .fields m))) (b .trailing m)) ≡ heedsOf b (of (b .fields m))
   pub run-of : (c : List ℕ) (r : Payload) → b .trailing (b .made c r) ≡ r
   pub run-set : (c : List ℕ) (r q : Payload) → b .retrail (b .made c r) q ≡ b .made c q
-  pub held : (g : Columns) → ((j : ℕ) → g j < 65536) → ((j : ℕ) → has j (places (b .pieces)) ≡ false → g j < 256) → (k n : ℕ) → k < 65536 → n < 65536 → Every Held (b .bounds (b .made (row (b .columns) g) (span k n)))
+  pub held : (g : Columns) → ((j : ℕ) → g j < 65536) → ((j : ℕ) → has j (places (b .pieces)) ≡ false → g j < 256) → (k n : ℕ) → k < 65536 → n < 65536
+      → Every Held (b .bounds (b .made (row (b .columns) g) (span k n)))
 
 module _ {T M Top : Type 0} (b : Body T M Top) (w : Lawful-body b) where
   abbrev p : Pieces T M
@@ -272,7 +274,10 @@ module _ {T M Top : Type 0} (b : Body T M Top) (w : Lawful-body b) where
 
     counts-were : counts b g ≡ h
     unfolding Row-fits
-    counts-were = kept-so p (w .rows) (b .columns) start (passing .proper) (passing .below) (passing .absent-out) g ∙ sym (means-same (b .columns) x start (passing .proper) (passing .below) (passing .absent-out) h g (on-all x h g g-on)) ∙ mix-all (columns (form-shown x h)) (fits .1)
+    counts-were =
+        kept-so p (w .rows) (b .columns) start (passing .proper) (passing .below) (passing .absent-out) g
+        ∙ sym (means-same (b .columns) x start (passing .proper) (passing .below) (passing .absent-out) h g (on-all x h g g-on))
+        ∙ mix-all (columns (form-shown x h)) (fits .1)
 
     was : Was p (w .rows) s g h (t .1)
     unfolding Row-fits format rows-of
@@ -288,7 +293,8 @@ module _ {T M Top : Type 0} (b : Body T M Top) (w : Lawful-body b) where
     ready lent =
         let l = filled (tables p (t .1)) lent in
         ap (λ (m : Columns). clean (demand F.Range (inside p g m l s) ∷ demands (layouts p) g ++ pieced p g m l s)) counts-were
-        ∙ record-ready p (w .rows) (b .columns) start (passing .proper) (passing .below) (passing .absent-out) (breaks p (w .rows) g h l s) (pieced-so p (w .rows) g h l s) (inside-so p (w .rows) was lent) (faultless g g-on) (ready-so p (w .rows) was lent)
+        ∙ record-ready p (w .rows) (b .columns) start (passing .proper) (passing .below) (passing .absent-out) (breaks p (w .rows) g h l s)
+        (pieced-so p (w .rows) g h l s) (inside-so p (w .rows) was lent) (faultless g g-on) (ready-so p (w .rows) was lent)
 
     pub in-columns : length s < 65536 → total (needs (tables p (t .1))) < 65536 → Every (λ (q : Rows). Every (Every Column) (q .rows)) (tables p (t .1))
     in-columns = columns-so p (w .rows) was
@@ -296,7 +302,8 @@ module _ {T M Top : Type 0} (b : Body T M Top) (w : Lawful-body b) where
     pub bounds-hold : length s < 65536 → (k n : ℕ) → k < 65536 → n < 65536 → Every Held (b .bounds (b .made (row (b .columns) full) (span k n)))
     unfolding format rows-of
     bounds-hold n =
-        let c = row-bytes (b .columns) x start (passing .proper) (passing .below) (passing .absent-out) (passing .in-bytes) (passing .absent-small) (t .0, form-means x s h (t .1)) f e in
+        let c =
+        row-bytes (b .columns) x start (passing .proper) (passing .below) (passing .absent-out) (passing .in-bytes) (passing .absent-small) (t .0, form-means x s h (t .1)) f e in
         w .held full (placed-small p (t .1) h s i n (λ j. let y = c j in omega arith)) (λ j q. let y = c j in let z = placed-off p (t .1) h j q in omega (arith, y, z))
 
   -- ---- what writing reads decides the actions
@@ -319,7 +326,8 @@ module _ {T M Top : Type 0} (b : Body T M Top) (w : Lawful-body b) where
       let m = counts b g in
       let h = of (heedsOf b g) in
       let o = heeds-so g in
-      let c : (g : Columns) → counts b g ≡ means-as (b .columns) x start (passing .proper) (passing .below) (passing .absent-out) g = kept-so p (w .rows) (b .columns) start (passing .proper) (passing .below) (passing .absent-out) in
+      let c : (g : Columns) → counts b g ≡ means-as (b .columns) x start (passing .proper) (passing .below) (passing .absent-out) g =
+      kept-so p (w .rows) (b .columns) start (passing .proper) (passing .below) (passing .absent-out) in
       let same : m ≡ counts b h = c g ∙ means-same (b .columns) x start (passing .proper) (passing .below) (passing .absent-out) g h o ∙ sym (c h) in
       let y = same-places p (w .rows) m g h lent store (heeds-place p (b .columns) (form-all x) (passing .apart) m g (kept (layouts p) g blank)) in
       record-alike p (w .rows) (b .columns) start (passing .proper) (passing .below) (passing .absent-out) g h o (y .inside ∙ ap (λ (m : Columns). inside p h m lent store) same)

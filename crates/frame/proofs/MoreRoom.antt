@@ -119,7 +119,8 @@ module _ {Tree Top Value : Type 0} (K : Kind Tree Top Value) where
   fits-more : (ns : List Need) (lent more : Lent) → Roomier lent more → lacking ns lent ≡ none → lacking ns more ≡ none
   fits-more ns lent more r h = fit-none (fit-more more r (none-fit ns lent h))
 
-  room-changes : (body : List ℕ) (lent more : Lent) → Roomier lent more → ((t r : ℕ) → reading K body lent .answer ≡ no-room t r → ⊥) → reading K body more .answer ≡ reading K body lent .answer
+  room-changes : (body : List ℕ) (lent more : Lent) → Roomier lent more → ((t r : ℕ) → reading K body lent .answer ≡ no-room t r → ⊥)
+      → reading K body more .answer ≡ reading K body lent .answer
   room-changes body lent more r never = go (view K body lent)
     where
       go : View K body lent → reading K body more .answer ≡ reading K body lent .answer
@@ -138,7 +139,8 @@ module _ {Tree Top Value : Type 0} (K : Kind Tree Top Value) where
       go (is-short x j q) = ap (λ (o : Outcome Top). o .tables) q
       go (is-long h q) = ap (λ (o : Outcome Top). o .tables) q
 
-  lacking-of : (body : List ℕ) (lent : Lent) (t r : ℕ) → reading K body lent ≡ leaves (no-room t r) lent → (z : Sizes) × (measuring K body ≡ accepted z) × Lowest (z .tables) lent t r
+  lacking-of : (body : List ℕ) (lent : Lent) (t r : ℕ) → reading K body lent ≡ leaves (no-room t r) lent
+      → (z : Sizes) × (measuring K body ≡ accepted z) × Lowest (z .tables) lent t r
   unfolding measuring onto sizes
   lacking-of body lent t r e = go (view K body lent)
     where

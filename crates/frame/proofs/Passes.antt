@@ -26,10 +26,12 @@ module _ {Tree Top Value : Type 0} (K : Kind Tree Top Value) where
 
   pub run-outside : (m : Top) (lent : Lent) (store : List ℕ) → leb (ends m) (length store) ≡ false → (k : ℕ) → Checked (allActs K m lent store) k (At 0) (Stop F.Range 0)
   unfolding allActs
-  run-outside m lent store e k = subst (λ (b : Bool). Checked (demand F.Range b ∷ behind m lent store) k (At 0) (Stop F.Range 0)) (sym e) (refused F.Range 0 (behind m lent store) k)
+  run-outside m lent store e k =
+      subst (λ (b : Bool). Checked (demand F.Range b ∷ behind m lent store) k (At 0) (Stop F.Range 0)) (sym e) (refused F.Range 0 (behind m lent store) k)
 
   module _ {m : Top} {lent : Lent} {store : List ℕ} {own : List Act} (same : K .acts m lent store ≡ own) where
-    pub all-looked : leb (ends m) (length store) ≡ true → {k : ℕ} {p r : Pen} → Checked own k (At 0) p → CheckedRun (K .trailing m .length) p r → Checked (allActs K m lent store) (k + K .trailing m .length) (At 0) r
+    pub all-looked : leb (ends m) (length store) ≡ true → {k : ℕ} {p r : Pen} → Checked own k (At 0) p → CheckedRun (K .trailing m .length) p r
+        → Checked (allActs K m lent store) (k + K .trailing m .length) (At 0) r
     unfolding allActs
     all-looked e {k} {p} {r} f w =
         let fields : Checked (K .acts m lent store) k (At 0) p = subst (λ (q : List Act). Checked q k (At 0) p) (sym same) f in

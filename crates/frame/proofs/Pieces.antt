@@ -101,13 +101,15 @@ breaks (last l) w g m lent store = tt
 breaks (carrying l j o n) w g m lent store = (pick (eqb (m j) 1) (byte (field 8 (g n) ∷ []) ∷ copy (run g o n store) ∷ []) [], tt)
 breaks (list l k r p) w g m lent store = (rows (r .acts lent store) 0 (m k), breaks p (w .1) g m (beyond (r .heeded) lent) store)
 
-pub pieced-so : {T M : Type 0} (p : Pieces T M) (w : Lawful-pieces p) (g m : Columns) (lent : Lent) (store : List ℕ) → pieced p g m lent store ≡ woven (form p w) g (breaks p w g m lent store)
+pub pieced-so : {T M : Type 0} (p : Pieces T M) (w : Lawful-pieces p) (g m : Columns) (lent : Lent) (store : List ℕ)
+    → pieced p g m lent store ≡ woven (form p w) g (breaks p w g m lent store)
 unfolding pieced form woven breaks writes
 pieced-so (last l) w g m lent store = refl
 pieced-so (carrying l j o n) w g m lent store = ap (λ (q : List Act). writes l g ++ q) (sym (append-nil _))
 pieced-so (list l k r p) w g m lent store = λ i. writes l g ++ (rows (r .acts lent store) 0 (m k) ++ pieced-so p (w .1) g m (beyond (r .heeded) lent) store i)
 
-carried-spells : (g : Columns) (o n : ℕ) (store : List ℕ) (b : Bool) → pick b (leb (g o + g n) (length store)) true ≡ true → clean (pick b (byte (field 8 (g n) ∷ []) ∷ copy (run g o n store) ∷ []) []) ≡ true
+carried-spells : (g : Columns) (o n : ℕ) (store : List ℕ) (b : Bool) → pick b (leb (g o + g n) (length store)) true ≡ true
+    → clean (pick b (byte (field 8 (g n) ∷ []) ∷ copy (run g o n store) ∷ []) []) ≡ true
     → Spells (opt prefixed b) (pick b (byte (field 8 (g n) ∷ []) ∷ copy (run g o n store) ∷ []) []) (pick b (some (run g o n store)) none)
 unfolding opt opt-acts Opt-fits clean
 carried-spells g o n store false i e = record { fits = tt; sound = refl; same = refl }
@@ -118,7 +120,8 @@ carried-spells g o n store true i e =
     record { fits = prefixed-fits l; sound = ap clean (sym q) ∙ e; same = ap bytes q }
 
 -- each break spells its part of the meaning
-pub holes-so : {T M : Type 0} (p : Pieces T M) (w : Lawful-pieces p) (g m : Columns) (lent : Lent) (store : List ℕ) → inside p g m lent store ≡ true → clean (pieced p g m lent store) ≡ true → Holes (form p w) m (breaks p w g m lent store) (means p g m lent store)
+pub holes-so : {T M : Type 0} (p : Pieces T M) (w : Lawful-pieces p) (g m : Columns) (lent : Lent) (store : List ℕ) → inside p g m lent store ≡ true
+    → clean (pieced p g m lent store) ≡ true → Holes (form p w) m (breaks p w g m lent store) (means p g m lent store)
 unfolding inside pieced form Holes breaks means
 holes-so (last l) w g m lent store i e = tt
 holes-so (carrying l j o n) w g m lent store i e = (carried-spells g o n store (eqb (m j) 1) i (clean-both (writes l g) _ e .1), tt)
@@ -139,7 +142,8 @@ pub record Same-tables {T M : Type 0} (p : Pieces T M) (g m : Columns) (lent len
   pub inside : inside p g m lent store ≡ inside p g m lent′ store
   pub acts : pieced p g m lent store ≡ pieced p g m lent′ store
 
-pub same-tables : {T M : Type 0} (p : Pieces T M) → Lawful-pieces p → (g m : Columns) {lent lent′ : Lent} (store : List ℕ) → Agree (heededRows p) lent lent′ → Same-tables p g m lent lent′ store
+pub same-tables : {T M : Type 0} (p : Pieces T M) → Lawful-pieces p → (g m : Columns) {lent lent′ : Lent} (store : List ℕ) → Agree (heededRows p) lent lent′
+    → Same-tables p g m lent lent′ store
 unfolding inside pieced heededRows
 same-tables (last l) w g m store a = record { inside = refl; acts = refl }
 same-tables (carrying l j o n) w g m store a = record { inside = refl; acts = refl }
@@ -154,7 +158,8 @@ pub all-there : {T M : Type 0} (p : Pieces T M) → Lawful-pieces p → (x : T) 
 unfolding tables heededRows
 all-there (last l) w x = refl
 all-there (carrying l j o n) w x = refl
-all-there (list l k r p) w x = omega (arith, length-append (r .tables (x .0)) (tables p (x .1)), length-append (r .heeded) (heededRows p), w .0 .all-there (x .0), all-there p (w .1) (x .1))
+all-there (list l k r p) w x =
+    omega (arith, length-append (r .tables (x .0)) (tables p (x .1)), length-append (r .heeded) (heededRows p), w .0 .all-there (x .0), all-there p (w .1) (x .1))
 
 filled-beyond : (hs : List Heeded) (ts more : List Rows) → length ts ≡ length hs → (lent : Lent) → beyond hs (filled (ts ++ more) lent) ≡ filled more (beyond hs lent)
 unfolding beyond filled otherTables
@@ -179,7 +184,8 @@ pub record Grown {T M : Type 0} (p : Pieces T M) (x : T) (bs : List ℕ) : Type 
   pub shaped : Every Shaped (tables p x)
   pub heavy : weights p + total (needs (tables p x)) ≤ length bs
 
-pub grown : {T M : Type 0} (p : Pieces T M) (w : Lawful-pieces p) (f : Columns) (at : ℕ) (z : Columns × T) (bs : List ℕ) → Takes (form-read (form p w) f) at z bs → Grown p (z .1) bs
+pub grown : {T M : Type 0} (p : Pieces T M) (w : Lawful-pieces p) (f : Columns) (at : ℕ) (z : Columns × T) (bs : List ℕ) → Takes (form-read (form p w) f) at z bs
+    → Grown p (z .1) bs
 unfolding form form-read tables C.list needs total weights
 grown (last l) w f at z bs t = let (g, e, u) = map-takes (reads l f) (λ g. (g, tt)) t in record { shaped = all-nil; heavy = omega (arith, weighs l f g at bs u) }
 grown (carrying l j o n) w f at z bs t =
@@ -190,7 +196,9 @@ grown (list {A} {T = S} l k r p) w f at z bs t =
     let u = takes-split {B = B} (reads l f) _ t in
     let v = takes-split {B = B} (many (u .value k) (w .0 .codec .read)) _ (u .second) in
     let (y, e, d) = map-takes {B = B} (form-read (form p (w .1)) (u .value)) (λ y. (y .0, (v .value, y .1))) (v .second) in
-    let a = w .0 .grows (subst (λ (q : Prog A). Listed q (u .value k) (at + length (u .front)) (v .value) (v .front)) (w .0 .reads) (many-takes (w .0 .codec .read) (u .value k) (v .first))) in
+    let a =
+    w .0 .grows
+    (subst (λ (q : Prog A). Listed q (u .value k) (at + length (u .front)) (v .value) (v .front)) (w .0 .reads) (many-takes (w .0 .codec .read) (u .value k) (v .first))) in
     let b = grown p (w .1) (u .value) _ y (v .back) d in
     let n₀ = weighs l f (u .value) at (u .front) (u .first) in
     let n₁ = ap length (u .joined) ∙ length-append (u .front) (u .back) in
@@ -200,7 +208,8 @@ grown (list {A} {T = S} l k r p) w f at z bs t =
       heavy = omega (arith, total-both (r .tables (v .value)) (tables p (y .1)), a .few, b .heavy, n₀, n₁, n₂);
     })
 
-pub took : {T M : Type 0} (p : Pieces T M) (w : Lawful-pieces p) (f : Columns) (at : ℕ) (z : Columns × T) (bs : List ℕ) → Takes (form-read (form p w) f) at z bs → Took (tables p (z .1)) bs
+pub took : {T M : Type 0} (p : Pieces T M) (w : Lawful-pieces p) (f : Columns) (at : ℕ) (z : Columns × T) (bs : List ℕ) → Takes (form-read (form p w) f) at z bs
+    → Took (tables p (z .1)) bs
 took p w f at z bs t = let g = grown p w f at z bs t in record { shaped = g .shaped; few = omega (arith, g .heavy) }
 
 -- ---- a record that was read of the body s, its columns h; g are those that writing reads, with the place of its payload
@@ -246,14 +255,16 @@ module _ {A D T M : Type 0} (l : Layout) (k : ℕ) (r : RowType A D) (p : Pieces
   tables-on lent = filled-beyond (r .heeded) (r .tables (x .0)) (tables p (x .1)) (w .0 .all-there (x .0)) lent
 
 -- the payload that was read, as it stands in the record
-carried-means : (s : List ℕ) (a b : ℕ) (y : Option Payload) (c : Bool) → a ≡ offsetOf y → b ≡ lengthOf y → Opt-fits prefixed c (opt-means prefixed s y) → pick c (some (slice a (a + b) s)) none ≡ opt-means prefixed s y
+carried-means : (s : List ℕ) (a b : ℕ) (y : Option Payload) (c : Bool) → a ≡ offsetOf y → b ≡ lengthOf y → Opt-fits prefixed c (opt-means prefixed s y)
+    → pick c (some (slice a (a + b) s)) none ≡ opt-means prefixed s y
 unfolding opt-means Opt-fits prefixed seen-as
 carried-means s a b none true p q f = absurd f
 carried-means s a b none false p q f = refl
 carried-means s a b (some y) true p q f = λ i. some (slice (p i) (p i + q i) s)
 carried-means s a b (some y) false p q f = absurd f
 
-carried-ready : (s : List ℕ) (a b : ℕ) (y : Option Payload) (c : Bool) → a ≡ offsetOf y → b ≡ lengthOf y → Opt-fits prefixed c (opt-means prefixed s y) → clean (opt-acts prefixed (opt-means prefixed s y)) ≡ true → Every (Within s) (given y)
+carried-ready : (s : List ℕ) (a b : ℕ) (y : Option Payload) (c : Bool) → a ≡ offsetOf y → b ≡ lengthOf y → Opt-fits prefixed c (opt-means prefixed s y)
+    → clean (opt-acts prefixed (opt-means prefixed s y)) ≡ true → Every (Within s) (given y)
     → (pick c (leb (a + b) (length s)) true ≡ true) × (clean (pick c (byte (field 8 b ∷ []) ∷ copy (slice a (a + b) s) ∷ []) []) ≡ true)
 unfolding opt-means opt-acts Opt-fits prefixed seen-as clean
 carried-ready s a b none true p q f e i = absurd f
@@ -265,7 +276,8 @@ carried-ready s a b (some y) true p q f e (all-cons i _) =
     let n : a + b ≤ length s = omega (arith, p, q, i) in
     (le-leb _ _ n, (λ z. clean (byte (field 8 (sym long z) ∷ []) ∷ copy (slice (p z) (p z + q z) s) ∷ [])) ∙ ap clean (sym (prefixed-acts l)) ∙ e)
 
-pub means-so : {T M : Type 0} (p : Pieces T M) (w : Lawful-pieces p) {s : List ℕ} {g h : Columns} {x : T} → Was p w s g h x → (lent : Lent) → means p g h (filled (tables p x) lent) s ≡ form-means (form p w) s h x
+pub means-so : {T M : Type 0} (p : Pieces T M) (w : Lawful-pieces p) {s : List ℕ} {g h : Columns} {x : T} → Was p w s g h x → (lent : Lent)
+    → means p g h (filled (tables p x) lent) s ≡ form-means (form p w) s h x
 unfolding form form-means means Form-fits tables opt C.list
 means-so (last l) w d lent = refl
 means-so (carrying l j o n) w {s} {g} {h} {x} d lent = λ i. (carried-means s (g o) (g n) (x .0) (eqb (h j) 1) (d .stood .0) (d .stood .1) (d .fits .1 .0) i, tt)
@@ -275,7 +287,8 @@ means-so (list l k r p) w {s} {g} {h} {x} d lent =
     let b = ap (λ (lent : Lent). means p g h lent s) (tables-on l k r p w d lent) ∙ means-so p (w .1) (rest-was l k r p w d) (beyond (r .heeded) lent) in
     λ i. (a i, b i)
 
-pub inside-so : {T M : Type 0} (p : Pieces T M) (w : Lawful-pieces p) {s : List ℕ} {g h : Columns} {x : T} → Was p w s g h x → (lent : Lent) → inside p g h (filled (tables p x) lent) s ≡ true
+pub inside-so : {T M : Type 0} (p : Pieces T M) (w : Lawful-pieces p) {s : List ℕ} {g h : Columns} {x : T} → Was p w s g h x → (lent : Lent)
+    → inside p g h (filled (tables p x) lent) s ≡ true
 unfolding inside tables form form-means form-acts Form-fits opt payloads
 inside-so (last l) w d lent = refl
 inside-so (carrying l j o n) w {s} {g} {h} {x} d lent =
@@ -287,7 +300,8 @@ inside-so (list l k r p) w {s} {g} {h} {x} d lent =
     let k₀ : h k ≤ length (firstTable (filled (r .tables (x .0) ++ tables p (x .1)) lent)) / r .columns = omega (arith, y .counted, n) in
     both-and (le-leb _ _ k₀) (ap (λ (lent : Lent). inside p g h lent s) (tables-on l k r p w d lent) ∙ inside-so p (w .1) (rest-was l k r p w d) (beyond (r .heeded) lent))
 
-pub ready-so : {T M : Type 0} (p : Pieces T M) (w : Lawful-pieces p) {s : List ℕ} {g h : Columns} {x : T} → Was p w s g h x → (lent : Lent) → Cleans (form p w) (breaks p w g h (filled (tables p x) lent) s)
+pub ready-so : {T M : Type 0} (p : Pieces T M) (w : Lawful-pieces p) {s : List ℕ} {g h : Columns} {x : T} → Was p w s g h x → (lent : Lent)
+    → Cleans (form p w) (breaks p w g h (filled (tables p x) lent) s)
 unfolding form breaks Cleans tables form-means form-acts Form-fits opt payloads
 ready-so (last l) w d lent = tt
 ready-so (carrying l j o n) w {s} {g} {h} {x} d lent =
@@ -299,7 +313,8 @@ ready-so (list l k r p) w {s} {g} {h} {x} d lent =
       subst (λ (lent : Lent). Cleans (form p (w .1)) (breaks p (w .1) g h lent s)) (sym (tables-on l k r p w d lent)) (ready-so p (w .1) (rest-was l k r p w d) (beyond (r .heeded) lent)),
     )
 
-pub columns-so : {T M : Type 0} (p : Pieces T M) (w : Lawful-pieces p) {s : List ℕ} {g h : Columns} {x : T} → Was p w s g h x → length s < 65536 → total (needs (tables p x)) < 65536 → Every (λ (q : Rows). Every (Every Column) (q .rows)) (tables p x)
+pub columns-so : {T M : Type 0} (p : Pieces T M) (w : Lawful-pieces p) {s : List ℕ} {g h : Columns} {x : T} → Was p w s g h x → length s < 65536
+    → total (needs (tables p x)) < 65536 → Every (λ (q : Rows). Every (Every Column) (q .rows)) (tables p x)
 unfolding tables
 columns-so (last l) w d a b = all-nil
 columns-so (carrying l j o n) w d a b = all-nil

@@ -92,7 +92,8 @@ module _ (kid : Heeded) where
   range-breaks (tail l) w lent store g = tt
   range-breaks (range l i k r p) w lent store g = (rows (r .acts lent store) (g i) (g k), range-breaks p (w .1) lent store g)
 
-  bytes-so : {T M : Type 0} (p : Ranges T M) (w : Lawful-ranges p) (lent : Lent) (store : List ℕ) (g : Columns) → rangedBytes p lent store g ≡ woven (form (piecesOf p) (pieces-lawful p w)) g (range-breaks p w lent store g)
+  bytes-so : {T M : Type 0} (p : Ranges T M) (w : Lawful-ranges p) (lent : Lent) (store : List ℕ) (g : Columns)
+      → rangedBytes p lent store g ≡ woven (form (piecesOf p) (pieces-lawful p w)) g (range-breaks p w lent store g)
   unfolding rangedBytes form woven range-breaks
   bytes-so (tail l) w lent store g = refl
   bytes-so (range l i k r p) w lent store g = λ z. writes l g ++ (rows (r .acts lent store) (g i) (g k) ++ bytes-so p (w .1) lent store g z)
@@ -120,7 +121,8 @@ module _ (kid : Heeded) where
       let y = same-so p (w .1) lent store g h (f .1) (c .1) in
       record { inside = λ room z. leb (f .0 z + c .0 z) room && y .inside room z; breaks = λ z. (rows (r .acts lent store) (f .0 z) (c .0 z), y .breaks z) }
 
-  table-heeds : {T M : Type 0} (p : Ranges T M) → Lawful-ranges p → {hs : List Heeded} {lent lent′ : Lent} → Agree (kid ∷ hs) lent lent′ → (store : List ℕ) (g : Columns) → rangedBytes p lent store g ≡ rangedBytes p lent′ store g
+  table-heeds : {T M : Type 0} (p : Ranges T M) → Lawful-ranges p → {hs : List Heeded} {lent lent′ : Lent} → Agree (kid ∷ hs) lent lent′ → (store : List ℕ) (g : Columns)
+      → rangedBytes p lent store g ≡ rangedBytes p lent′ store g
   unfolding rangedBytes
   table-heeds (tail l) w a store g = refl
   table-heeds (range l i k r p) w {hs} {lent} {lent′} a store g =
@@ -129,12 +131,16 @@ module _ (kid : Heeded) where
 
   -- ---- of one that was read
 
-  rows-split : {A C T M : Type 0} (l : Layout) (i k : ℕ) (r : RowType A C) (p : Ranges T M) (w : Lawful-ranges (range l i k r p)) (x : List A × T) → rowsOf (range l i k r p) x ≡ map (w .0 .stored) (x .0) ++ rowsOf p (x .1)
+  rows-split : {A C T M : Type 0} (l : Layout) (i k : ℕ) (r : RowType A C) (p : Ranges T M) (w : Lawful-ranges (range l i k r p)) (x : List A × T)
+      → rowsOf (range l i k r p) x ≡ map (w .0 .stored) (x .0) ++ rowsOf p (x .1)
   unfolding tables flatMap
   rows-split l i k r p w x = ap (λ (ts : List Rows). flatMap (λ (t : Rows). t .rows) (ts ++ tables (piecesOf p) (x .1))) (w .0 .table (x .0))
 
-  rows-long : {A C T M : Type 0} (l : Layout) (i k : ℕ) (r : RowType A C) (p : Ranges T M) (w : Lawful-ranges (range l i k r p)) (x : List A × T) → length (rowsOf (range l i k r p) x) ≡ length (x .0) + length (rowsOf p (x .1))
-  rows-long l i k r p w x = ap length (rows-split l i k r p w x) ∙ length-append (map (w .0 .stored) (x .0)) (rowsOf p (x .1)) ∙ ap (λ (n : ℕ). n + length (rowsOf p (x .1))) (length-map (x .0) (w .0 .stored))
+  rows-long : {A C T M : Type 0} (l : Layout) (i k : ℕ) (r : RowType A C) (p : Ranges T M) (w : Lawful-ranges (range l i k r p)) (x : List A × T)
+      → length (rowsOf (range l i k r p) x) ≡ length (x .0) + length (rowsOf p (x .1))
+  rows-long l i k r p w x =
+      ap length (rows-split l i k r p w x) ∙ length-append (map (w .0 .stored) (x .0)) (rowsOf p (x .1))
+      ∙ ap (λ (n : ℕ). n + length (rowsOf p (x .1))) (length-map (x .0) (w .0 .stored))
 
   -- its rows are as wide as those of their table
   shaped-wide : {T M : Type 0} (p : Ranges T M) (w : Lawful-ranges p) (x : T) → Every Shaped (tables (piecesOf p) x) → Every (Wide (kid .columns)) (rowsOf p x)
@@ -147,14 +153,17 @@ module _ (kid : Heeded) where
       split : {q : Rows} {qs : List Rows} → Every Shaped (q ∷ qs) → Shaped q × Every Shaped qs
       split (all-cons a b) = (a, b)
 
-  read-wide : {T M : Type 0} (p : Ranges T M) (w : Lawful-ranges p) {s : List ℕ} {g h : Columns} {x : T} → Was (piecesOf p) (pieces-lawful p w) s g h x → Every (Wide (kid .columns)) (rowsOf p x)
+  read-wide : {T M : Type 0} (p : Ranges T M) (w : Lawful-ranges p) {s : List ℕ} {g h : Columns} {x : T} → Was (piecesOf p) (pieces-lawful p w) s g h x
+      → Every (Wide (kid .columns)) (rowsOf p x)
   unfolding tables flatMap
   read-wide (tail l) w d = all-nil
   read-wide (range l i k r p) w {s} {x = x} d =
       let y = list-was l k r (piecesOf p) (pieces-lawful (range l i k r p) w) d in
-      subst (Every (Wide (kid .columns))) (sym (rows-split l i k r p w x)) (every-both _ (w .0 .wide s (x .0) (y .had)) (read-wide p (w .1) (rest-was l k r (piecesOf p) (pieces-lawful (range l i k r p) w) d)))
+      subst (Every (Wide (kid .columns))) (sym (rows-split l i k r p w x))
+      (every-both _ (w .0 .wide s (x .0) (y .had)) (read-wide p (w .1) (rest-was l k r (piecesOf p) (pieces-lawful (range l i k r p) w) d)))
 
-  ranged-small : {T M : Type 0} (p : Ranges T M) (w : Lawful-ranges p) (m : ℕ) (x : T) (f : Columns) → m + length (rowsOf p x) < 65536 → ((j : ℕ) → f j < 65536) → (j : ℕ) → ranged p m x f j < 65536
+  ranged-small : {T M : Type 0} (p : Ranges T M) (w : Lawful-ranges p) (m : ℕ) (x : T) (f : Columns) → m + length (rowsOf p x) < 65536 → ((j : ℕ) → f j < 65536) → (j : ℕ)
+      → ranged p m x f j < 65536
   unfolding ranged
   ranged-small (tail l) w m x f n h j = h j
   ranged-small (range l i k r p) w m x f n h j = go (eqb j i) (ranged-small p (w .1) (m + length (x .0)) (x .1) f (omega (arith, n, rows-long l i k r p w x)) h j)
@@ -164,7 +173,8 @@ module _ (kid : Heeded) where
       go false e = e
 
   -- the ranges of a row with these columns
-  ranged-so : {T M : Type 0} (p : Ranges T M) (w : Lawful-ranges p) {s : List ℕ} {g h : Columns} {x : T} → Was (piecesOf p) (pieces-lawful p w) s g h x → distinct (firstsOf p) ≡ true → (m : ℕ) (f : Columns) → On (firstsOf p) (ranged p m x f) g → Counts p h g → Ranged p g m x
+  ranged-so : {T M : Type 0} (p : Ranges T M) (w : Lawful-ranges p) {s : List ℕ} {g h : Columns} {x : T} → Was (piecesOf p) (pieces-lawful p w) s g h x
+      → distinct (firstsOf p) ≡ true → (m : ℕ) (f : Columns) → On (firstsOf p) (ranged p m x f) g → Counts p h g → Ranged p g m x
   unfolding firstsOf ranged distinct has
   ranged-so (tail l) w d u m f o c = tt
   ranged-so (range l i k r p) w {s} {g} {h} {x} d u m f o c =
@@ -184,7 +194,8 @@ module _ (kid : Heeded) where
           go true q = clash e (ap (λ (j : ℕ). has j (firstsOf p)) (eqb-true j i q) ∙ out)
           go false q = sym (set-else i m inner j q) ∙ o j (rw q e)
 
-  inside-so : {T M : Type 0} (p : Ranges T M) (w : Lawful-ranges p) (g : Columns) (m : ℕ) (x : T) → Ranged p g m x → (room : ℕ) → m + length (rowsOf p x) ≤ room → allInside p room g ≡ true
+  inside-so : {T M : Type 0} (p : Ranges T M) (w : Lawful-ranges p) (g : Columns) (m : ℕ) (x : T) → Ranged p g m x → (room : ℕ) → m + length (rowsOf p x) ≤ room
+      → allInside p room g ≡ true
   unfolding allInside
   inside-so (tail l) w g m x d room h = refl
   inside-so (range l i k r p) w g m x d room h =
@@ -197,7 +208,8 @@ module _ (kid : Heeded) where
     abbrev kids : ℕ → List ℕ
     kids j = row (kid .columns) (at (kid .columns) (firstTable lent) j)
 
-    list-stands : {A C T M : Type 0} (l : Layout) (i k : ℕ) (r : RowType A C) (p : Ranges T M) (w : Lawful-ranges (range l i k r p)) (x : List A × T) (m : ℕ) → each kids m (length (rowsOf (range l i k r p) x)) ≡ rowsOf (range l i k r p) x
+    list-stands : {A C T M : Type 0} (l : Layout) (i k : ℕ) (r : RowType A C) (p : Ranges T M) (w : Lawful-ranges (range l i k r p)) (x : List A × T) (m : ℕ)
+        → each kids m (length (rowsOf (range l i k r p) x)) ≡ rowsOf (range l i k r p) x
         → (each kids m (length (x .0)) ≡ map (w .0 .stored) (x .0)) × (each kids (m + length (x .0)) (length (rowsOf p (x .1))) ≡ rowsOf p (x .1))
     list-stands l i k r p w x m e =
         let a = map (w .0 .stored) (x .0) in
@@ -206,7 +218,8 @@ module _ (kid : Heeded) where
         let (y, z) = each-split kids a b m (subst (λ (l : List (List ℕ)). each kids m (length l) ≡ l) (rows-split l i k r p w x) e) in
         (subst (λ (n : ℕ). each kids m n ≡ a) n y, subst (λ (n : ℕ). each kids (m + n) (length b) ≡ b) n z)
 
-    lists-so : {T M : Type 0} (p : Ranges T M) (w : Lawful-ranges p) {s : List ℕ} {g h : Columns} {x : T} → Was (piecesOf p) (pieces-lawful p w) s g h x → (m : ℕ) → Ranged p g m x → each kids m (length (rowsOf p x)) ≡ rowsOf p x
+    lists-so : {T M : Type 0} (p : Ranges T M) (w : Lawful-ranges p) {s : List ℕ} {g h : Columns} {x : T} → Was (piecesOf p) (pieces-lawful p w) s g h x → (m : ℕ)
+        → Ranged p g m x → each kids m (length (rowsOf p x)) ≡ rowsOf p x
         → rangedLists p lent s g ≡ form-means (form (piecesOf p) (pieces-lawful p w)) s h x
     unfolding rangedLists form form-means C.list
     lists-so (tail l) w d m q e = refl
@@ -216,7 +229,8 @@ module _ (kid : Heeded) where
         let c = (λ z. each (r .means lent s) (q .0 z) (q .1 z)) ∙ w .0 .laid-at s (x .0) (y .had) lent m a in
         λ z. (c z, lists-so p (w .1) (rest-was l k r (piecesOf p) (pieces-lawful (range l i k r p) w) d) (m + length (x .0)) (q .2) b z)
 
-    ready-so : {T M : Type 0} (p : Ranges T M) (w : Lawful-ranges p) {s : List ℕ} {g h : Columns} {x : T} → Was (piecesOf p) (pieces-lawful p w) s g h x → (m : ℕ) → Ranged p g m x → each kids m (length (rowsOf p x)) ≡ rowsOf p x
+    ready-so : {T M : Type 0} (p : Ranges T M) (w : Lawful-ranges p) {s : List ℕ} {g h : Columns} {x : T} → Was (piecesOf p) (pieces-lawful p w) s g h x → (m : ℕ)
+        → Ranged p g m x → each kids m (length (rowsOf p x)) ≡ rowsOf p x
         → Cleans (form (piecesOf p) (pieces-lawful p w)) (range-breaks p w lent s g)
     unfolding form range-breaks Cleans
     ready-so (tail l) w d m q e = tt
@@ -314,7 +328,8 @@ module _ {T M : Type 0} (t u n : ℕ) (p : Ranges T M) (kid : Heeded) (w : Lawfu
       let o : On (columns (form-shown y g)) (kept (layouts (piecesOf p)) g blank) g = λ j e. ap (λ (f : Columns). f j) (kept-so (piecesOf p) (pieces-lawful kid p w) n blank (tests .proper) (tests .low) (λ j h. refl) g) ∙ mix-in (columns (form-shown y g)) g blank j e in
       counts-on p (sure-columns y) (tests .counts) g (kept (layouts (piecesOf p)) g blank) (λ j e. sym (sure-on y g o j e))
 
-  range-spells : (room : ℕ) (lent : Lent) (store : List ℕ) (g : Columns) → clean (rangedActs n p room lent store g) ≡ true → Spells range-codec (rangedActs n p room lent store g) (rangedMeans n p lent store g)
+  range-spells : (room : ℕ) (lent : Lent) (store : List ℕ) (g : Columns) → clean (rangedActs n p room lent store g) ≡ true
+      → Spells range-codec (rangedActs n p room lent store g) (rangedMeans n p lent store g)
   unfolding range-codec
   range-spells room lent store g =
       record-spells (piecesOf p) (pieces-lawful kid p w) n blank (tests .proper) (tests .low) (λ j h. refl) (allInside p room g) g (range-breaks kid p w lent store g) (rangedLists p lent store g) (bytes-so kid p w lent store g)
@@ -335,7 +350,9 @@ module _ {T M : Type 0} (t u n : ℕ) (p : Ranges T M) (kid : Heeded) (w : Lawfu
           sym (a ∙ c ∙ mix-in (columns (form-shown y g)) g blank j e)
 
   heeds-firsts : (g : Columns) → Firsts p g (of (rangedHeeds n p g))
-  heeds-firsts g = firsts-on p g (of (rangedHeeds n p g)) (λ j e. sym (row-on n (firstsOf p) (tests .firsts-low) (rangedHeeds n p g) (mix (firstsOf p) g (kept (layouts (piecesOf p)) g blank)) refl j e ∙ mix-in (firstsOf p) g (kept (layouts (piecesOf p)) g blank) j e))
+  heeds-firsts g =
+      firsts-on p g (of (rangedHeeds n p g))
+      (λ j e. sym (row-on n (firstsOf p) (tests .firsts-low) (rangedHeeds n p g) (mix (firstsOf p) g (kept (layouts (piecesOf p)) g blank)) refl j e ∙ mix-in (firstsOf p) g (kept (layouts (piecesOf p)) g blank) j e))
 
   range-kept : (room : ℕ) (lent : Lent) (store : List ℕ) (g : Columns) → rangedActs n p room lent store g ≡ rangedActs n p room lent store (of (rangedHeeds n p g))
   range-kept room lent store g =
@@ -392,7 +409,8 @@ module _ {T M : Type 0} (t u n : ℕ) (p : Ranges T M) (kid : Heeded) (w : Lawfu
     unfolding flatMap
     had {xs} h = every-and (λ a. Good range-codec (range-codec .means s a)) (λ a. Every (Within s) (payloads (piecesOf p) (a .1))) (h .good) (every-parts xs (h .inside))
       where
-        every-parts : (xs : List Tree) → Every (Within s) (flatMap (λ (a : Tree). payloads (piecesOf p) (a .1)) xs) → Every (λ (a : Tree). Every (Within s) (payloads (piecesOf p) (a .1))) xs
+        every-parts : (xs : List Tree) → Every (Within s) (flatMap (λ (a : Tree). payloads (piecesOf p) (a .1)) xs)
+            → Every (λ (a : Tree). Every (Within s) (payloads (piecesOf p) (a .1))) xs
         every-parts [] e = all-nil
         every-parts (a ∷ xs) e = all-cons (every-left (Within s) (payloads (piecesOf p) (a .1)) _ e) (every-parts xs (every-right (Within s) (payloads (piecesOf p) (a .1)) _ e))
 
@@ -402,14 +420,17 @@ module _ {T M : Type 0} (t u n : ℕ) (p : Ranges T M) (kid : Heeded) (w : Lawfu
       full = ranged p (z .0) (z .1 .1) (of (z .1 .0))
 
       row-agrees : On (form-all y) (of (z .1 .0)) g
-      row-agrees j o = sym (row-on n (form-all y) (tests .low) (rangedRow n p z) full refl j o ∙ ranged-else p (z .0) (z .1 .1) (of (z .1 .0)) j (tests .apart j o)) ∙ row-on n (form-all y) (tests .low) (rangedRow n p z) g e j o
+      row-agrees j o =
+          sym (row-on n (form-all y) (tests .low) (rangedRow n p z) full refl j o ∙ ranged-else p (z .0) (z .1 .1) (of (z .1 .0)) j (tests .apart j o))
+          ∙ row-on n (form-all y) (tests .low) (rangedRow n p z) g e j o
 
       agrees-shown : On (columns (form-shown y (of (z .1 .0)))) (of (z .1 .0)) g
       agrees-shown = on-all y (of (z .1 .0)) g row-agrees
 
       has-ranges : Ranged p g (z .0) (z .1 .1)
       has-ranges =
-          ranged-so kid p w (was (z .1) g h) (tests .firsts-distinct) (z .0) (of (z .1 .0)) (λ j o. sym (row-on n (firstsOf p) (tests .firsts-low) (rangedRow n p z) full refl j o) ∙ row-on n (firstsOf p) (tests .firsts-low) (rangedRow n p z) g e j o)
+          ranged-so kid p w (was (z .1) g h) (tests .firsts-distinct) (z .0) (of (z .1 .0))
+          (λ j o. sym (row-on n (firstsOf p) (tests .firsts-low) (rangedRow n p z) full refl j o) ∙ row-on n (firstsOf p) (tests .firsts-low) (rangedRow n p z) g e j o)
           (counts-on p (sure-columns y) (tests .counts) (of (z .1 .0)) g (λ j o. sym (sure-on y (of (z .1 .0)) {f = g} (λ j o. sym (agrees-shown j o)) j o)))
 
       module _ (lent : Lent) (stand : each (kids kid lent) (z .0) (size (z .1)) ≡ rowsOf p (z .1 .1)) where
@@ -417,7 +438,9 @@ module _ {T M : Type 0} (t u n : ℕ) (p : Ranges T M) (kid : Heeded) (w : Lawfu
         unfolding range-codec rows-of
         row-means =
             let c = range-codec .means s (z .1) in
-            let a = ap (row n) (kept-so (piecesOf p) (pieces-lawful kid p w) n blank (tests .proper) (tests .low) (λ j h. refl) g) ∙ means-again n y blank (tests .proper) (tests .low) (λ j h. refl) c (h .0 .0) g agrees-shown in
+            let a =
+            ap (row n) (kept-so (piecesOf p) (pieces-lawful kid p w) n blank (tests .proper) (tests .low) (λ j h. refl) g)
+            ∙ means-again n y blank (tests .proper) (tests .low) (λ j h. refl) c (h .0 .0) g agrees-shown in
             let b = lists-so kid lent p w (was (z .1) g h) (z .0) has-ranges stand in
             λ i. (a i, b i)
 
@@ -440,28 +463,37 @@ module _ {T M : Type 0} (t u n : ℕ) (p : Ranges T M) (kid : Heeded) (w : Lawfu
       Standing z = (Stood-so (z .1) × (z .0 + size (z .1) ≤ 0 + sum size xs)) × (each (kids kid lent) (z .0) (size (z .1)) ≡ rowsOf p (z .1 .1))
 
       lists-wide : Every (Wide (kid .columns)) lists
-      lists-wide = every-flat (λ (a : Tree). rowsOf p (a .1)) (Wide (kid .columns)) xs (every-as Stood-so (λ a. Every (Wide (kid .columns)) (rowsOf p (a .1))) (λ a g. read-wide kid p w (was a blank g)) h)
+      lists-wide =
+          every-flat (λ (a : Tree). rowsOf p (a .1)) (Wide (kid .columns)) xs
+          (every-as Stood-so (λ a. Every (Wide (kid .columns)) (rowsOf p (a .1))) (λ a g. read-wide kid p w (was a blank g)) h)
 
       standing : Every Standing (firsts size 0 xs)
       standing =
           let B : ℕ × Tree → Type 0 = λ z. z .0 + size (z .1) ≤ 0 + sum size xs in
           let S : ℕ × Tree → Type 0 = λ z. each (kids kid lent) (z .0) (size (z .1)) ≡ rowsOf p (z .1 .1) in
-          let f = subst (λ (t : List ℕ). each (λ i. row (kid .columns) (at (kid .columns) t i)) 0 (length lists) ≡ lists) (sym lower) (found (kid .columns) lists lists-wide beneath) in
-          every-and (λ z. Stood-so (z .1) × B z) S (every-and (λ z. Stood-so (z .1)) B (every-firsts size 0 Stood-so xs h) (firsts-below size 0 xs)) (kids-stand (kids kid lent) (λ (a : Tree). rowsOf p (a .1)) xs 0 f)
+          let f =
+          subst (λ (t : List ℕ). each (λ i. row (kid .columns) (at (kid .columns) t i)) 0 (length lists) ≡ lists) (sym lower) (found (kid .columns) lists lists-wide beneath) in
+          every-and (λ z. Stood-so (z .1) × B z) S (every-and (λ z. Stood-so (z .1)) B (every-firsts size 0 Stood-so xs h) (firsts-below size 0 xs))
+          (kids-stand (kids kid lent) (λ (a : Tree). rowsOf p (a .1)) xs 0 f)
 
       parents-stand : each (λ i. row n (at n upper i)) 0 (length xs) ≡ map (rangedRow n p) (firsts size 0 xs)
       unfolding parents
-      parents-stand = subst (λ (m : ℕ). each (λ i. row n (at n upper i)) 0 m ≡ map (rangedRow n p) (firsts size 0 xs)) (parents-long xs) (found n (parents xs) (parents-wide xs) behind)
+      parents-stand =
+          subst (λ (m : ℕ). each (λ i. row n (at n upper i)) 0 m ≡ map (rangedRow n p) (firsts size 0 xs)) (parents-long xs) (found n (parents xs) (parents-wide xs) behind)
 
       range-laid : each (λ i. rangedMeans n p lent s (at n upper i)) 0 (length xs) ≡ map (range-codec .means s) xs
       range-laid =
-          each-as Standing (rangedRow n p) (λ i. row n (at n upper i)) (λ i. rangedMeans n p lent s (at n upper i)) (λ z. range-codec .means s (z .1)) (λ i z e g. row-means z (g .0 .0) (at n upper i) e lent (g .1)) 0 (length xs) (firsts size 0 xs) parents-stand standing
+          each-as Standing (rangedRow n p) (λ i. row n (at n upper i)) (λ i. rangedMeans n p lent s (at n upper i)) (λ z. range-codec .means s (z .1))
+          (λ i z e g. row-means z (g .0 .0) (at n upper i) e lent (g .1)) 0 (length xs) (firsts size 0 xs) parents-stand standing
           ∙ map-first (range-codec .means s) size 0 xs
 
       range-ready : clean (rows (λ i. rangedActs n p (length (firstTable lent) / kid .columns) lent s (at n upper i)) 0 (length xs)) ≡ true
       range-ready =
-          let long : sum size xs ≤ length (firstTable lent) / kid .columns = subst (λ (t : List ℕ). sum size xs ≤ length t / kid .columns) (sym lower) (omega (arith, room-for (kid .columns) lists beneath (tests .kid-wide) lists-wide, flat-length (λ (a : Tree). rowsOf p (a .1)) xs)) in
-          each-clean Standing (rangedRow n p) (λ i. row n (at n upper i)) (λ i. rangedActs n p (length (firstTable lent) / kid .columns) lent s (at n upper i)) (λ i z e g. row-clean z (g .0 .0) (at n upper i) e lent (g .1) (length (firstTable lent) / kid .columns) (omega (arith, g .0 .1, long))) 0 (length xs)
+          let long : sum size xs ≤ length (firstTable lent) / kid .columns =
+          subst (λ (t : List ℕ). sum size xs ≤ length t / kid .columns) (sym lower)
+          (omega (arith, room-for (kid .columns) lists beneath (tests .kid-wide) lists-wide, flat-length (λ (a : Tree). rowsOf p (a .1)) xs)) in
+          each-clean Standing (rangedRow n p) (λ i. row n (at n upper i)) (λ i. rangedActs n p (length (firstTable lent) / kid .columns) lent s (at n upper i))
+          (λ i z e g. row-clean z (g .0 .0) (at n upper i) e lent (g .1) (length (firstTable lent) / kid .columns) (omega (arith, g .0 .1, long))) 0 (length xs)
           (firsts size 0 xs) parents-stand standing
 
     -- ---- what the code's types can hold
@@ -470,13 +502,15 @@ module _ {T M : Type 0} (t u n : ℕ) (p : Ranges T M) (kid : Heeded) (w : Lawfu
     unfolding range-codec rows-of
     tree-small a h = row-columns n y blank (tests .proper) (tests .low) (λ j h. refl) (λ j. omega arith) (range-codec .means s a) (h .0 .0) (h .0 .1)
 
-    range-columns : (xs : List Tree) → Every Stood-so xs → length s < 65536 → total (needs (q .tables xs)) < 65536 → Every (λ (r : Rows). Every (Every Column) (r .rows)) (q .tables xs)
+    range-columns : (xs : List Tree) → Every Stood-so xs → length s < 65536 → total (needs (q .tables xs)) < 65536
+        → Every (λ (r : Rows). Every (Every Column) (r .rows)) (q .tables xs)
     unfolding needs total
     range-columns xs h small few =
         let B : ℕ × Tree → Type 0 = λ z. z .0 + size (z .1) ≤ 0 + sum size xs in
         let k : sum size xs < 65536 = omega (arith, few, flat-length (λ (a : Tree). rowsOf p (a .1)) xs) in
         let one : (a : Tree) → Stood-so a × (size a ≤ sum size xs) → Every (Every Column) (rowsOf p (a .1)) = λ a g.
-        every-flat (λ (r : Rows). r .rows) (Every Column) (tables (piecesOf p) (a .1)) (columns-so (piecesOf p) (pieces-lawful kid p w) (was a blank (g .0)) small (omega (arith, g .1, k, total-rows (tables (piecesOf p) (a .1)))))
+        every-flat (λ (r : Rows). r .rows) (Every Column) (tables (piecesOf p) (a .1))
+        (columns-so (piecesOf p) (pieces-lawful kid p w) (was a blank (g .0)) small (omega (arith, g .1, k, total-rows (tables (piecesOf p) (a .1)))))
         in
         all-cons
         (every-map (rangedRow n p) (Every Column) (firsts size 0 xs) (every-as (λ z. Stood-so (z .1) × B z) (λ z. Every Column (rangedRow n p z))

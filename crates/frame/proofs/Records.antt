@@ -30,7 +30,8 @@ module _ {T M : Type 0} (p : Pieces T M) (w : Lawful-pieces p) (n : ℕ) (start 
   pub kept-so : (g : Columns) → kept (layouts p) g start ≡ means-as n x start proper low out g
   kept-so g = ap (λ (cs : List Cell). mix (columns cs) g start) (cells-of p w g)
 
-  pub record-spells : (inside : Bool) (g : Columns) (q : Breaks x) (c : M) {a : List Act} → a ≡ woven x g q → (inside ≡ true → clean a ≡ true → Holes x (kept (layouts p) g start) q c) → clean (record-acts inside g a) ≡ true
+  pub record-spells : (inside : Bool) (g : Columns) (q : Breaks x) (c : M) {a : List Act} → a ≡ woven x g q
+      → (inside ≡ true → clean a ≡ true → Holes x (kept (layouts p) g start) q c) → clean (record-acts inside g a) ≡ true
       → Spells codec (record-acts inside g a) (row n (kept (layouts p) g start), c)
   unfolding rows-of clean bytes
   record-spells inside g q c {a} o holes e =
@@ -48,14 +49,16 @@ module _ {T M : Type 0} (p : Pieces T M) (w : Lawful-pieces p) (n : ℕ) (start 
   pub sound-at : {g : Columns} → Faultless x g → (every flagged g (cells (layouts p) g) ≡ true) × (every counted g (cells (layouts p) g) ≡ true)
   sound-at {g} y = sound-both (cells (layouts p) g) g (ap (every sound g) (cells-of p w g) ∙ y .fit .0)
 
-  pub record-ready : {inside : Bool} {g : Columns} (q : Breaks x) {a : List Act} → a ≡ woven x g q → inside ≡ true → Faultless x g → Cleans x q → clean (record-acts inside g a) ≡ true
+  pub record-ready : {inside : Bool} {g : Columns} (q : Breaks x) {a : List Act} → a ≡ woven x g q → inside ≡ true → Faultless x g → Cleans x q
+      → clean (record-acts inside g a) ≡ true
   unfolding clean
   record-ready {g = g} q {a} o i y h =
       let (c, d) = sound-at y in
       both-and i (both-and c (both-and d (clean-append (matched (layouts p) g) a ∙ both-and (ap clean (matched-of p w g) ∙ y .fit .1) (ap clean o ∙ y .sound q h))))
 
   -- columns that agree where they have a meaning
-  pub record-alike : (f h : Columns) → On (columns (form-shown x f)) f h → {inside inside′ : Bool} → inside ≡ inside′ → (q r : Breaks x) → q ≡ r → {a b : List Act} → a ≡ woven x f q → b ≡ woven x h r
+  pub record-alike : (f h : Columns) → On (columns (form-shown x f)) f h → {inside inside′ : Bool} → inside ≡ inside′ → (q r : Breaks x) → q ≡ r → {a b : List Act}
+      → a ≡ woven x f q → b ≡ woven x h r
       → record-acts inside f a ≡ record-acts inside′ h b
   record-alike f h o i q r e {a} {b} s t =
       let y = alike n x start proper low out f h o in

@@ -44,7 +44,8 @@ unfolding flatten
 every-flatten [] h = all-nil
 every-flatten (r ∷ rs) (all-cons h k) = every-both Column h (every-flatten rs k)
 
-filled-columns : (rs : List Rows) (lent : Lent) → Every (λ (r : Rows). Every (Every Column) (r .rows)) rs → Every (Every Column) lent → length lent ≡ length rs → Every (Every Column) (filled rs lent)
+filled-columns : (rs : List Rows) (lent : Lent) → Every (λ (r : Rows). Every (Every Column) (r .rows)) rs → Every (Every Column) lent → length lent ≡ length rs
+    → Every (Every Column) (filled rs lent)
 unfolding filled firstTable otherTables
 filled-columns [] lent h k e = k
 filled-columns (r ∷ rs) [] h k e = absurd (omega arith)
@@ -203,7 +204,8 @@ module _ {Tree Top Value : Type 0} (K : Kind Tree Top Value) where
         (sym (x .means) ∙ (λ i. L .format .means (e i) (t i)) ∙ y .means, sym (back-rest x) ∙ (λ i. drop (k i) (e i)) ∙ back-rest y)
 
     -- a body of which the tree is read means what its tree means
-    means-so : (t : Tree) (b front rest : List ℕ) (lent : Lent) (v : Value) → b ≡ front ++ rest → Takes (K .program) 0 t front → lacking (needs (K .tables t)) lent ≡ none → L .format .means b t ≡ v → L .format .Fits v → clean (L .format .acts v) ≡ true
+    means-so : (t : Tree) (b front rest : List ℕ) (lent : Lent) (v : Value) → b ≡ front ++ rest → Takes (K .program) 0 t front → lacking (needs (K .tables t)) lent ≡ none
+        → L .format .means b t ≡ v → L .format .Fits v → clean (L .format .acts v) ≡ true
         → meaning K (K .top t (tail (length front) b)) (filled (K .tables t) lent) b ≡ record { value = v; trailing = rest }
     means-so t b front rest lent v j d f m g c =
         let e : L .format .means (front ++ rest) t ≡ v = rw j at m in
@@ -227,7 +229,8 @@ module _ {Tree Top Value : Type 0} (K : Kind Tree Top Value) where
         let h′ : length (p .front ++ p .rest) < 65536 = omega (arith, ap length (p .joins)) in
         rw (p .joins, p .long, the-tail (p .front) (p .rest)) (L .held t (p .front) (p .rest) (taken t (p .front) (p .rest) (p .takes) b) h′)
 
-    witness : (body : List ℕ) (lent : Lent) (s : Sound Tree) → Every Byte body → Lendable K lent → judging K body ≡ accepted s → lacking (needs (K .tables (s .tree))) lent ≡ none → Writable K body
+    witness : (body : List ℕ) (lent : Lent) (s : Sound Tree) → Every Byte body → Lendable K lent → judging K body ≡ accepted s
+        → lacking (needs (K .tables (s .tree))) lent ≡ none → Writable K body
     witness body lent s b l j f =
         let r = ran-well K body s j in
         let t = s .tree in
@@ -248,7 +251,8 @@ module _ {Tree Top Value : Type 0} (K : Kind Tree Top Value) where
           written = of-parts body t (s .before) lent p b f .image-is;
         }
 
-    accept : (body : List ℕ) (lent : Lent) → Every Byte body → length body ≤ 65535 → Lendable K lent → Room K body lent → (number (reading K body lent .answer) ≡ 0) ↔ Writable K body
+    accept : (body : List ℕ) (lent : Lent) → Every Byte body → length body ≤ 65535 → Lendable K lent → Room K body lent
+        → (number (reading K body lent .answer) ≡ 0) ↔ Writable K body
     unfolding number
     accept body lent b h l never = (λ e. go (view K body lent) e, λ w. read (w .top) (w .tables) (w .store) (w .written))
       where
@@ -264,7 +268,8 @@ module _ {Tree Top Value : Type 0} (K : Kind Tree Top Value) where
         read : (top : Top) (tables : Lent) (store : List ℕ) → Image K top tables store body → number (reading K body lent .answer) ≡ 0
         read top tables store e = let r = rereads top tables store body e h lent never in ap number (answers (r .2))
 
-    pub rewrites : (body : List ℕ) (lent : Lent) (top : Top) (after : Lent) (out : List ℕ) → Every Byte body → reading K body lent ≡ leaves (accepted top) after → length body ≤ length out
+    pub rewrites : (body : List ℕ) (lent : Lent) (top : Top) (after : Lent) (out : List ℕ) → Every Byte body → reading K body lent ≡ leaves (accepted top) after
+        → length body ≤ length out
         → writing K top after body out ≡ puts (W.Done (length body)) (body ++ drop (length body) out)
     unfolding writing
     rewrites body lent top after out b e h =

@@ -51,10 +51,12 @@ pub record Lawful-rows {A C : Type 0} (r : RowType A C) : Type 1 where
   pub all-there : (l : List A) → length (r .tables l) ≡ length (r .heeded)
   pub grows : {k at : ℕ} {l : List A} {bs : List ℕ} → Listed (r .reads) k at l bs → Took (r .tables l) bs
   -- a list that was read, in its tables
-  pub laid : (s : List ℕ) (l : List A) → Had r codec s l → (more : List Rows) (lent : Lent) → each (r .means (filled (r .tables l ++ more) lent) s) 0 (length l) ≡ map (codec .means s) l
+  pub laid : (s : List ℕ) (l : List A) → Had r codec s l → (more : List Rows) (lent : Lent)
+      → each (r .means (filled (r .tables l ++ more) lent) s) 0 (length l) ≡ map (codec .means s) l
   pub ready : (s : List ℕ) (l : List A) → Had r codec s l → (more : List Rows) (lent : Lent) → clean (rows (r .acts (filled (r .tables l ++ more) lent) s) 0 (length l)) ≡ true
   pub room : (s : List ℕ) (l : List A) → Had r codec s l → (more : List Rows) (lent : Lent) → length l ≤ length (firstTable (filled (r .tables l ++ more) lent)) / r .columns
-  pub columns-so : (s : List ℕ) (l : List A) → Had r codec s l → length s < 65536 → total (needs (r .tables l)) < 65536 → Every (λ (q : Rows). Every (Every Column) (q .rows)) (r .tables l)
+  pub columns-so : (s : List ℕ) (l : List A) → Had r codec s l → length s < 65536 → total (needs (r .tables l)) < 65536
+      → Every (λ (q : Rows). Every (Every Column) (q .rows)) (r .tables l)
 
 -- rows of one table, which may stand in it from any row on; kid is what writing reads of a row
 pub record Leaf {A C : Type 0} (r : RowType A C) (kid : Heeded) : Type 1 where
@@ -65,8 +67,11 @@ pub record Leaf {A C : Type 0} (r : RowType A C) (kid : Heeded) : Type 1 where
   pub table : (l : List A) → r .tables l ≡ tabled number (kid .columns) (map stored l) ∷ []
   pub wide : (s : List ℕ) (l : List A) → Had r (lawful .codec) s l → Every (Wide (kid .columns)) (map stored l)
   -- a list that was read, in a table that has it from row i on
-  pub laid-at : (s : List ℕ) (l : List A) → Had r (lawful .codec) s l → (lent : Lent) (i : ℕ) → each (λ j. row (kid .columns) (at (kid .columns) (firstTable lent) j)) i (length l) ≡ map stored l → each (r .means lent s) i (length l) ≡ map (lawful .codec .means s) l
-  pub ready-at : (s : List ℕ) (l : List A) → Had r (lawful .codec) s l → (lent : Lent) (i : ℕ) → each (λ j. row (kid .columns) (at (kid .columns) (firstTable lent) j)) i (length l) ≡ map stored l → clean (rows (r .acts lent s) i (length l)) ≡ true
+  pub laid-at : (s : List ℕ) (l : List A) → Had r (lawful .codec) s l → (lent : Lent) (i : ℕ)
+      → each (λ j. row (kid .columns) (at (kid .columns) (firstTable lent) j)) i (length l) ≡ map stored l
+      → each (r .means lent s) i (length l) ≡ map (lawful .codec .means s) l
+  pub ready-at : (s : List ℕ) (l : List A) → Had r (lawful .codec) s l → (lent : Lent) (i : ℕ)
+      → each (λ j. row (kid .columns) (at (kid .columns) (firstTable lent) j)) i (length l) ≡ map stored l → clean (rows (r .acts lent s) i (length l)) ≡ true
 
 -- ---- plain rows
 
@@ -124,9 +129,11 @@ module _ (t u : ℕ) (nest : Nest) (seen : Columns → Columns) (kept : (x : Fam
   families-good : {s : List ℕ} {xs : List Family} → Had q (families nest) s xs → Every (Good (families nest)) xs
   families-good {s} h = every-as (λ x. Good (families nest) (families nest .means s x)) (Good (families nest)) (λ x g. subst (Good (families nest)) (family-meant s x) g) (h .good)
 
-  stand : (xs : List Family) (behind : List ℕ) → Every (Good (families nest)) xs → each (λ i. row (b .width) (seen (at (b .width) (flatten (parents b xs) ++ behind) i))) 0 (length xs) ≡ parents b xs
+  stand : (xs : List Family) (behind : List ℕ) → Every (Good (families nest)) xs
+      → each (λ i. row (b .width) (seen (at (b .width) (flatten (parents b xs) ++ behind) i))) 0 (length xs) ≡ parents b xs
   stand xs behind h =
-      each-as (λ (y : ℕ × Family). Good (families nest) (y .1)) (brokenRow b) (λ i. row (b .width) (at (b .width) table i)) (λ i. row (b .width) (seen (at (b .width) table i))) (brokenRow b)
+      each-as (λ (y : ℕ × Family). Good (families nest) (y .1)) (brokenRow b) (λ i. row (b .width) (at (b .width) table i))
+      (λ i. row (b .width) (seen (at (b .width) table i))) (brokenRow b)
       (λ i y e g. ap (row (b .width)) (kept (y .1) (g .0) (at (b .width) table i) (broken-on b (flats (nest .kid)) (nest .passes) (y .0) (y .1) (at (b .width) table i) e)) ∙ e)
       0 (length xs) (firsts (λ x. length (x .1)) 0 xs) (parents-found nest xs behind []) (every-firsts (λ x. length (x .1)) 0 (Good (families nest)) xs h)
     where

@@ -82,7 +82,8 @@ module _ {Tree Top Value : Type 0} (K : Kind Tree Top Value) (body : List ℕ) {
   pub reads-lowest : {i k : ℕ} → r ≡ M.Lacks i k → Reads K body lent (refused (refusal (R.NoRoom i k))) lent
   reads-lowest {i} {k} d =
       let l = lowest (y .tables) lent (sym e ∙ d) in
-      subst (λ (k : ℕ). Reads K body lent (refused (refusal (R.NoRoom i k))) lent) (l .rows) (subst (λ (i : ℕ). Reads K body lent (refused (refusal (R.NoRoom i (l .need .rows)))) lent) (l .number) (reads-lacking K body m lent (l .need) (l .is)))
+      subst (λ (k : ℕ). Reads K body lent (refused (refusal (R.NoRoom i k))) lent) (l .rows)
+      (subst (λ (i : ℕ). Reads K body lent (refused (refusal (R.NoRoom i (l .need .rows)))) lent) (l .number) (reads-lacking K body m lent (l .need) (l .is)))
 
   -- else there is room, and once they are filled the body is opened
   module _ (d : r ≡ M.Enough) where
@@ -110,7 +111,8 @@ Empty r = r .rows ≡ []
 none-lacks : (rs : List Rows) (lent : Lent) → Every Empty rs → lacking (needs rs) lent ≡ none
 unfolding needs lacking
 none-lacks [] lent all-nil = refl
-none-lacks (r ∷ rs) lent (all-cons e w) = rw (e, le-leb 0 (room (record { number = r .number; columns = r .columns; rows = 0 }) lent) (omega arith), lacking) (none-lacks rs (otherTables lent) w)
+none-lacks (r ∷ rs) lent (all-cons e w) =
+    rw (e, le-leb 0 (room (record { number = r .number; columns = r .columns; rows = 0 }) lent) (omega arith), lacking) (none-lacks rs (otherTables lent) w)
 
 all-stay : (rs : List Rows) (lent : Lent) → length rs ≡ length lent → Every Empty rs → filled rs lent ≡ lent
 unfolding filled firstTable otherTables flatten

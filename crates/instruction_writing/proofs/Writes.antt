@@ -125,7 +125,8 @@ module _ (d : DrcInstructions) where
       ∙ ap (λ (l : List Act). l ++ settingsPart) (S.row-acts types (d .«reserved_type») (d .scope) rest)
 
   -- a test of its cells that numbers and reserved bits pass is one of its flags
-  cells-every : (test : Cell → ℕ → Bool) → ((w k v : ℕ) → (test (num w k) v ≡ true) × (test (reserved w k) v ≡ true)) → every test g (cells (layouts instruction) g) ≡ test (flag 13) (g 13) && (test (flag 15) (g 15) && every test g (shown (optional 15 target ▹ end) g))
+  cells-every : (test : Cell → ℕ → Bool) → ((w k v : ℕ) → (test (num w k) v ≡ true) × (test (reserved w k) v ≡ true))
+      → every test g (cells (layouts instruction) g) ≡ test (flag 13) (g 13) && (test (flag 15) (g 15) && every test g (shown (optional 15 target ▹ end) g))
   unfolding cells shown every flatten
   cells-every test h =
       let t = shown effect g in
@@ -183,7 +184,8 @@ module _ (d : DrcInstructions) where
         let t = targetCols (d .«target_loudness») in
         let z : length (bytes (limiterPart (d .«limiter_peak_target»))) ≡ g 13 = limited (g 13) h in
         let y = target-long t (target-clean t ∙ loud-fits) in
-        let w = ap length (bytes-append (limiterPart (d .«limiter_peak_target»)) (targetPart t)) ∙ length-append (bytes (limiterPart (d .«limiter_peak_target»))) (bytes (targetPart t)) in
+        let w =
+        ap length (bytes-append (limiterPart (d .«limiter_peak_target»)) (targetPart t)) ∙ length-append (bytes (limiterPart (d .«limiter_peak_target»))) (bytes (targetPart t)) in
         omega (arith, z, y, w, e)
       where
         limited : (v : ℕ) → v ≤ 1 → length (bytes (when (eqb v 1) (map byte (limiterFields (d .«limiter_peak_target»))))) ≡ v
@@ -238,7 +240,8 @@ module _ (d : DrcInstructions) where
 
   module _ (u : List ℕ) where
     pub front : {n : ℕ} {p₀ p₁ p₂ p₃ : Pen} {inside flags : Bool} {vs : List ℕ} → inside ≡ leb (g 10 + g 11) (length u / 2) → flags ≡ flagsOf d
-        → Checked (demand F.Range inside ∷ []) 0 (At n) p₀ → Checked (demand F.Field flags ∷ []) 0 p₀ p₁ → Checked ownScope 2 p₁ p₂ → Spelt (settingsFields d) vs → ChecksAll true vs p₂ p₃
+        → Checked (demand F.Range inside ∷ []) 0 (At n) p₀ → Checked (demand F.Field flags ∷ []) 0 p₀ p₁ → Checked ownScope 2 p₁ p₂ → Spelt
+        (settingsFields d) vs → ChecksAll true vs p₂ p₃
         → Checked (frontActs instruction (length u / 2) g) 5 (At n) p₃
     front e f w₀ w₁ w₂ s w₃ = rw (front-so (length u / 2)) (then (rw e at w₀) (then (rw f at w₁) (then (met F.Empty _) (then w₂ (all-checked s w₃)))))
 
@@ -265,8 +268,11 @@ module _ (d : DrcInstructions) where
       pub front-stopped : {f : Fault} {m : ℕ} → p ≡ Stop f m → Checked (instructionActs u d) 18 (At n) p
       front-stopped e = broken-stopped instruction (length u / 2) (pairActs u) g w 18 (omega arith) e
 
-      pub row-checked : {m : ℕ} {q r : Pen} → p ≡ At m → Checked (rows (pairActs u) (g 10) (g 11)) (g 11) (At m) q → Checked (effectActs d) 6 q r → Checked (instructionActs u d) 18 (At n) r
-      row-checked {q = q} {r} e x y = broken-checked instruction (length u / 2) (pairActs u) g w 18 (here e x) (subst (λ (a : List Act). Checked a 6 q r) (sym effect-so) y) (let h = front-behind e .few in omega (arith, h))
+      pub row-checked : {m : ℕ} {q r : Pen} → p ≡ At m → Checked (rows (pairActs u) (g 10) (g 11)) (g 11) (At m) q → Checked (effectActs d) 6 q r
+          → Checked (instructionActs u d) 18 (At n) r
+      row-checked {q = q} {r} e x y =
+          broken-checked instruction (length u / 2) (pairActs u) g w 18 (here e x) (subst (λ (a : List Act). Checked a 6 q r) (sym effect-so) y)
+          (let h = front-behind e .few in omega (arith, h))
 
     -- ---- the quick test
 
@@ -281,7 +287,8 @@ module _ (d : DrcInstructions) where
           let (h, e₅) = and-both (clean (writes settings g)) _ e₄ in
           let (_, l) = and-both (clean (kidActs instruction (pairActs u) g)) _ e₅ in
           let (a, b) = clean-both ownScope settingsPart (sym (ap clean head-so) ∙ clean-append (matched (layouts instruction) g) (writes settings g) ∙ both-and m h) in
-          both-and (both-and (e ∙ r) (lt-ltb 0 head (some head q a))) (both-and (f .of (settingsFields d) s ∙ sym (clean-all (settingsFields d)) ∙ b) (t ∙ sym (ap clean effect-so) ∙ l))
+          both-and (both-and (e ∙ r) (lt-ltb 0 head (some head q a)))
+          (both-and (f .of (settingsFields d) s ∙ sym (clean-all (settingsFields d)) ∙ b) (t ∙ sym (ap clean effect-so) ∙ l))
         where
           some : (k : ℕ) → Quick ownScope 2 k → clean ownScope ≡ true → 0 < k
           some zero w a = absurd (no-quick (w .odd refl) a)
@@ -319,7 +326,9 @@ module _ (d : DrcInstructions) where
 
         own-long : length (bytes (writes settings g)) ≡ head + 3
         own-long =
-            let w = ap length (sym (after-demands (layouts instruction) g (writes settings g)) ∙ ap bytes head-so ∙ bytes-append ownScope settingsPart) ∙ length-append (bytes ownScope) (bytes settingsPart) in
+            let w =
+            ap length (sym (after-demands (layouts instruction) g (writes settings g)) ∙ ap bytes head-so ∙ bytes-append ownScope settingsPart)
+            ∙ length-append (bytes ownScope) (bytes settingsPart) in
             omega (arith, w, quick-passed ownScope q tested-head .1, bytes-long (settingsFields d))
 
         module _ {k : ℕ} (v : PlainRows (λ j. pairActs u (g 10 + j)) 1 (g 11) k k) where
@@ -330,7 +339,8 @@ module _ (d : DrcInstructions) where
               let w = tested in
               let p = both-and tested-inside (both-and counts-so (both-and h (ap clean effect-so ∙ w .sound))) in
               let n = ap (λ (a : List Act). length (bytes a)) effect-so in
-              broken-quick instruction (length u / 2) (pairActs u) g 18 instruction-passes p m c (omega (arith, own-long, l, r, n, x)) (omega (arith, w .some)) (omega (arith, w .small .few, w .short, y))
+              broken-quick instruction (length u / 2) (pairActs u) g 18 instruction-passes p m c (omega (arith, own-long, l, r, n, x)) (omega (arith, w .some))
+              (omega (arith, w .small .few, w .short, y))
 
           pub row-odd-kid : (k ≡ g 11 → ⊥) → Quick (instructionActs u d) 18 0
           row-odd-kid r = let w = v .within in broken-odd-kid instruction (length u / 2) (pairActs u) g 18 (kids-odd (pairActs u) (g 10) (g 11) v (omega (arith, r, w)))
@@ -479,7 +489,8 @@ module _ (t : List ℕ) (b : ℕ) (u : List ℕ) (p : bareAt t b ≡ true) where
         let long : length (bytes (effectActs D)) ≡ 2 = ap (λ (a : List Act). length (bytes a)) effect-bare ∙ bytes-long word in
         let six : pick typed 1 0 + 3 + getD t (b + 11) 0 + 2 ≡ 6 = omega (arith, one, no-ids) in
         let v = going-end (going-start (λ j. pairActs u (getD t (b + 10) 0 + j)) 1 (getD t (b + 11) 0)) (omega (arith, no-ids)) in
-        subst (λ (k : ℕ). Quick (instructionActs u D) 18 k) six (row-plain D u own-inside head-quick own-spelt f tail-clean (same-test inside typed fits ∙ z) v (sym no-ids) (sym long, omega arith))
+        subst (λ (k : ℕ). Quick (instructionActs u D) 18 k) six
+        (row-plain D u own-inside head-quick own-spelt f tail-clean (same-test inside typed fits ∙ z) v (sym no-ids) (sym long, omega arith))
 
     pub bare-odd : (inside && typed) && fits ≡ false → Quick (instructionActs u D) 18 0
     bare-odd z = row-odd D u own-inside head-quick own-spelt f tail-clean (same-test inside typed fits ∙ z)
@@ -520,4 +531,5 @@ module _ (t : List ℕ) (b : ℕ) (u : List ℕ) (p : bareAt t b ≡ true) where
         bare-word-ready = record { fss = word; spelt = word-spelt; ready = word-here }
 
         pub bare-filled : {m : ℕ} {o : List ℕ} → FillsAll true ws n₂ o₂ m o → Filled (instructionActs u D) n l m o
-        bare-filled {m} {o} k = row-filled D u w type-filled bare-spelt z ids-none (subst (λ (a : List Act). Filled a n₂ o₂ m o) (sym effect-bare) (k .of word word-spelt (word-here .sound)))
+        bare-filled {m} {o} k =
+            row-filled D u w type-filled bare-spelt z ids-none (subst (λ (a : List Act). Filled a n₂ o₂ m o) (sym effect-bare) (k .of word word-spelt (word-here .sound)))

@@ -121,7 +121,8 @@ module _ (f : Columns) (s : List ℕ) (m : ℕ) where
 
 -- ---- measured
 
-pub settings-lack : (s : List ℕ) (at : ℕ) → at ≤ length s → {o : Out (Unit {0})} {x y : Short} → o ≡ ends (spans settings blank s at) s at → o ≡ short x → y ≡ shortOf o → Summed instructions (λ x. length (x .1)) 7 s at (S.Short y)
+pub settings-lack : (s : List ℕ) (at : ℕ) → at ≤ length s → {o : Out (Unit {0})} {x y : Short} → o ≡ ends (spans settings blank s at) s at → o ≡ short x → y ≡ shortOf o
+    → Summed instructions (λ x. length (x .1)) 7 s at (S.Short y)
 settings-lack s at h e d q = broken-lacks instruction (flat 2 additional) s at 7 h (head-lacks instruction (flat 2 additional) s at e d) d q
 
 -- code stands behind the settings, at n
@@ -206,7 +207,8 @@ effect-taken s m {l} {w} {k} {v} {a} {b} n p e x y = record {
 pub bare-taken : (s : List ℕ) (m : ℕ) {v : ℕ} → v ≡ getD s m 0 * 256 + getD s (m + 1) 0 → EffectTaken 0 0 s m (v ∷ 0 ∷ 0 ∷ 0 ∷ 0 ∷ 0 ∷ 0 ∷ 0 ∷ 0 ∷ 0 ∷ 0 ∷ 0 ∷ [])
 unfolding blanks
 bare-taken s m e =
-    effect-taken s m {l = 0} {w = 0} {k = m + 2 + 0} (omega arith) refl e (taken-none 13 1 limiter s (m + 2) (omega arith) (λ (p : 0 ≡ 1). omega (arith, p))) (taken-none 15 8 target s (m + 2 + 0) (omega arith) (λ (p : 0 ≡ 1). omega (arith, p)))
+    effect-taken s m {l = 0} {w = 0} {k = m + 2 + 0} (omega arith) refl e (taken-none 13 1 limiter s (m + 2) (omega arith) (λ (p : 0 ≡ 1). omega (arith, p)))
+    (taken-none 15 8 target s (m + 2 + 0) (omega arith) (λ (p : 0 ≡ 1). omega (arith, p)))
 
 -- where the additional IDs begin, from the type byte
 pub begins-are : (s : List ℕ) (at : ℕ) {b k i : ℕ} → b ≡ getD s at 0 → k ≡ part 0 2 b → i ≡ idBytes types k → at + 4 + i ≡ at + total (spans settings blank s at)
@@ -247,7 +249,8 @@ module _ (s : List ℕ) (at : ℕ) (h : at ≤ length s) (q : isDone (run instru
       pub effect-there : (begins + count + effectBytes l w s (begins + count) ≤ length s) × (l ≤ 1) × (w ≤ 1)
       effect-there = (rw effect-long at (tail-tallied instruction 2 additional s at h q ids-end), flags-below .0, flags-below .1)
 
-      pub instruction-taken : (first : ℕ) {rt drc downmix next : ℕ} {sc r : List ℕ} → rt ∷ sc ≡ row 5 (taken (scope types) blank s at) → drc ≡ getD s (begins - 3) 0 → downmix ≡ getD s (begins - 2) 0
+      pub instruction-taken : (first : ℕ) {rt drc downmix next : ℕ} {sc r : List ℕ} → rt ∷ sc ≡ row 5 (taken (scope types) blank s at) → drc ≡ getD s (begins - 3) 0
+          → downmix ≡ getD s (begins - 2) 0
           → EffectTaken l w s (begins + count) r → next ≡ begins + count + effectBytes l w s (begins + count)
           → done (rt ∷ sc ++ ((part 6 2 drc ∷ part 0 6 drc ∷ part 7 1 downmix ∷ part 0 7 downmix ∷ part 5 3 c ∷ first ∷ count ∷ []) ++ r)) next ≡ mapOut (λ x. brokenRow instruction (first, x)) (run instructions s at)
       unfolding took putsAt put split total all has free flatten each blanks scope
@@ -260,11 +263,14 @@ module _ (s : List ℕ) (at : ℕ) (h : at ≤ length s) (q : isDone (run instru
           let y′ : drc ≡ getD s (setAt s at) 0 = y ∙ ap (λ (k : ℕ). getD s k 0) (place 3 0 refl ∙ add-zero (setAt s at)) in
           let z′ : downmix ≡ getD s (setAt s at + 1) 0 = z ∙ ap (λ (k : ℕ). getD s k 0) (place 2 1 refl) in
           let x₁ : part 6 2 drc ∷ part 0 6 drc ∷ part 7 1 downmix ∷ part 0 7 downmix ∷ part 5 3 c ∷ [] ≡ each g 5 5 =
-          (λ t. part 6 2 (y′ t) ∷ part 0 6 (y′ t) ∷ part 7 1 (z′ t) ∷ part 0 7 (z′ t) ∷ part 5 3 (e t) ∷ []) ∙ sym (off 5 5 refl ∙ ap (λ (f : Columns). each f 5 5) (settled s at)) in
+          (λ t. part 6 2 (y′ t) ∷ part 0 6 (y′ t) ∷ part 7 1 (z′ t) ∷ part 0 7 (z′ t) ∷ part 5 3 (e t) ∷ [])
+          ∙ sym (off 5 5 refl ∙ ap (λ (f : Columns). each f 5 5) (settled s at)) in
           let x₂ : count ∷ [] ≡ each g 11 1 = ap (λ (k : ℕ). k ∷ []) (sym kids-are) ∙ sym (off 11 1 refl) in
           let x₃ : each g₀ 13 11 ≡ l ∷ 0 ∷ w ∷ blanks 8 =
-          ap (λ (f : Columns). each f 13 11) (settled s at) ∙ (λ t. (ap (part 1 1) (sym e) ∙ sym i) t ∷ (no-scope 14 1 refl t ++ ((ap (part 0 1) (sym e) ∙ sym j) t ∷ no-scope 16 8 refl t))) in
-          family-placed instruction 2 additional s at first h q ids-end (λ t. x₀ t ++ (x₁ t ++ (first ∷ (x₂ t ++ v .of g₀ x₃ t)))) (n ∙ ap (λ (k : ℕ). begins + count + k) (sym effect-long))
+          ap (λ (f : Columns). each f 13 11) (settled s at)
+          ∙ (λ t. (ap (part 1 1) (sym e) ∙ sym i) t ∷ (no-scope 14 1 refl t ++ ((ap (part 0 1) (sym e) ∙ sym j) t ∷ no-scope 16 8 refl t))) in
+          family-placed instruction 2 additional s at first h q ids-end (λ t. x₀ t ++ (x₁ t ++ (first ∷ (x₂ t ++ v .of g₀ x₃ t))))
+          (n ∙ ap (λ (k : ℕ). begins + count + k) (sym effect-long))
 
 -- the five low bits of c at 0: no additional IDs, and neither part
 module _ (c : ℕ) {v : ℕ} (e : v ≡ part 0 5 c) (z : v ≡ 0) where
@@ -277,7 +283,8 @@ module _ (c : ℕ) {v : ℕ} (e : v ≡ part 0 5 c) (z : v ≡ 0) where
   no-loud : part 0 1 c ≡ 0
   no-loud = omega (arith, e, z)
 
-  pub bare-so : (s : List ℕ) (m : ℕ) {n : ℕ} {r : List ℕ} → EffectTaken 0 0 s m r × (n ≡ m + 2) → EffectTaken (part 1 1 c) (part 0 1 c) s (m + part 2 3 c) r × (n ≡ m + part 2 3 c + effectBytes (part 1 1 c) (part 0 1 c) s (m + part 2 3 c))
+  pub bare-so : (s : List ℕ) (m : ℕ) {n : ℕ} {r : List ℕ} → EffectTaken 0 0 s m r × (n ≡ m + 2)
+      → EffectTaken (part 1 1 c) (part 0 1 c) s (m + part 2 3 c) r × (n ≡ m + part 2 3 c + effectBytes (part 1 1 c) (part 0 1 c) s (m + part 2 3 c))
   bare-so s m x = rw (no-count, no-limiter, no-loud, add-zero m) x
 
 -- a target loudness that is there has bytes
@@ -314,7 +321,9 @@ module _ (s : List ℕ) (at first : ℕ) (d : DrcInstructions) {next begins : �
 
   pub instruction-filled : {u after : List ℕ} → after ≡ sets u (first * 2) (flatMap (λ r. r) (rowsOf ids))
       → Nested instructions 2 (λ n x. brokenRow instruction (n, x)) (λ x. flatten (x .1)) s at first u (instructionRow d) next after
-  instruction-filled {u} w = placed-filled instruction 2 additional s at first h e (w ∙ ap (λ (o : Out (List (List ℕ))). sets u (first * 2) (flatMap (λ r. r) (rowsOf o))) (sym ids-same))
+  instruction-filled {u} w =
+      placed-filled instruction 2 additional s at first h e (w ∙ ap (λ (o : Out (List (List ℕ))). sets u (first * 2) (flatMap (λ r. r) (rowsOf o))) (sym ids-same))
 
-  pub ids-zeros : {below : ℕ} → below ≡ sum (λ r. tally (additional ∷ []) (of r)) (rowsOf ids) → below ≡ sum (λ r. tally (additional ∷ []) (of r)) (rowsOf (run (many (kidsOf instruction s at) (flat 2 additional)) s (at + total (headSizes instruction s at))))
+  pub ids-zeros : {below : ℕ} → below ≡ sum (λ r. tally (additional ∷ []) (of r)) (rowsOf ids)
+      → below ≡ sum (λ r. tally (additional ∷ []) (of r)) (rowsOf (run (many (kidsOf instruction s at) (flat 2 additional)) s (at + total (headSizes instruction s at))))
   ids-zeros w = w ∙ ap (λ (o : Out (List (List ℕ))). sum (λ r. tally (additional ∷ []) (of r)) (rowsOf o)) (sym ids-same)

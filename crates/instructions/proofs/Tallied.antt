@@ -34,9 +34,12 @@ sum-append f (x ∷ a) b = omega (arith, sum-append f a b)
 abbrev bits : Columns → Cell → ℕ
 bits g c = idle c (g (column c))
 
-settings-tally : (d : DrcInstructions) → sum (bits (instructionCols d)) (shown settings (instructionCols d)) ≡ scopeZeros (d .«reserved_type») (d .scope) + (zeros 2 (d .«reserved_set») + (zeros 1 (d .«reserved_downmix») + zeros 3 (d .«reserved_additional»)))
+settings-tally : (d : DrcInstructions)
+    → sum (bits (instructionCols d)) (shown settings (instructionCols d)) ≡ scopeZeros (d .«reserved_type») (d .scope) + (zeros 2 (d .«reserved_set») + (zeros 1 (d .«reserved_downmix») + zeros 3 (d .«reserved_additional»)))
 unfolding shown sum flatten
-settings-tally d = sum-append (bits (instructionCols d)) (shown (scope types) (instructionCols d)) (flatten settingsCells) ∙ omega (arith, row-zeros types (d .«reserved_type») (d .scope) (settingsRow d ++ effectRow d))
+settings-tally d =
+    sum-append (bits (instructionCols d)) (shown (scope types) (instructionCols d)) (flatten settingsCells)
+    ∙ omega (arith, row-zeros types (d .«reserved_type») (d .scope) (settingsRow d ++ effectRow d))
 
 effect-tally : (g : Columns) → sum (bits g) (shown effect g) ≡ sum (bits g) (shown (optional 15 target ▹ end) g)
 unfolding shown sum flatten
@@ -58,7 +61,8 @@ no-first : has 10 (all settings ++ all effect) ≡ false
 unfolding has all flatten scope
 no-first = refl
 
-pub instruction-tallied : (s : List ℕ) (at : ℕ) (d : DrcInstructions) {next begins own below zs : ℕ} → at ≤ length s → done (instructionRow d) next ≡ mapOut (λ x. brokenRow instruction (0, x)) (run instructions s at) → begins ≡ at + total (spans settings blank s at)
+pub instruction-tallied : (s : List ℕ) (at : ℕ) (d : DrcInstructions) {next begins own below zs : ℕ} → at ≤ length s
+    → done (instructionRow d) next ≡ mapOut (λ x. brokenRow instruction (0, x)) (run instructions s at) → begins ≡ at + total (spans settings blank s at)
     → own ≡ tally (layouts instruction) (instructionCols d) → below ≡ sum (λ r. tally (additional ∷ []) (of r)) (rowsOf (run (many (d .«additional_downmix_ids» .count) (flat 2 additional)) s begins)) → zs ≡ own + below
     → done zs next ≡ mapOut (familyTally instruction additional) (run instructions s at)
 instruction-tallied s at d h e b o w z = placed-tallied instruction 2 additional s at h no-first e o (ids-zeros s at 0 d h e b w) z

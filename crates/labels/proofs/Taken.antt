@@ -139,7 +139,8 @@ module _ (w : ℕ) (s : List ℕ) (at : ℕ) (h : at ≤ length s) {a : Byte} (e
       list-counted i {next} z =
           let p = many (part 0 w b) (anEntry w) in
           let (l, x, _) = as-done (λ (l : List Borne). tt) (run p s n) (sym ends-so ∙ ap endsOut z) in
-          summed-done (finished (onward p (λ l. ret (listIs w b l)) place refl x) refl) (k ∙ sym (many-long (anEntry w) s (part 0 w b) n l next x)) (omega (arith, count-few w b i k))
+          summed-done (finished (onward p (λ l. ret (listIs w b l)) place refl x) refl) (k ∙ sym (many-long (anEntry w) s (part 0 w b) n l next x))
+          (omega (arith, count-few w b i k))
 
 -- known to be there: it is what its entries are
 module _ (w : ℕ) (s : List ℕ) (at : ℕ) (q : isDone (run (labels w) s at) ≡ true) where

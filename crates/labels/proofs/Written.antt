@@ -67,7 +67,8 @@ module _ (w : ℕ) (store : List ℕ) (e : TextLabelEntry) {v : ℕ} (s : Spells
   pub entry-checked : {inside fits : Bool} {n : ℕ} {p₀ p₁ p₂ r : Pen} → inside ≡ inStore → Checked (demand F.Range inside ∷ []) 0 (At n) p₀ → ChecksAll true (v ∷ []) p₀ p₁
       → fits ≡ ltb (size e) 256 → CheckedByte fits p₁ p₂ → CheckedRun (size e) p₂ r → Checked (entryActs w store e) 257 (At n) r
   entry-checked {p₂ = p₂} i w₀ w₁ f w₂ w₃ =
-      bear-checked (label w) store (entryCols e) p₂ i w₀ (line-checked _ (idByte w e ∷ []) (head-so w e) (more s none) w₁) (w₂ .of (field 8 (size e) ∷ []) (f ∙ fit-one 8 (size e))) w₃
+      bear-checked (label w) store (entryCols e) p₂ i w₀ (line-checked _ (idByte w e ∷ []) (head-so w e) (more s none) w₁)
+      (w₂ .of (field 8 (size e) ∷ []) (f ∙ fit-one 8 (size e))) w₃
 
   -- the quick test
   module _ {inside fits : Bool} (i : inside ≡ inStore) (f : fits ≡ ltb (size e) 256) where
@@ -188,7 +189,8 @@ module _ (w : ℕ) (t store : List ℕ) (d : Descriptions) {v : ℕ} (s : Spells
     unfolding listActs
     count-stops q = then (counted w d s c) (stopped (entriesActs w t store (d .entries)) _ q)
 
-    pub list-checked : {n : ℕ} {r : Pen} → p₁ ≡ At n → Checked (entriesActs w t store (d .entries)) (257 * d .entries .count) (At n) r → Checked (listActs w t store d) (1 + 257 * (2 ^ w - 1)) p r
+    pub list-checked : {n : ℕ} {r : Pen} → p₁ ≡ At n → Checked (entriesActs w t store (d .entries)) (257 * d .entries .count) (At n) r
+        → Checked (listActs w t store d) (1 + 257 * (2 ^ w - 1)) p r
     unfolding listActs
     list-checked q x = P.more _ (then (counted w d s c) (here q x)) (omega (arith, count-fits w d s c q))
 

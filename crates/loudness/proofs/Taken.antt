@@ -79,7 +79,8 @@ module _ (s : List ℕ) (at : ℕ) where
     pub entry-there : at + 1 + idsAt s at + 1 + getD s (at + 1 + idsAt s at) 0 ≤ length s
     entry-there = rw size-at at (bear-whole entry s at h q .there)
 
-    pub entry-taken : (t : Typed) {ts : List ℕ} {k v : ℕ} {p : Payload} → ts ≡ types → typedRow t ≡ row 5 (taken (scope ts) blank s at) → k ≡ idsAt s at → v ≡ getD s (at + 1 + k) 0 → p ≡ span (at + 1 + k + 1) v
+    pub entry-taken : (t : Typed) {ts : List ℕ} {k v : ℕ} {p : Payload} → ts ≡ types → typedRow t ≡ row 5 (taken (scope ts) blank s at) → k ≡ idsAt s at
+        → v ≡ getD s (at + 1 + k) 0 → p ≡ span (at + 1 + k + 1) v
         → done (typedRow t ++ (p .offset ∷ p .length ∷ [])) (at + 1 + k + 1 + v) ≡ mapOut (borneRow entry) (run entries s at)
     unfolding took each
     entry-taken t {k = k} {v} {p} e c z w y =

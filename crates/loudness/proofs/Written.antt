@@ -74,7 +74,8 @@ module _ (store : List ℕ) (e : LoudnessInfoEntry) where
 
   -- ---- the check pass
 
-  pub entry-checked : {inside fits : Bool} {n : ℕ} {p₀ p₁ : Pen} (p₂ : Pen) {r : Pen} → inside ≡ leb (e .«loudness_info» .offset + length-of) (length store) → Checked (demand F.Range inside ∷ []) 0 (At n) p₀
+  pub entry-checked : {inside fits : Bool} {n : ℕ} {p₀ p₁ : Pen} (p₂ : Pen) {r : Pen} → inside ≡ leb (e .«loudness_info» .offset + length-of) (length store)
+      → Checked (demand F.Range inside ∷ []) 0 (At n) p₀
       → Checked (scopeActs types (e .«reserved_type») (e .scope)) 2 p₀ p₁ → fits ≡ ltb length-of 256 → CheckedByte fits p₁ p₂ → CheckedRun length-of p₂ r → Checked (entryActs store e) 258 (At n) r
   entry-checked {p₀ = p₀} {p₁} p₂ i w₀ w₁ f w₂ w₃ =
       let head : Checked (headActs entry (entryCols e)) 2 p₀ p₁ = rw (head-so (e .«reserved_type») (e .scope) (e .«loudness_info»)) (more 2 (then (met F.Field p₀) (then (met F.Empty p₀) w₁)) (omega arith)) in
@@ -97,7 +98,9 @@ module _ (store : List ℕ) (e : LoudnessInfoEntry) where
 
   module _ {n : ℕ} {l : List ℕ} (w : Ready (entryActs store e) n l) where
     start : Filling (entryActs store e) (scopeBytes (e .«reserved_type») (e .scope) ++ payloadActs entry store (entryCols e)) n l n l
-    start = fill-demand (subst (λ (q : List Act). Filling (entryActs store e) (q ++ payloadActs entry store (entryCols e)) n l n l) (writes-so (e .«reserved_type») (e .scope) (e .«loudness_info»)) (bear-filling entry store (entryCols e) w))
+    start =
+        fill-demand
+        (subst (λ (q : List Act). Filling (entryActs store e) (q ++ payloadActs entry store (entryCols e)) n l n l) (writes-so (e .«reserved_type») (e .scope) (e .«loudness_info»)) (bear-filling entry store (entryCols e) w))
 
     pub scope-ready : Ready (scopeBytes (e .«reserved_type») (e .scope)) n l
     scope-ready = fill-row (scopeBytes (e .«reserved_type») (e .scope)) (payloadActs entry store (entryCols e)) start refl
@@ -116,5 +119,6 @@ module _ (store : List ℕ) (e : LoudnessInfoEntry) where
         pub info-room : n₂ + length-of ≤ length o₂
         info-room = bytes-room entry store (entryCols e) behind y info-inside
 
-        pub entry-filled : {r : ℕ} {o : List ℕ} → Filled (copy (slice (e .«loudness_info» .offset) (e .«loudness_info» .offset + length-of) store) ∷ []) n₂ o₂ r o → Filled (entryActs store e) n l r o
+        pub entry-filled : {r : ℕ} {o : List ℕ} → Filled (copy (slice (e .«loudness_info» .offset) (e .«loudness_info» .offset + length-of) store) ∷ []) n₂ o₂ r o
+            → Filled (entryActs store e) n l r o
         entry-filled z = bytes-filled entry store (entryCols e) behind y z

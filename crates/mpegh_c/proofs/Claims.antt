@@ -7,11 +7,13 @@ use Rattle.mpegh_c.specs.Host.{Hosted, HostReads, HostMeasures, HostTall
 
 module _ {Tree Top Value : Type 0} (K : Kind Tree Top Value) where
   pub record Fixed : Type 0 where
-    pub reading : (columns : ℕ) (row : Top → List ℕ) (body top top′ top″ : List ℕ) (lent after after′ : Lent) (n n′ : ℕ) → HostReads K columns row body top lent n top′ after → HostReads K columns row body top lent n′ top″ after′
+    pub reading : (columns : ℕ) (row : Top → List ℕ) (body top top′ top″ : List ℕ) (lent after after′ : Lent) (n n′ : ℕ)
+        → HostReads K columns row body top lent n top′ after → HostReads K columns row body top lent n′ top″ after′
         → (n ≡ n′) × (top′ ≡ top″) × (after ≡ after′)
     pub measuring : (body rows after after′ : List ℕ) (n n′ : ℕ) → HostMeasures K body rows n after → HostMeasures K body rows n′ after′ → (n ≡ n′) × (after ≡ after′)
     pub tallying : (body : List ℕ) (n n′ : ℕ) → HostTallies K body n → HostTallies K body n′ → n ≡ n′
-    pub writing : (top : Top) (lent : Lent) (store out after after′ : List ℕ) (n n′ : ℕ) → HostWrites K top lent store out n after → HostWrites K top lent store out n′ after′ → (n ≡ n′) × (after ≡ after′)
+    pub writing : (top : Top) (lent : Lent) (store out after after′ : List ℕ) (n n′ : ℕ) → HostWrites K top lent store out n after
+        → HostWrites K top lent store out n′ after′ → (n ≡ n′) × (after ≡ after′)
 
   pub fixed : Fixed
   fixed = record {

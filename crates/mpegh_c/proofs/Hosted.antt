@@ -34,7 +34,8 @@ module _ {Tree Top Value : Type 0} (K : Kind Tree Top Value) where
   pub tallies : {body : List ℕ} {t : Answer ℕ} {n : ℕ} → Tallies K body t → n ≡ answerCode t → HostTallies K body n
   tallies w e = record { promised = e ∙ ap answerCode (w .promised) }
 
-  pub writes : {top : Top} {lent : Lent} {store out after : List ℕ} {a : Answer ℕ} {n : ℕ} → Writes K top lent store out a after → n ≡ answerCode a → HostWrites K top lent store out n after
+  pub writes : {top : Top} {lent : Lent} {store out after : List ℕ} {a : Answer ℕ} {n : ℕ} → Writes K top lent store out a after → n ≡ answerCode a
+      → HostWrites K top lent store out n after
   writes w e = record { answers = e ∙ ap (λ (o : Output). answerCode (o .answer)) (w .promised); leaves = ap (λ (o : Output). o .output) (w .promised) }
 
   -- ---- measuring
@@ -52,7 +53,8 @@ module _ {Tree Top Value : Type 0} (K : Kind Tree Top Value) where
           let q : hostedSizes rows (accepted z) ≡ hosted (no-room 0 1) rows [] = rw (lt-leb _ _ h, hostedSizes) refl in
           record { promised = ap (λ (n : ℕ). said n rows []) e ∙ sym q ∙ ap (hostedSizes rows) (w .promised) }
 
-      pub measures-sized : {n : ℕ} {after : List ℕ} → length (rowsOf (z .tables)) ≤ length rows → after ≡ sets rows 0 (rowsOf (z .tables)) → n ≡ code 0 (z .before) → HostMeasures K body rows n after
+      pub measures-sized : {n : ℕ} {after : List ℕ} → length (rowsOf (z .tables)) ≤ length rows → after ≡ sets rows 0 (rowsOf (z .tables)) → n ≡ code 0 (z .before)
+          → HostMeasures K body rows n after
       unfolding hostMeasuring
       measures-sized h f e =
           let q : hostedSizes rows (accepted z) ≡ hosted (accepted (z .before)) (fronted (rowsOf (z .tables)) rows) [] = rw (le-leb _ _ h, hostedSizes) refl in
@@ -71,7 +73,8 @@ module _ {Tree Top Value : Type 0} (K : Kind Tree Top Value) where
     unfolding hostReading
     reads-unroomed {top = top} {lent} h e = record { promised = ap (λ (n : ℕ). said n top lent) e ∙ sym (rw (lt-leb _ _ h, hostReading) refl) }
 
-    roomy : {body : List ℕ} (top : List ℕ) {lent after : Lent} {r : Answer Top} → columns ≤ length top → Reads K body lent r after → topped row top (leaves r after) ≡ hostReading K columns row body top lent
+    roomy : {body : List ℕ} (top : List ℕ) {lent after : Lent} {r : Answer Top} → columns ≤ length top → Reads K body lent r after
+        → topped row top (leaves r after) ≡ hostReading K columns row body top lent
     unfolding hostReading
     roomy top h w = ap (topped row top) (w .promised) ∙ sym (rw (le-leb _ _ h, hostReading) refl)
 
@@ -79,11 +82,13 @@ module _ {Tree Top Value : Type 0} (K : Kind Tree Top Value) where
       pub reads-refused : {x : Numbered} {n : ℕ} → Reads K body lent (refused x) after → n ≡ refusedCode x → HostReads K columns row body top lent n top after
       reads-refused w e = record { promised = ap (λ (n : ℕ). said n top after) e ∙ roomy top h w }
 
-      pub reads-done : {t : Top} {front : List ℕ} → Reads K body lent (accepted t) after → length (row t) ≡ columns → front ≡ sets top 0 (row t) → HostReads K columns row body top lent 0 front after
+      pub reads-done : {t : Top} {front : List ℕ} → Reads K body lent (accepted t) after → length (row t) ≡ columns → front ≡ sets top 0 (row t)
+          → HostReads K columns row body top lent 0 front after
       reads-done {t} w l e = record { promised = ap (λ (front : List ℕ). said 0 front after) (e ∙ front-stored top (row t) (rw l h)) ∙ roomy top h w }
 
     -- a body that is refused whatever is lent
-    pub reads-neither : {body top : List ℕ} {lent : Lent} {x : Numbered} {n : ℕ} → Measures K body (refused x) → n ≡ refusedCode x → HostReads K columns row body top lent n top lent
+    pub reads-neither : {body top : List ℕ} {lent : Lent} {x : Numbered} {n : ℕ} → Measures K body (refused x) → n ≡ refusedCode x
+        → HostReads K columns row body top lent n top lent
     reads-neither {body} {top} {lent} {n = n} w e = go (leb columns (length top)) refl
       where
         go : (b : Bool) → leb columns (length top) ≡ b → HostReads K columns row body top lent n top lent

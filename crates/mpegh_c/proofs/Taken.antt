@@ -50,7 +50,8 @@ unfolding number
 topped-taken row top (accepted t) after h = number-taken 0 0 h
 topped-taken row top (refused x) after h = values-taken (x .number) (x .values) h
 
-sized-taken : (rows : List ℕ) (a : Answer Sizes) → ((z : Sizes) → a ≡ accepted z → length (rowsOf (z .tables)) ≤ length rows) → number a < 256 → hostedSizes rows a .code % 256 ≡ number a
+sized-taken : (rows : List ℕ) (a : Answer Sizes) → ((z : Sizes) → a ≡ accepted z → length (rowsOf (z .tables)) ≤ length rows) → number a < 256
+    → hostedSizes rows a .code % 256 ≡ number a
 unfolding number
 sized-taken rows (accepted z) h l = rw (le-leb _ _ (h z refl), hostedSizes) (number-taken 0 (z .before) l)
 sized-taken rows (refused x) h l = values-taken (x .number) (x .values) l
@@ -62,28 +63,33 @@ module _ {Tree Top Value : Type 0} (K : Kind Tree Top Value) where
   tally-told {body} w = ap (λ (m : ℕ). m % 256) (w .promised) ∙ answer-taken (tallying K body) (omega (arith, answered K .tallied-numbers body))
 
   pub write-told : {top : Top} {lent : Lent} {store out after : List ℕ} {n : ℕ} → HostWrites K top lent store out n after → n % 256 ≡ number (writing K top lent store out .answer)
-  write-told {top} {lent} {store} {out} w = ap (λ (m : ℕ). m % 256) (w .answers) ∙ answer-taken (writing K top lent store out .answer) (small (answered K .written-numbers top lent store out))
+  write-told {top} {lent} {store} {out} w =
+      ap (λ (m : ℕ). m % 256) (w .answers) ∙ answer-taken (writing K top lent store out .answer) (small (answered K .written-numbers top lent store out))
     where
       small : {n : ℕ} → (n ≡ 0) ⊎ ((4 ≤ n) × (n ≤ 10)) → n < 256
       small (inl e) = omega (arith, e)
       small (inr h) = omega (arith, h .1)
 
   -- where there is room for the record
-  pub read-told : {columns : ℕ} {row : Top → List ℕ} {body top top′ : List ℕ} {lent after : Lent} {n : ℕ} → columns ≤ length top → HostReads K columns row body top lent n top′ after
+  pub read-told : {columns : ℕ} {row : Top → List ℕ} {body top top′ : List ℕ} {lent after : Lent} {n : ℕ} → columns ≤ length top
+      → HostReads K columns row body top lent n top′ after
       → n % 256 ≡ number (reading K body lent .answer)
   unfolding hostReading
   read-told {columns} {row} {body} {top} {lent = lent} h w =
       let e : hostReading K columns row body top lent ≡ topped row top (reading K body lent) = rw (le-leb _ _ h, hostReading) refl in
-      ap (λ (o : Hosted). o .code % 256) (w .promised ∙ e) ∙ topped-taken row top (reading K body lent .answer) (reading K body lent .tables) (omega (arith, answered K .read-numbers body lent))
+      ap (λ (o : Hosted). o .code % 256) (w .promised ∙ e)
+      ∙ topped-taken row top (reading K body lent .answer) (reading K body lent .tables) (omega (arith, answered K .read-numbers body lent))
 
   -- where there is room for the counts
-  pub measure-told : {body rows rows′ : List ℕ} {n : ℕ} → ((z : Sizes) → measuring K body ≡ accepted z → length (rowsOf (z .tables)) ≤ length rows) → HostMeasures K body rows n rows′
+  pub measure-told : {body rows rows′ : List ℕ} {n : ℕ} → ((z : Sizes) → measuring K body ≡ accepted z → length (rowsOf (z .tables)) ≤ length rows)
+      → HostMeasures K body rows n rows′
       → n % 256 ≡ number (measuring K body)
   unfolding hostMeasuring
   measure-told {body} {rows} h w = ap (λ (o : Hosted). o .code % 256) (w .promised) ∙ sized-taken rows (measuring K body) h (omega (arith, answered K .measured-numbers body))
 
   -- where there is none, and the body is sound: 3, table 0, 1 row, and nothing is stored
-  pub measure-roomless : {body rows rows′ : List ℕ} {n : ℕ} (z : Sizes) → measuring K body ≡ accepted z → length rows < length (rowsOf (z .tables)) → HostMeasures K body rows n rows′ → (n ≡ tableCode 3 0 1) × (rows′ ≡ rows)
+  pub measure-roomless : {body rows rows′ : List ℕ} {n : ℕ} (z : Sizes) → measuring K body ≡ accepted z → length rows < length (rowsOf (z .tables))
+      → HostMeasures K body rows n rows′ → (n ≡ tableCode 3 0 1) × (rows′ ≡ rows)
   unfolding hostMeasuring
   measure-roomless {rows = rows} z e h w =
       let r : hostedSizes rows (accepted z) ≡ hosted (no-room 0 1) rows [] = rw (lt-leb _ _ h, hostedSizes) refl in

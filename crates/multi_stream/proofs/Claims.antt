@@ -81,7 +81,8 @@ claims = P.claims kind lawful samples
 -- ---- spelled out for this record and table 8
 
 -- what is read writes back the same bytes, at the front of the output and nowhere else
-pub same-bytes : (body groups groups′ out : List ℕ) (m : MpegH3dAudioMultiStream) → Every Byte body → reading kind body (groups ∷ []) ≡ leaves (accepted m) (groups′ ∷ []) → length body ≤ length out
+pub same-bytes : (body groups groups′ out : List ℕ) (m : MpegH3dAudioMultiStream) → Every Byte body → reading kind body (groups ∷ []) ≡ leaves (accepted m) (groups′ ∷ [])
+    → length body ≤ length out
     → writing kind m (groups′ ∷ []) body out ≡ gives (accepted (length body)) (body ++ drop (length body) out)
 same-bytes body groups groups′ out m b e l = claims .round .writes-what-is-read body (groups ∷ []) m (groups′ ∷ []) out b e l
 
@@ -90,7 +91,8 @@ pub one-body : (body body′ : List ℕ) (lent lent′ after after′ : Lent) (m
     → reading kind body lent ≡ leaves (accepted m) after → reading kind body′ lent′ ≡ leaves (accepted m′) after′
     → kind .value m after body ≡ kind .value m′ after′ body′ → trail kind m body ≡ trail kind m′ body′ → body ≡ body′
 unfolding kind
-one-body body body′ lent lent′ after after′ m m′ b b′ e e′ v t = claims .round .apart body body′ lent lent′ m m′ after after′ b b′ e e′ (λ i. record { value = v i; trailing = t i })
+one-body body body′ lent lent′ after after′ m m′ b b′ e e′ v t =
+    claims .round .apart body body′ lent lent′ m m′ after after′ b b′ e e′ (λ i. record { value = v i; trailing = t i })
 
 -- 3 is given exactly if the body is otherwise accepted and table 8 has fewer rows than it needs; it names table 8 and those rows
 nothing : {ns : List Need} {lent : Lent} {t r : ℕ} → Lowest ns lent t r → ns ≡ [] → ⊥
@@ -107,18 +109,21 @@ unfolding sizes kind tables needs
 sized-so body z e = let (s, j, q) = was-measured kind body z e in (length (s .tree .1 .0), sym (subst (λ (z : Sizes). sized (length (s .tree .1 .0)) (z .before) ≡ z) q refl))
 
 pub lacks-room : (body groups : List ℕ) (t r : ℕ)
-    → (reading kind body (groups ∷ []) ≡ leaves (refuses 3 (t ∷ r ∷ [])) (groups ∷ [])) ↔ ((t ≡ 8) × (k : ℕ) × (measuring kind body ≡ accepted (sized r k)) × (length groups / 5 < r))
+    → (reading kind body (groups ∷ []) ≡ leaves (refuses 3 (t ∷ r ∷ [])) (groups ∷ [])) ↔
+    ((t ≡ 8) × (k : ℕ) × (measuring kind body ≡ accepted (sized r k)) × (length groups / 5 < r))
 unfolding room firstTable
 lacks-room body groups t r = (forth, back)
   where
-    forth : reading kind body (groups ∷ []) ≡ leaves (refuses 3 (t ∷ r ∷ [])) (groups ∷ []) → (t ≡ 8) × (k : ℕ) × (measuring kind body ≡ accepted (sized r k)) × (length groups / 5 < r)
+    forth : reading kind body (groups ∷ []) ≡ leaves (refuses 3 (t ∷ r ∷ [])) (groups ∷ [])
+        → (t ≡ 8) × (k : ℕ) × (measuring kind body ≡ accepted (sized r k)) × (length groups / 5 < r)
     forth h =
         let (z, e, l) = claims .more-room .no-room body (groups ∷ []) t r .0 h in
         let (n, q) = sized-so body z e in
         let (a, b, c) = low n groups (subst (λ (z : Sizes). Lowest (z .tables) (groups ∷ []) t r) q l) in
         (a, z .before, e ∙ ap accepted (q ∙ ap (λ (n : ℕ). sized n (z .before)) (sym b)), subst (λ (n : ℕ). length groups / 5 < n) (sym b) c)
 
-    back : (t ≡ 8) × (k : ℕ) × (measuring kind body ≡ accepted (sized r k)) × (length groups / 5 < r) → reading kind body (groups ∷ []) ≡ leaves (refuses 3 (t ∷ r ∷ [])) (groups ∷ [])
+    back : (t ≡ 8) × (k : ℕ) × (measuring kind body ≡ accepted (sized r k)) × (length groups / 5 < r)
+        → reading kind body (groups ∷ []) ≡ leaves (refuses 3 (t ∷ r ∷ [])) (groups ∷ [])
     back (a, k, e, c) = claims .more-room .no-room body (groups ∷ []) t r .1 (sized r k, e, subst (λ (t : ℕ). Lowest (needed r) (groups ∷ []) t r) (sym a) (this c))
 
 -- of a table that was read: its rows are the groups, each either in the main stream or with a location, and not both
@@ -150,9 +155,11 @@ counted body {t} e = let r = body-run body e in subst Counted (sym (r .is)) (go 
     go true m d =
         let w = main-there body 1 d in
         let l = many-takes (flat 5 group) (length (w .rows)) (run-takes (groups (length (w .rows))) body 3 (w .reads) (omega (arith, w .inside))) in
-        subst (λ (m : Main). Counted (Rust.streamOf (getD body 0 0) m)) (sym (w .is)) (record { count = sym (w .count); wide = listed-every (flat 5 group) (Wide 5) (flat-grows 5 group) l; once = listed-every (flat 5 group) Once group-once l })
+        subst (λ (m : Main). Counted (Rust.streamOf (getD body 0 0) m)) (sym (w .is))
+        (record { count = sym (w .count); wide = listed-every (flat 5 group) (Wide 5) (flat-grows 5 group) l; once = listed-every (flat 5 group) Once group-once l })
 
-pub read-table : (body groups groups′ : List ℕ) (m : MpegH3dAudioMultiStream) → reading kind body (groups ∷ []) ≡ leaves (accepted m) (groups′ ∷ []) → Every Once (each (λ i. row 5 (at 5 groups′ i)) 0 (m .main .part .groups))
+pub read-table : (body groups groups′ : List ℕ) (m : MpegH3dAudioMultiStream) → reading kind body (groups ∷ []) ≡ leaves (accepted m) (groups′ ∷ [])
+    → Every Once (each (λ i. row 5 (at 5 groups′ i)) 0 (m .main .part .groups))
 unfolding kind filled tables firstTable otherTables withPlace each
 read-table body groups groups′ m e =
     let w = was kind body (groups ∷ []) m (groups′ ∷ []) e in
@@ -169,9 +176,11 @@ read-table body groups groups′ m e =
 abbrev without : ℕ → MultiStreamMain → Payload → MpegH3dAudioMultiStream
 without id p r = record { «this_stream_id» = id; main = record { present = false; part = p }; trailing = r }
 
-pub absent-part : (id : ℕ) (p p′ : MultiStreamMain) (r : Payload) (groups store out : List ℕ) → writing kind (without id p r) (groups ∷ []) store out ≡ writing kind (without id p′ r) (groups ∷ []) store out
+pub absent-part : (id : ℕ) (p p′ : MultiStreamMain) (r : Payload) (groups store out : List ℕ)
+    → writing kind (without id p r) (groups ∷ []) store out ≡ writing kind (without id p′ r) (groups ∷ []) store out
 unfolding kind heeds heededRows layouts cells shown head flatten has each
-absent-part id p p′ r groups store out = claims .writing .unread (without id p r) (without id p′ r) (groups ∷ []) (groups ∷ []) store out refl (rows-agree refl (λ i. refl) none-read)
+absent-part id p p′ r groups store out =
+    claims .writing .unread (without id p r) (without id p′ r) (groups ∷ []) (groups ∷ []) store out refl (rows-agree refl (λ i. refl) none-read)
 
 -- ---- the promises fix the answers themselves
 

@@ -58,7 +58,8 @@ module _ (p : Prog (List ℕ)) where
       headed : ℕ → Columns
       headed b = put (flag 1 ∷ num 7 0 ∷ []) (split (1 ∷ 7 ∷ []) b) blank
 
-      go : (b : ℕ) (x : Bool) → ((pick x (reads (one (reserved 1 2 ∷ num 7 3 ∷ []) (one (reserved 1 4 ∷ num 7 5 ∷ []) end)) (headed b)) (ret (headed b)) >>= λ g. ret g) >>= to-groups) ≡ (main p x >>= λ m. ret (streamOf b m))
+      go : (b : ℕ) (x : Bool)
+          → ((pick x (reads (one (reserved 1 2 ∷ num 7 3 ∷ []) (one (reserved 1 4 ∷ num 7 5 ∷ []) end)) (headed b)) (ret (headed b)) >>= λ g. ret g) >>= to-groups) ≡ (main p x >>= λ m. ret (streamOf b m))
       go b true = λ i. look 1 (λ a. look 1 (λ g. sym (bind-assoc (many (part 0 7 (getD g 0 0)) p) (λ l. ret (mainOf (getD a 0 0) (getD g 0 0) l)) (λ m. ret (streamOf b m))) i))
       go b false = refl
 
@@ -82,7 +83,8 @@ written-so m lent store = go m (m .main .present)
 
     -- the last piece is empty: neither its rows nor its bytes count
     ends : MpegH3dAudioMultiStream → (Bool → Bool) → (List Act → List Act) → List Act
-    ends m t f = demand F.Range (t (within (m .main) (firstTable lent))) ∷ demand F.Field true ∷ demand F.Empty true ∷ map byte (headFields m) ++ f (mainActs (m .main) (firstTable lent))
+    ends m t f =
+        demand F.Range (t (within (m .main) (firstTable lent))) ∷ demand F.Field true ∷ demand F.Empty true ∷ map byte (headFields m) ++ f (mainActs (m .main) (firstTable lent))
 
     case : (m : MpegH3dAudioMultiStream) (a : Bool) → kind .acts (with m a) lent store ≡ ends (with m a) (λ t. t && true) (λ q. q ++ [])
     case m true = refl

@@ -101,7 +101,8 @@ module _ (s : List ℕ) (q : isDone (run (mainPart true) s 1) ≡ true) where
   pub both-there : 3 ≤ length s
   both-there = main-there s 1 (the-main .2) .inside
 
-  pub main-placed : {a g : ℕ} → a ≡ getD s 1 0 → g ≡ getD s 2 0 → done (part 7 1 a ∷ part 0 7 a ∷ part 7 1 g ∷ part 0 7 g ∷ []) (posOf (run (mainPart true) s 1)) ≡ mapOut (λ m. m .columns) (run (mainPart true) s 1)
+  pub main-placed : {a g : ℕ} → a ≡ getD s 1 0 → g ≡ getD s 2 0
+      → done (part 7 1 a ∷ part 0 7 a ∷ part 7 1 g ∷ part 0 7 g ∷ []) (posOf (run (mainPart true) s 1)) ≡ mapOut (λ m. m .columns) (run (mainPart true) s 1)
   main-placed e f = let (m, k, r) = the-main in rw (r, e, f, main-there s 1 r .is) refl
 
 pub aside-placed : (s : List ℕ) → done (0 ∷ 0 ∷ 0 ∷ 0 ∷ []) (posOf (run (mainPart false) s 1)) ≡ mapOut (λ m. m .columns) (run (mainPart false) s 1)
@@ -126,7 +127,8 @@ module _ (s : List ℕ) {o : Out ℕ} (e : o ≡ run u8 s 0) where
   first-cut d h = cut-off u8 behind-first begins e d h ∙ ap (λ (p : Prog MultiStream). run p s 0) (sym parse-over)
 
 -- its groups are those of the main part
-pub body-summed : (b : ℕ) {s : List ℕ} {n : ℕ} {r : Sum} → From (kind .program) s 0 (behind-first b) n → Summed (mainPart (eqb (part 7 1 b) 1)) (λ m. length (m .groups)) 127 s n r → Summed (kind .program) (λ t. length (t .1 .0)) 127 s 0 r
+pub body-summed : (b : ℕ) {s : List ℕ} {n : ℕ} {r : Sum} → From (kind .program) s 0 (behind-first b) n
+    → Summed (mainPart (eqb (part 7 1 b) 1)) (λ m. length (m .groups)) 127 s n r → Summed (kind .program) (λ t. length (t .1 .0)) 127 s 0 r
 body-summed b {s} {n} {r} w x = go r refl
   where
     go : (y : Sum) → r ≡ y → Summed (kind .program) (λ t. length (t .1 .0)) 127 s 0 r

@@ -59,7 +59,8 @@ top-tally : (g : Columns) → tally (layouts pieces) g ≡ pick (eqb (g 1) 1) (z
 unfolding layouts tally cells shown head sum flatten
 top-tally g = go (eqb (g 1) 1)
   where
-    go : (a : Bool) → sum (λ (c : Cell). idle c (g (column c))) ((flag 1 ∷ num 7 0 ∷ (pick a (reserved 1 2 ∷ num 7 3 ∷ reserved 1 4 ∷ num 7 5 ∷ []) [] ++ [])) ++ []) ≡ pick a (zeros 1 (g 2) + zeros 1 (g 4)) 0
+    go : (a : Bool)
+        → sum (λ (c : Cell). idle c (g (column c))) ((flag 1 ∷ num 7 0 ∷ (pick a (reserved 1 2 ∷ num 7 3 ∷ reserved 1 4 ∷ num 7 5 ∷ []) [] ++ [])) ++ []) ≡ pick a (zeros 1 (g 2) + zeros 1 (g 4)) 0
     go true = omega arith
     go false = refl
 

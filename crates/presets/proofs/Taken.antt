@@ -57,7 +57,8 @@ module _ (s : List ℕ) (at : ℕ) (h : at ≤ length s) {o : Out (Unit {0})} wh
         record { there = omega arith; inside = i; goes = head-got preset (flat 13 condition) s at (e ∙ ap (λ (l : List ℕ). ends l s at) (sym (head-sizes s at))) d }
 
     pub three-lack : {x y : Short} → o ≡ short x → y ≡ shortOf o → Summed presets (λ x. length (x .1)) 16 s at (S.Short y)
-    three-lack d q = broken-lacks preset (flat 13 condition) s at 16 h (head-lacks preset (flat 13 condition) s at (e ∙ ap (λ (l : List ℕ). ends l s at) (sym (head-sizes s at))) d) d q
+    three-lack d q =
+        broken-lacks preset (flat 13 condition) s at 16 h (head-lacks preset (flat 13 condition) s at (e ∙ ap (λ (l : List ℕ). ends l s at) (sym (head-sizes s at))) d) d q
 
   -- behind its conditions
   module _ {n k : ℕ} (w : Three s at n) (c : k ≡ countAt s at) (e : o ≡ endOf (run (many k (flat 13 condition)) s n)) where

@@ -37,14 +37,16 @@ unfolding nest-test weight below proper all has distinct free eights total sure 
 preset-passes = refl
 
 abbrev pub plainActs : ℕ → (ℕ → List Act) → Columns → List Act
-plainActs room kid g = demand F.Range (leb (g 5 + g 6) room) ∷ demand F.Field true ∷ demand F.Empty (leb 1 (g 6)) ∷ (map byte (fieldsOf g headCells) ++ (rows kid (g 5) (g 6) ++ []))
+plainActs room kid g =
+    demand F.Range (leb (g 5 + g 6) room) ∷ demand F.Field true ∷ demand F.Empty (leb 1 (g 6)) ∷ (map byte (fieldsOf g headCells) ++ (rows kid (g 5) (g 6) ++ []))
 
 pub preset-acts : (room : ℕ) (kid : ℕ → List Act) (g : Columns) → brokenActs preset room kid g ≡ plainActs room kid g
 unfolding writes shown cells matches matched every flatten
 preset-acts room kid g = rw (and-true (leb 1 (g 6)))
 
 -- what stands before its conditions
-pub front-acts : (room : ℕ) (g : Columns) → frontActs preset room g ≡ demand F.Range (leb (g 5 + g 6) room) ∷ demand F.Field true ∷ demand F.Empty (leb 1 (g 6)) ∷ map byte (fieldsOf g headCells)
+pub front-acts : (room : ℕ) (g : Columns)
+    → frontActs preset room g ≡ demand F.Range (leb (g 5 + g 6) room) ∷ demand F.Field true ∷ demand F.Empty (leb 1 (g 6)) ∷ map byte (fieldsOf g headCells)
 unfolding writes shown cells matches matched every flatten
 front-acts room g = rw (and-true (leb 1 (g 6)))
 
@@ -127,7 +129,8 @@ module _ (u : List ℕ) (g : Columns) where
     kids-plain e h =
         let (c, l) = kids-passed (rowActs u) (g 5) (g 6) v h in
         let f = test-few e .few in
-        broken-quick preset room (rowActs u) g 99 preset-passes (plain-row ∙ e) (unfold matches matched clean in refl) c (omega (arith, l)) (omega arith) (omega (arith, v .few, v .within, f))
+        broken-quick preset room (rowActs u) g 99 preset-passes (plain-row ∙ e) (unfold matches matched clean in refl) c (omega (arith, l)) (omega arith)
+        (omega (arith, v .few, v .within, f))
 
     pub kid-odd : i < g 6 → Quick (brokenActs preset room (rowActs u) g) 99 0
     kid-odd h = broken-odd-kid preset room (rowActs u) g 99 (kids-odd (rowActs u) (g 5) (g 6) v h)

@@ -97,7 +97,8 @@ abbrev pub cell : ℕ → ℕ → Reader → Fml
 cell b o d = fat fullShare (T′.mir erased) b o (T′.lowered d)
 
 -- what body owns is kept, and pos's facts are made anew
-again : {M : Type 1} (𝓤 : URA M) (H : Heap 𝓤) (A : Atoms 𝓤) (W : Given 𝓤 H A) (κ : Lft) (d : Reader) (n : ℕ) → n < 2 ^ 64 → ent 𝓤 (sem 𝓤 H A (One κ d)) (sem 𝓤 H A (One κ (moved d n)))
+again : {M : Type 1} (𝓤 : URA M) (H : Heap 𝓤) (A : Atoms 𝓤) (W : Given 𝓤 H A) (κ : Lft) (d : Reader) (n : ℕ) → n < 2 ^ 64
+    → ent 𝓤 (sem 𝓤 H A (One κ d)) (sem 𝓤 H A (One κ (moved d n)))
 again 𝓤 H A W κ d n ok =
     qed W (‵ (One κ d) ∷ []) ∵ owned ! usize (Is usize) (uint-makes 𝓤 H A W w64) n _ (refl, ok) $ move ! (1 ∷ 0 ∷ []) $ by ! (own-put 𝓤 H A W (shape κ) (laws κ) 1 (fields κ d) n (T′.lowered d))
 
@@ -133,15 +134,19 @@ module _ {M : Type 1} (𝓤 : URA M) (ℓ : Loan) where
 
   -- what is had beside the memory while the borrow is open: what the struct owns, the open borrow, and both halves of its ghost variable
   abbrev pub Open : Reader → Item 𝓤
-  Open d = ‵ (One (ℓ .κ′) d) ⊛ ‵ (fobor (ℓ .κ) (ℓ .q) (Behind (mem (row (ℓ .κ′))) (ℓ .b) (ℓ .o) (ℓ .γ))) ⊛ ‵ (fobs (ℓ .γ) (row (ℓ .κ′) .coded .code d)) ⊛ ‵ (fauth (ℓ .γ) (row (ℓ .κ′) .coded .code d))
+  Open d =
+      ‵ (One (ℓ .κ′) d) ⊛ ‵ (fobor (ℓ .κ) (ℓ .q) (Behind (mem (row (ℓ .κ′))) (ℓ .b) (ℓ .o) (ℓ .γ))) ⊛ ‵ (fobs (ℓ .γ) (row (ℓ .κ′) .coded .code d)) ⊛ ‵
+      (fauth (ℓ .γ) (row (ℓ .κ′) .coded .code d))
 
 module _ {M : Type 1} {𝓤 : URA M} {H : Heap 𝓤} {A : Atoms 𝓤} {K : Type 0} {W : Given 𝓤 H A} {Γ : List (Item 𝓤)} {G : Goal 𝓤 H} where
   -- the borrow is opened
-  pub opens-reader : K → Soaks G → (ℓ : Loan) (d : Reader) {more : Fml} → (Typed d → Seq K W (‵ (cell (ℓ .b) (ℓ .o) d) ∷ Open 𝓤 ℓ d ∷ Token 𝓤 ℓ ∷ ‵ more ∷ Γ) G) → Seq K W (Lent 𝓤 ℓ d more ∷ Tokens 𝓤 ℓ ∷ Γ) G
+  pub opens-reader : K → Soaks G → (ℓ : Loan) (d : Reader) {more : Fml} → (Typed d → Seq K W (‵ (cell (ℓ .b) (ℓ .o) d) ∷ Open 𝓤 ℓ d ∷ Token 𝓤 ℓ ∷ ‵ more ∷ Γ) G)
+      → Seq K W (Lent 𝓤 ℓ d more ∷ Tokens 𝓤 ℓ ∷ Γ) G
   opens-reader t z ℓ d k =
       let R = row (ℓ .κ′) in
       fsplit t $ fsplit3 t $ drop t $ move t (3 ∷ []) $ split t $ move t (2 ∷ 3 ∷ 0 ∷ []) $
-      opens t z R {h = d} (ℓ .b) (ℓ .o) (λ vs. spelt t R (Is R) (shows 𝓤 H A R) (LL.vals (shape (ℓ .κ′)) (laws (ℓ .κ′))) (LL.tells (shape (ℓ .κ′)) (laws (ℓ .κ′))) fullShare d vs (ℓ .b) (ℓ .o) $
+      opens t z R {h = d} (ℓ .b) (ℓ .o)
+      (λ vs. spelt t R (Is R) (shows 𝓤 H A R) (LL.vals (shape (ℓ .κ′)) (laws (ℓ .κ′))) (LL.tells (shape (ℓ .κ′)) (laws (ℓ .κ′))) fullShare d vs (ℓ .b) (ℓ .o) $
       use1 W (‵ (cell (ℓ .b) (ℓ .o) d)) (W .laws .raw-at fullShare (T′.mir erased) (ℓ .b) (ℓ .o) (T′.lowered d)) $ move t (1 ∷ []) $ peeks t R (Is R) (shows 𝓤 H A R) d (T′.lowered d ∷ []) (λ is.
       -- [what the struct owns; the cell; the open borrow; obs; auth; the token of 'a; more]
       move t (3 ∷ 4 ∷ []) $ join t $ move t (3 ∷ 0 ∷ []) $ join t $ move t (1 ∷ 0 ∷ []) $ join t $ move t (1 ∷ 0 ∷ []) $ k (LL.lawful (shape (ℓ .κ′)) (laws (ℓ .κ′)) 𝓤 H A W .typed d _ is .0)))
@@ -180,12 +185,16 @@ module _ {M : Type 1} (𝓤 : URA M) (H : Heap 𝓤) (A : Atoms 𝓤) (W : Given
 
 -- A call, at the machine value of its result. Of what the callee ensures, the fact φ of its result and of the last values is kept, and what says the last values.
 module _ {M : Type 1} {𝓤 : URA M} {H : Heap 𝓤} {A : Atoms 𝓤} {K : Type 0} {W : Given 𝓤 H A} {Γ : List (Item 𝓤)} {E : Env 𝓤 H} {C : Calls 𝓤 H} {Λ : Loops 𝓤 H} {f : Name} {xs : List Operand} {p : Post 𝓤 H} {d : Place} where
-  pub calls : K → FmC 𝓤 H (W .laws) C → {rest : Body} (T : Ended) (c : Clauses 𝓤 T) → Triple 𝓤 (C f) (Meant 𝓤 H A T c) → (y : Meant 𝓤 H A T c .Ghost) (φ : Res (T .signature) (y .0 .0) → Lasts T (y .0 .0) (y .0 .3) → Type 0)
-      → ((r : Res (T .signature) (y .0 .0)) (ws : Lasts T (y .0 .0) (y .0 .3)) → ent 𝓤 (c (y .0 .0) (y .0 .3) .ensures (y .1) r (atExit T (y .0 .0) (y .0 .3) ws)) (fact 𝓤 (φ r ws)))
+  pub calls : K → FmC 𝓤 H (W .laws) C → {rest : Body} (T : Ended) (c : Clauses 𝓤 T) → Triple 𝓤 (C f) (Meant 𝓤 H A T c)
+      → (y : Meant 𝓤 H A T c .Ghost) (φ : Res (T .signature) (y .0 .0) → Lasts T (y .0 .0) (y .0 .3) → Type 0)
+      →
+      ((r : Res (T .signature) (y .0 .0)) (ws : Lasts T (y .0 .0) (y .0 .3)) → ent 𝓤 (c (y .0 .0) (y .0 .3) .ensures (y .1) r (atExit T (y .0 .0) (y .0 .3) ws)) (fact 𝓤 (φ r ws)))
       → (val : Res (T .signature) (y .0 .0) → Val) → Tells (typeAt (T .signature .result) (y .0 .0)) (Is (typeAt (T .signature .result) (y .0 .0))) (λ r. val r ∷ [])
       → Opds K W (raw (Meant 𝓤 H A T c .pre y) ∷ Γ) E xs (Meant 𝓤 H A T c .args y)
       → ((r : Res (T .signature) (y .0 .0)) (ws : Lasts T (y .0 .0) (y .0 .3)) → φ r ws → Is (typeAt (T .signature .result) (y .0 .0)) r (val r ∷ [])
-      → Seq K W (‵ (lasts T (y .0 .0) (y .0 .3) ws) ∷ ‵ (typeAt (T .signature .result) (y .0 .0) .own r (val r ∷ [])) ∷ raw (alive 𝓤 H A (T .signature) (y .0 .0) (y .0 .1)) ∷ Γ) (lands C Λ E d (val r) rest p))
+      → Seq K W
+      (‵ (lasts T (y .0 .0) (y .0 .3) ws) ∷ ‵ (typeAt (T .signature .result) (y .0 .0) .own r (val r ∷ [])) ∷ raw (alive 𝓤 H A (T .signature) (y .0 .0) (y .0 .1)) ∷ Γ)
+      (lands C Λ E d (val r) rest p))
       → Seq K W (raw (Meant 𝓤 H A T c .pre y) ∷ Γ) (runs C Λ E (seq (call f xs d) rest) p)
   calls t fm {rest} T c known y φ tells val tl os k =
       let R : RattleType = typeAt (T .signature .result) (y .0 .0) in
@@ -204,7 +213,8 @@ module _ {M : Type 1} (𝓤 : URA M) (H : Heap 𝓤) (A : Atoms 𝓤) (W : Given
       ∷ ‵ (hasOf (y .0 .0) (T .signature .params) (T .kept) hs (y .0 .3) ws (y .0 .4)) ∷ []
 
   pub leaves : (u : Val) (r : Res (T .signature) (y .0 .0)) (ws : Lasts T (y .0 .0) (y .0 .3)) → Fit T hs (y .0 .0) (y .0 .3) ws
-      → {φ : Type 0} → ent 𝓤 (fact 𝓤 φ) (c (y .0 .0) (y .0 .3) .ensures (y .1) r (atExit T (y .0 .0) (y .0 .3) ws)) → φ → ent 𝓤 (⋆ 𝓤 H A (Had u r ws)) (walkOf 𝓤 H A T hs c .post y u)
+      → {φ : Type 0} → ent 𝓤 (fact 𝓤 φ) (c (y .0 .0) (y .0 .3) .ensures (y .1) r (atExit T (y .0 .0) (y .0 .3) ws)) → φ → ent 𝓤 (⋆ 𝓤 H A (Had u r ws))
+      (walkOf 𝓤 H A T hs c .post y u)
   leaves u r ws fit tells e =
       qed W (Had u r ws) ∵ suffices ! _ (via 𝓤 _ (monoR 𝓤 (onExit 𝓤 H A T hs (y .0 .0) (y .0 .1) (y .0 .4) u r (y .0 .3) ws) tells) (ends-at 𝓤 H A T hs c W y u r ws fit)) $
       says ! e $ move ! (1 ∷ 2 ∷ []) $ frame ! $ frame ! $ done !
@@ -223,11 +233,13 @@ module _ {M : Type 1} (𝓤 : URA M) (H : Heap 𝓤) (𝓜 : Model 𝓤 H) (𝓖
   abbrev Walk : Contract 𝓤
   Walk = walkOf 𝓤 H (𝓖 .A) T hs c
 
-  pub ends : AllGo 𝓤 H (𝓖 .A) (givenOf 𝓤 H 𝓜 𝓖) (T .signature .lifetimes) (T .signature .params) (T .kept) hs → (k : Name) (e : Fn) → Closed 𝓤 H (tables 𝓤 H 𝓜 𝓡 γ .C) (tables 𝓤 H 𝓜 𝓡 γ .Λ) k e
+  pub ends : AllGo 𝓤 H (𝓖 .A) (givenOf 𝓤 H 𝓜 𝓖) (T .signature .lifetimes) (T .signature .params) (T .kept) hs → (k : Name) (e : Fn)
+      → Closed 𝓤 H (tables 𝓤 H 𝓜 𝓡 γ .C) (tables 𝓤 H 𝓜 𝓡 γ .Λ) k e
       → (sp : (κs : Lives) → Spells (Types κs)) → ((κs : Lives) → Tellss (Types κs) (Ises (Types κs)) (sp κs))
       → (FmC 𝓤 H (ofModel 𝓤 H 𝓜) (tables 𝓤 H 𝓜 𝓡 γ .C) → (κs : Lives) (qs : Shares (T .signature .lifetimes))
       (bounds : AllOutlive (T .signature .lifetimes) (T .signature .outlives) κs) (a : Args (T .signature) κs) (g : c κs a .ghost)
-      → let y : Walk .Ghost = ((κs, qs, bounds, a, valss (Types κs) (sp κs) a), g) in Are (Types κs) (Ises (Types κs)) a (valss (Types κs) (sp κs) a) → ent 𝓤 (Walk .pre y) (Runs e (Walk .args y) (Walk .post y)))
+      → let y : Walk .Ghost =
+      ((κs, qs, bounds, a, valss (Types κs) (sp κs) a), g) in Are (Types κs) (Ises (Types κs)) a (valss (Types κs) (sp κs) a) → ent 𝓤 (Walk .pre y) (Runs e (Walk .args y) (Walk .post y)))
       → Triple 𝓤 (tables 𝓤 H 𝓜 𝓡 γ .C k) (Meant 𝓤 H (𝓖 .A) T c)
   unfolding tablesOf
   ends go k e closed sp tl walk =

@@ -53,7 +53,8 @@ module _ {M : Type 1} (𝓤 : URA M) (H : Heap 𝓤) (A : Atoms 𝓤) (W : Given
   lay : (d : Reader) → ent 𝓤 (sem 𝓤 H A (mem R .lies d l 0)) (⋆ 𝓤 H A (‵ (cell l 0 d) ∷ ‵ (One κ d) ∷ []))
   unfolding partOf
   lay d =
-      qed W (‵ (mem R .lies d l 0) ∷ []) ∵ fpick ! (λ vs. fsplit ! $ spelt ! R (Is R) (shows 𝓤 H A R) (LL.vals (T.the-type (held κ)) (T′.the-laws (held κ))) (LL.tells (T.the-type (held κ)) (T′.the-laws (held κ))) fullShare d vs l 0 $
+      qed W (‵ (mem R .lies d l 0) ∷ []) ∵ fpick !
+      (λ vs. fsplit ! $ spelt ! R (Is R) (shows 𝓤 H A R) (LL.vals (T.the-type (held κ)) (T′.the-laws (held κ))) (LL.tells (T.the-type (held κ)) (T′.the-laws (held κ))) fullShare d vs l 0 $
       use1 W (‵ (cell l 0 d)) (W .laws .raw-at fullShare (T′.mir erased) l 0 (T′.lowered d)) $ done !)
 
   module _ (a : ℕ) where
@@ -82,12 +83,14 @@ module _ {M : Type 1} (𝓤 : URA M) (H : Heap 𝓤) (A : Atoms 𝓤) (W : Given
   lends-local d =
       qed W (‵ (cell l 0 d) ∷ ‵ (One κ d) ∷ ‵ (flft κ q) ∷ []) ∵ updating ! $ use2 W (‵ (mem R .lies d l 0)) (lies d) $ lft-new ! tt (λ a. move ! (0 ∷ 2 ∷ []) $
       use2 W (‵ (flft (a ∷ κ) (PosShare·left q)) ⊛ ‵ (flft κ (PosShare·right q)) ⊛ ‵ (Whole q a)) (shared a) $ split3 ! $ move ! (3 ∷ []) $
-      use1 W (later (some (λ (γ : GName). ‵ (MutRef (named 0) (a ∷ κ) R .own (lent (loan κ q l a γ) d) (vptr l 0 ∷ [])) ⊛ ‵ (flent (a ∷ κ) (Body (mem R) l 0 γ))))) (lends-ref 𝓤 H A W R (named 0) (a ∷ κ) d l 0) $
+      use1 W (later (some (λ (γ : GName). ‵ (MutRef (named 0) (a ∷ κ) R .own (lent (loan κ q l a γ) d) (vptr l 0 ∷ [])) ⊛ ‵ (flent (a ∷ κ) (Body (mem R) l 0 γ)))))
+      (lends-ref 𝓤 H A W R (named 0) (a ∷ κ) d l 0) $
       await ! tt $ pick ! (λ γ. split ! $ at-once ! $ show ! (λ (a′ : ℕ). ex 𝓤 (λ (γ′ : GName). mean 𝓤 H A (OnLoan d a′ γ′))) a $ show ! (λ (γ′ : GName). mean 𝓤 H A (OnLoan d a γ′)) γ $
       -- [the reference; the lender's part; the loan's token; that of 'a; how the atom's becomes whole]
       nothing ! $ move ! (1 ∷ 0 ∷ []) $ fjoin ! $ nothing ! $ move ! (4 ∷ 0 ∷ []) $ join ! $ move ! (3 ∷ 0 ∷ []) $ join ! $ move ! (2 ∷ 3 ∷ []) $ fjoin ! $ move ! (1 ∷ 2 ∷ 0 ∷ []) $ done !))
 
-  pub comes-back : (a : ℕ) (γ : GName) (d : Reader) → ent 𝓤 (⋆ 𝓤 H A (Tokens 𝓤 (loan κ q l a γ) ∷ ‵ (fres γ (R .coded .code d)) ∷ ‵ (Kept κ q l a γ) ∷ [])) (H .⇛ (mean 𝓤 H A (Local d)))
+  pub comes-back : (a : ℕ) (γ : GName) (d : Reader)
+      → ent 𝓤 (⋆ 𝓤 H A (Tokens 𝓤 (loan κ q l a γ) ∷ ‵ (fres γ (R .coded .code d)) ∷ ‵ (Kept κ q l a γ) ∷ [])) (H .⇛ (mean 𝓤 H A (Local d)))
   comes-back a γ d =
       qed W (Tokens 𝓤 (loan κ q l a γ) ∷ ‵ (fres γ (R .coded .code d)) ∷ ‵ (Kept κ q l a γ) ∷ []) ∵ updating ! $ move ! (2 ∷ []) $ fsplit ! $ move ! (2 ∷ []) $ split3 ! $ move ! (0 ∷ 1 ∷ 4 ∷ []) $
       use3 W (‵ (flft (a ∷ []) fullShare) ⊛ ‵ (flft κ q)) (whole a) $ split ! $ lft-end ! tt $ use1 W (‵ (fdead (a ∷ κ))) (W .lfts .dead-incl (a ∷ κ) (a ∷ []) (meet-⊑-left (a ∷ []) κ)) $

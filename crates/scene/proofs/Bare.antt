@@ -37,7 +37,8 @@ use Rattle.scene.proofs.Walked.{behind-groups, head-there, head-cut, fo
 
 -- ---- sections without rows
 
-section-bare : {A : Type 0} (p : Prog A) (r w ones : ℕ) (s : List ℕ) (flag at : ℕ) → rowsAt flag at ≤ length s → countAt w s flag at ≡ 0 → run (section flag r w ones p) s at ≡ done (sectionOf p r w ones s flag at []) (rowsAt flag at)
+section-bare : {A : Type 0} (p : Prog A) (r w ones : ℕ) (s : List ℕ) (flag at : ℕ) → rowsAt flag at ≤ length s → countAt w s flag at ≡ 0
+    → run (section flag r w ones p) s at ≡ done (sectionOf p r w ones s flag at []) (rowsAt flag at)
 unfolding many run
 section-bare p r w ones s flag at h e = section-so p r w ones s flag at h ∙ ap (λ (c : ℕ). mapOut (sectionOf p r w ones s flag at) (run (many c p) s (rowsAt flag at))) e
 
@@ -57,7 +58,8 @@ rows-at-near flag at = go (eqb flag 1)
 pub stand : {n : ℕ} (t q a b k : ℕ) → b ≡ rowsAt t a → k ≡ rowsAt q b → k ≤ n → rowsAt t a ≤ n
 stand t q a b k y z h = let i = rows-at-most q b in omega arith
 
-bare-found : (s : List ℕ) → 2 ≤ length s → {a b k : ℕ} → a ≡ rowsAt (groupsFlag s) 2 → b ≡ rowsAt (switchesFlag s) a → k ≡ rowsAt (presetsFlag s) b → k ≤ length s → countAt 7 s (groupsFlag s) 2 ≡ 0 → countAt 5 s (switchesFlag s) a ≡ 0 → countAt 5 s (presetsFlag s) b ≡ 0
+bare-found : (s : List ℕ) → 2 ≤ length s → {a b k : ℕ} → a ≡ rowsAt (groupsFlag s) 2 → b ≡ rowsAt (switchesFlag s) a → k ≡ rowsAt (presetsFlag s) b → k ≤ length s
+    → countAt 7 s (groupsFlag s) 2 ≡ 0 → countAt 5 s (switchesFlag s) a ≡ 0 → countAt 5 s (presetsFlag s) b ≡ 0
     → Bare s (record { «switch_groups» = a; presets = b; members = 0; conditions = 0; k = k })
 unfolding flatMap
 bare-found s h {a} {b} {k} ea eb ek l x y z =
@@ -86,7 +88,8 @@ bare-found s h {a} {b} {k} ea eb ek l x y z =
     }
 
 -- with the flags and the counts as code has them
-pub bare-so : {s : List ℕ} {g t q : ℕ} → 2 ≤ length s → Flags s g t q → {a b k y z : ℕ} → a ≡ rowsAt g 2 → b ≡ rowsAt t a → k ≡ rowsAt q b → k ≤ length s → countAt 7 s g 2 ≡ 0 → y ≡ countAt 5 s t a → z ≡ countAt 5 s q b → eqb y 0 && eqb z 0 ≡ true
+pub bare-so : {s : List ℕ} {g t q : ℕ} → 2 ≤ length s → Flags s g t q → {a b k y z : ℕ} → a ≡ rowsAt g 2 → b ≡ rowsAt t a → k ≡ rowsAt q b → k ≤ length s
+    → countAt 7 s g 2 ≡ 0 → y ≡ countAt 5 s t a → z ≡ countAt 5 s q b → eqb y 0 && eqb z 0 ≡ true
     → Bare s (record { «switch_groups» = a; presets = b; members = 0; conditions = 0; k = k })
 bare-so {s} h w {a} {b} {k} {y} {z} ea eb ek l x0 ey ez n =
     let (u, v) = and-both (eqb y 0) (eqb z 0) n in
@@ -108,7 +111,8 @@ none-so {s} {n} {v} h e l =
     let z : presetsFlag s ≡ 0 = omega arith in
     let absent : (v : ℕ) → v ≡ 0 → rowsAt v n ≡ n = λ v e. ap (λ (v : ℕ). rowsAt v n) e ∙ omega arith in
     let uncounted : (m v at : ℕ) → v ≡ 0 → countAt m s v at ≡ 0 = λ m v at e. ap (λ (v : ℕ). countAt m s v at) e in
-    bare-found s i (sym (ap (rowsAt (groupsFlag s)) (sym m) ∙ absent _ x)) (sym (absent _ y)) (sym (absent _ z)) (omega arith) (uncounted 7 _ 2 x) (uncounted 5 _ n y) (uncounted 5 _ n z)
+    bare-found s i (sym (ap (rowsAt (groupsFlag s)) (sym m) ∙ absent _ x)) (sym (absent _ y)) (sym (absent _ z)) (omega arith) (uncounted 7 _ 2 x) (uncounted 5 _ n y)
+    (uncounted 5 _ n z)
 
 -- they need no table, and none changes
 pub bare-opens : {s : List ℕ} {p : Places} → Bare s p → length s < 65536 → (x y z u v : List ℕ) → Opens s (x ∷ y ∷ z ∷ u ∷ v ∷ []) (O.At p) (x ∷ y ∷ z ∷ u ∷ v ∷ [])
@@ -116,24 +120,28 @@ unfolding kind tables firsts flatMap
 bare-opens {s} {p} b h x y z u v =
     let f = b .found in
     let e : tree f ≡ sceneIs (tree f .0) [] [] [] = λ i. sceneIs (tree f .0) (b .no-groups i) (b .no-switches i) (b .no-presets i) in
-    let none : Every Empty (kind .tables (tree f)) = subst (λ (t : Scene). Every Empty (kind .tables t)) (sym e) (all-cons refl (all-cons refl (all-cons refl (all-cons refl (all-cons refl all-nil))))) in
+    let none : Every Empty (kind .tables (tree f)) =
+    subst (λ (t : Scene). Every Empty (kind .tables t)) (sym e) (all-cons refl (all-cons refl (all-cons refl (all-cons refl (all-cons refl all-nil))))) in
     record { gives = empty-opens kind s h (found-reads s p f) f (x ∷ y ∷ z ∷ u ∷ v ∷ []) refl none }
 
 -- ---- cut before the byte of its first section
 
 section-missing : {A : Type 0} (p : Prog A) (r w full : ℕ) (s : List ℕ) (flag : ℕ) → length s ≡ 2 → flag ≡ 1 → run (section flag r w full p) s 2 ≡ short (needing 3)
 section-missing p r w full s flag l e =
-    let c : ends (ones (pick (eqb flag 1) 1 0)) s 2 ≡ short (needing 3) = ap (λ (b : Bool). ends (ones (pick b 1 0)) s 2) (eq-eqb flag 1 e) ∙ ones-lacks 1 s 2 (omega arith) (omega arith) ∙ ap (λ (n : ℕ). short (needing (n + 1))) l in
+    let c : ends (ones (pick (eqb flag 1) 1 0)) s 2 ≡ short (needing 3) =
+    ap (λ (b : Bool). ends (ones (pick b 1 0)) s 2) (eq-eqb flag 1 e) ∙ ones-lacks 1 s 2 (omega arith) (omega arith) ∙ ap (λ (n : ℕ). short (needing (n + 1))) l in
     section-cut p r w full s flag 2 c
 
-section-passed : {A : Type 0} (p : Prog A) (r w full : ℕ) (s : List ℕ) (flag : ℕ) → length s ≡ 2 → (flag ≡ 1 → ⊥) → run (section flag r w full p) s 2 ≡ done (sectionOf p r w full s flag 2 []) 2
+section-passed : {A : Type 0} (p : Prog A) (r w full : ℕ) (s : List ℕ) (flag : ℕ) → length s ≡ 2 → (flag ≡ 1 → ⊥)
+    → run (section flag r w full p) s 2 ≡ done (sectionOf p r w full s flag 2 []) 2
 unfolding rowsAt countAt
 section-passed p r w full s flag l e =
     let x = ne-eqb flag 1 e in
     let a : rowsAt flag 2 ≡ 2 = ap (λ (b : Bool). 2 + pick b 1 0) x in
     section-bare p r w full s flag 2 (omega arith) (ap (λ (b : Bool). pick b (part 0 w (getD s 2 0)) 0) x) ∙ ap (done (sectionOf p r w full s flag 2 [])) a
 
-cut : {A : Type 0} (p : Prog A) {s : List ℕ} (f : A → Prog Scene) → From (kind .program) s 0 (p >>= f) 2 → run p s 2 ≡ short (needing 3) → run (kind .program) s 0 ≡ short (needing 3)
+cut : {A : Type 0} (p : Prog A) {s : List ℕ} (f : A → Prog Scene) → From (kind .program) s 0 (p >>= f) 2 → run p s 2 ≡ short (needing 3)
+    → run (kind .program) s 0 ≡ short (needing 3)
 cut p f w e = sym (cut-off p f w refl e (sym (ap shortOf e)))
 
 flag-is : (v : ℕ) → eqb v 1 ≡ true → v ≡ 1
@@ -167,7 +175,9 @@ first-cut s l low high = go (eqb (groupsFlag s) 1) (eqb (switchesFlag s) 1) (eqb
     go true y z a b c = cut groups (behind-groups s) w₀ (section-missing (flat 27 group) 1 7 1 s (groupsFlag s) l (flag-is _ a))
     go false true z a b c = cut switches _ (w₁ (flag-is-not _ a)) (section-missing switchGroups 3 5 7 s (switchesFlag s) l (flag-is _ b))
     go false false true a b c =
-        cut (section (presetsFlag s) 3 5 7 presets) _ (onward switches _ (w₁ (flag-is-not _ a)) refl (section-passed switchGroups 3 5 7 s (switchesFlag s) l (flag-is-not _ b))) (section-missing presets 3 5 7 s (presetsFlag s) l (flag-is _ c))
+        cut (section (presetsFlag s) 3 5 7 presets) _
+        (onward switches _ (w₁ (flag-is-not _ a)) refl (section-passed switchGroups 3 5 7 s (switchesFlag s) l (flag-is-not _ b)))
+        (section-missing presets 3 5 7 s (presetsFlag s) l (flag-is _ c))
     go false false false a b c =
         let x = flag-off (groupsFlag s) (omega arith) a in
         let below : getD s 0 0 < 128 = omega (arith, x) in

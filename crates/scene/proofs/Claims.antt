@@ -22,7 +22,9 @@ read-back (R.Done m) = refl
 read-back (R.Refused x) = ap R.Refused (refused-back x)
 
 measure-of : E.Sizes → Measured
-measure-of z = M.Done (record { groups = rowsAt 0 (z .tables); «switch_groups» = rowsAt 1 (z .tables); members = rowsAt 2 (z .tables); presets = rowsAt 3 (z .tables); conditions = rowsAt 4 (z .tables); k = z .before })
+measure-of z =
+    M.Done
+    (record { groups = rowsAt 0 (z .tables); «switch_groups» = rowsAt 1 (z .tables); members = rowsAt 2 (z .tables); presets = rowsAt 3 (z .tables); conditions = rowsAt 4 (z .tables); k = z .before })
 
 measured-back : (r : Measured) → answer-by measure-of M.Refused (measured r) ≡ r
 unfolding measure-of

@@ -63,7 +63,8 @@ module _ {s : List ℕ} {p : Places} (f : Found s p) where
   pub needs-found : needed (countAt 7 s (groupsFlag s) 2) (countAt 5 s (switchesFlag s) (p .«switch_groups»)) (p .members) (countAt 5 s (presetsFlag s) (p .presets)) (p .conditions) ≡ needs (kind .tables (tree f))
   unfolding needs kind tables
   needs-found = λ i.
-      needed (groups-counted i) ((switches-counted ∙ sym (parents-long switchRows (f .in-switches .rows))) i) (f .members-are i) ((presets-counted ∙ sym (parents-long presetRows (f .in-presets .rows))) i) (f .conditions-are i)
+      needed (groups-counted i) ((switches-counted ∙ sym (parents-long switchRows (f .in-switches .rows))) i) (f .members-are i)
+      ((presets-counted ∙ sym (parents-long presetRows (f .in-presets .rows))) i) (f .conditions-are i)
 
 -- ---- the record and the sizes, from the bytes
 
@@ -82,7 +83,8 @@ module _ {s : List ℕ} {p : Places} (f : Found s p) where
   presets-there e = rw e (presets-stand f .there-is)
 
 module _ {s : List ℕ} {p : Places} (f : Found s p) (h : length s < 65536) {g t q : ℕ} (w : Flags s g t q) where
-  pub counted : {r : CodeSizes} → r .groups ≡ countAt 7 s g 2 → r .«switch_groups» ≡ countAt 5 s t (p .«switch_groups») → r .members ≡ p .members → r .presets ≡ countAt 5 s q (p .presets) → r .conditions ≡ p .conditions → r .k ≡ p .k → Measures kind s (accepted (sized r))
+  pub counted : {r : CodeSizes} → r .groups ≡ countAt 7 s g 2 → r .«switch_groups» ≡ countAt 5 s t (p .«switch_groups») → r .members ≡ p .members
+      → r .presets ≡ countAt 5 s q (p .presets) → r .conditions ≡ p .conditions → r .k ≡ p .k → Measures kind s (accepted (sized r))
   unfolding sizes
   counted {r} a b c d e k =
       measures-walked kind s h (found-reads s p f)

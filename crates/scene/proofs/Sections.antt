@@ -52,7 +52,8 @@ module _ (s : List ℕ) (flag at : ℕ) where
 
   pub reserved-there : (r w none : ℕ) {v x : ℕ} → flag ≡ 1 → v ≡ getD s at 0 → x ≡ part w r v → r ≤ 8 → (x ≡ reservedAt r w none s flag at) × (x < 256)
   unfolding reservedAt
-  reserved-there r w none {v} e q d l = (d ∙ ap (part w r) q ∙ ap (λ (x : Bool). pick x (part w r (getD s at 0)) none) (sym (eq-eqb flag 1 e)), rw d (wider r 8 l (part-below w r v)))
+  reserved-there r w none {v} e q d l =
+      (d ∙ ap (part w r) q ∙ ap (λ (x : Bool). pick x (part w r (getD s at 0)) none) (sym (eq-eqb flag 1 e)), rw d (wider r 8 l (part-below w r v)))
 
   pub reserved-absent : (r w none : ℕ) → (flag ≡ 1 → ⊥) → none < 256 → (none ≡ reservedAt r w none s flag at) × (none < 256)
   unfolding reservedAt
@@ -111,7 +112,8 @@ module _ {A : Type 0} (p : Prog A) (r w none : ℕ) (s : List ℕ) (flag at : �
   section-so h = go (eqb flag 1) h
     where
       go : (x : Bool) → at + pick x 1 0 ≤ length s
-          → _≡_ {A = Out (Section A)} (run (pick x there (ret absent)) s at) (mapOut (λ l. record { reserved = pick x (part w r (getD s at 0)) none; count = pick x (part 0 w (getD s at 0)) 0; rows = l }) (run (many (pick x (part 0 w (getD s at 0)) 0) p) s (at + pick x 1 0)))
+          → _≡_ {A = Out (Section A)} (run (pick x there (ret absent)) s at)
+          (mapOut (λ l. record { reserved = pick x (part w r (getD s at 0)) none; count = pick x (part 0 w (getD s at 0)) 0; rows = l }) (run (many (pick x (part 0 w (getD s at 0)) 0) p) s (at + pick x 1 0)))
       go true h = byte-next _ s at (omega arith) refl ∙ rows-then _ (part 0 w (getD s at 0)) (at + 1)
       go false h = ap (done absent) (sym (add-zero at))
 
@@ -120,7 +122,8 @@ module _ {A : Type 0} (p : Prog A) (r w none : ℕ) (s : List ℕ) (flag at : �
   unfolding section run ones ends u8 _>>=_
   section-cut {x} e = go (eqb flag 1) e
     where
-      cut : (b : Bool) (q : Out (Section A)) → _≡_ {A = Out (Unit {0})} (elim b [ true ↦ done tt (at + 1) | false ↦ short (needing (at + 1)) ]) (short x) → _≡_ {A = Out (Section A)} (elim b [ true ↦ q | false ↦ short (needing (at + 1)) ]) (short x)
+      cut : (b : Bool) (q : Out (Section A)) → _≡_ {A = Out (Unit {0})} (elim b [ true ↦ done tt (at + 1) | false ↦ short (needing (at + 1)) ]) (short x)
+          → _≡_ {A = Out (Section A)} (elim b [ true ↦ q | false ↦ short (needing (at + 1)) ]) (short x)
       cut true q e = absurd (let z : _≡_ {A = ℕ} 0 1 = cc e in omega arith)
       cut false q e = let z : needing (at + 1) ≡ x = cc e in ap short z
 
@@ -131,7 +134,8 @@ module _ {A : Type 0} (p : Prog A) (r w none : ℕ) (s : List ℕ) (flag at : �
   pub section-cut-off : {o : Out (Unit {0})} {k : ℕ} {x : Short} → k ≡ pick (eqb flag 1) 1 0 → o ≡ ends (ones k) s at → o ≡ short x → o ≡ endOf (run (section flag r w none p) s at)
   section-cut-off q e d = d ∙ sym (ap endOf (section-cut (ap (λ (k : ℕ). ends (ones k) s at) (sym q) ∙ sym e ∙ d)))
 
-  pub section-cut-sum : (f : List A → ℕ) {o : Out (Unit {0})} {k all : ℕ} {x y : Short} → k ≡ pick (eqb flag 1) 1 0 → o ≡ ends (ones k) s at → o ≡ short x → y ≡ shortOf o → Summed (section flag r w none p) (λ z. f (z .rows)) all s at (N.Short y)
+  pub section-cut-sum : (f : List A → ℕ) {o : Out (Unit {0})} {k all : ℕ} {x y : Short} → k ≡ pick (eqb flag 1) 1 0 → o ≡ ends (ones k) s at → o ≡ short x → y ≡ shortOf o
+      → Summed (section flag r w none p) (λ z. f (z .rows)) all s at (N.Short y)
   section-cut-sum f {all = all} {x} {y} q e d h = record {
     is = ap short (h ∙ ap shortOf d) ∙ sym (ap (mapOut (λ (z : Section A). f (z .rows))) (section-cut (ap (λ (k : ℕ). ends (ones k) s at) (sym q) ∙ sym e ∙ d)));
     small = omega arith;
@@ -139,13 +143,15 @@ module _ {A : Type 0} (p : Prog A) (r w none : ℕ) (s : List ℕ) (flag at : �
 
   -- the rows decide the end of the section, and what is known of them
   pub section-ends : {n k : ℕ} {o : Out (Unit {0})} → Begun s flag at n → k ≡ countAt w s flag at → o ≡ endOf (run (many k p) s n) → o ≡ endOf (run (section flag r w none p) s at)
-  section-ends {n} {k} b q e = e ∙ (λ i. endOf (run (many (q i) p) s (b .at-rows i))) ∙ sym (ap endOf (section-so (b .there-is)) ∙ go (run (many (countAt w s flag at) p) s (rowsAt flag at)))
+  section-ends {n} {k} b q e =
+      e ∙ (λ i. endOf (run (many (q i) p) s (b .at-rows i))) ∙ sym (ap endOf (section-so (b .there-is)) ∙ go (run (many (countAt w s flag at) p) s (rowsAt flag at)))
     where
       go : (o : Out (List A)) → endOf (mapOut sectionOf o) ≡ endOf o
       go (done l m) = refl
       go (short x) = refl
 
-  pub section-sum : (f : List A → ℕ) {n k most all : ℕ} {x : Sum} → Begun s flag at n → k ≡ countAt w s flag at → most ≤ all → Summed (many k p) f most s n x → Summed (section flag r w none p) (λ y. f (y .rows)) all s at x
+  pub section-sum : (f : List A → ℕ) {n k most all : ℕ} {x : Sum} → Begun s flag at n → k ≡ countAt w s flag at → most ≤ all → Summed (many k p) f most s n x
+      → Summed (section flag r w none p) (λ y. f (y .rows)) all s at x
   section-sum f {n} {k} b q l v = record {
     is = v .is ∙ (λ i. mapOut f (run (many (q i) p) s (b .at-rows i))) ∙ sym (ap (mapOut (λ (y : Section A). f (y .rows))) (section-so (b .there-is)) ∙ go (run (many (countAt w s flag at) p) s (rowsAt flag at)));
     small = omega (arith, v .small, l);

@@ -56,16 +56,19 @@ module _ {s : List ℕ} {p : Places} (f : Found s p) (short : length s < 65536) 
       }
 
   -- what is asked for before each section is stored, with the flags as code has them
-  pub groups-ask : {g : ℕ} → g ≡ groupsFlag s → (rowsAt g 2 ≤ length s) × (isDone (run (many (countAt 7 s g 2) (flat 27 group)) s (rowsAt g 2)) ≡ true) × (27 * countAt 7 s g 2 ≤ length t₁) × (2 < 2 ^ 32)
+  pub groups-ask : {g : ℕ} → g ≡ groupsFlag s
+      → (rowsAt g 2 ≤ length s) × (isDone (run (many (countAt 7 s g 2) (flat 27 group)) s (rowsAt g 2)) ≡ true) × (27 * countAt 7 s g 2 ≤ length t₁) × (2 < 2 ^ 32)
   groups-ask e = let w = groups-stand f in rw e (w .there-is, ap isDone (w .reads), omega (arith, space .groups, groups-counted f), omega arith)
 
-  pub switches-ask : {t : ℕ} → t ≡ switchesFlag s → Fillable (many (countAt 5 s t (p .«switch_groups»)) switchGroups) 2 (λ l. length (kids l)) s (rowsAt t (p .«switch_groups»)) 0 t₃ × (9 * countAt 5 s t (p .«switch_groups») ≤ length t₂) × (p .«switch_groups» < 2 ^ 32)
+  pub switches-ask : {t : ℕ} → t ≡ switchesFlag s
+      → Fillable (many (countAt 5 s t (p .«switch_groups»)) switchGroups) 2 (λ l. length (kids l)) s (rowsAt t (p .«switch_groups»)) 0 t₃ × (9 * countAt 5 s t (p .«switch_groups») ≤ length t₂) × (p .«switch_groups» < 2 ^ 32)
   switches-ask e =
       let w = switches-stand f in
       rw e
       (record { value = f .in-switches .rows; end = p .presets; reads = w .reads; begun = w .there-is; all = short; before = omega arith; room = omega (arith, space .members) }, omega (arith, space .switches, switches-counted f), omega (arith, at-switches f, short))
 
-  pub presets-ask : {q : ℕ} → q ≡ presetsFlag s → Fillable (many (countAt 5 s q (p .presets)) presets) 13 (λ l. length (kids l)) s (rowsAt q (p .presets)) 0 t₅ × (7 * countAt 5 s q (p .presets) ≤ length t₄) × (p .presets < 2 ^ 32)
+  pub presets-ask : {q : ℕ} → q ≡ presetsFlag s
+      → Fillable (many (countAt 5 s q (p .presets)) presets) 13 (λ l. length (kids l)) s (rowsAt q (p .presets)) 0 t₅ × (7 * countAt 5 s q (p .presets) ≤ length t₄) × (p .presets < 2 ^ 32)
   presets-ask e =
       let w = presets-stand f in
       rw e
@@ -86,21 +89,29 @@ module _ {s : List ℕ} {p : Places} (f : Found s p) (short : length s < 65536) 
       go : Every Shaped (kind .tables (tree f)) → Widths
       go (all-cons a (all-cons _ (all-cons b (all-cons _ (all-cons c all-nil))))) = record { groups = a; members = b; conditions = c }
 
-  groups-stored : {g : ℕ} {t′ : List ℕ} → g ≡ groupsFlag s → t′ ≡ sets t₁ 0 (flatMap (λ r. r) (rowsOf (run (many (countAt 7 s g 2) (flat 27 group)) s (rowsAt g 2)))) → t′ ≡ flatten (f .in-groups .rows) ++ drop (length (flatten (f .in-groups .rows))) t₁
-  groups-stored e q = flat-front 27 (f .in-groups .rows) t₁ (q ∙ (λ i. sets t₁ 0 (flatMap (λ r. r) (rowsOf (run (many (countAt 7 s (e i) 2) (flat 27 group)) s (rowsAt (e i) 2)))))) (groups-stand f .reads) (wide .groups) (space .groups)
+  groups-stored : {g : ℕ} {t′ : List ℕ} → g ≡ groupsFlag s → t′ ≡ sets t₁ 0 (flatMap (λ r. r) (rowsOf (run (many (countAt 7 s g 2) (flat 27 group)) s (rowsAt g 2))))
+      → t′ ≡ flatten (f .in-groups .rows) ++ drop (length (flatten (f .in-groups .rows))) t₁
+  groups-stored e q =
+      flat-front 27 (f .in-groups .rows) t₁ (q ∙ (λ i. sets t₁ 0 (flatMap (λ r. r) (rowsOf (run (many (countAt 7 s (e i) 2) (flat 27 group)) s (rowsAt (e i) 2))))))
+      (groups-stand f .reads) (wide .groups) (space .groups)
 
-  switches-stored : {t : ℕ} {t′ u′ : List ℕ} → t ≡ switchesFlag s → Nests switchGroups (λ x. length (x .1)) (λ n x. brokenRow switchGroup (n, x)) (λ x. flatten (x .1)) s (rowsAt t (p .«switch_groups»)) (countAt 5 s t (p .«switch_groups»)) t₂ t₃ t′ u′
+  switches-stored : {t : ℕ} {t′ u′ : List ℕ} → t ≡ switchesFlag s
+      → Nests switchGroups (λ x. length (x .1)) (λ n x. brokenRow switchGroup (n, x)) (λ x. flatten (x .1)) s (rowsAt t (p .«switch_groups»)) (countAt 5 s t (p .«switch_groups»)) t₂ t₃ t′ u′
       → Both switchGroup (f .in-switches .rows) t₂ t₃ t′ u′
-  switches-stored e v = both switchRows switchGroups {end = p .presets} (f .in-switches .rows) t₂ t₃ v (rw e (switches-stand f .reads)) (wide .members) (space .switches) (space .members)
+  switches-stored e v =
+      both switchRows switchGroups {end = p .presets} (f .in-switches .rows) t₂ t₃ v (rw e (switches-stand f .reads)) (wide .members) (space .switches) (space .members)
 
-  presets-stored : {q : ℕ} {t′ u′ : List ℕ} → q ≡ presetsFlag s → Nests presets (λ x. length (x .1)) (λ n x. brokenRow preset (n, x)) (λ x. flatten (x .1)) s (rowsAt q (p .presets)) (countAt 5 s q (p .presets)) t₄ t₅ t′ u′
+  presets-stored : {q : ℕ} {t′ u′ : List ℕ} → q ≡ presetsFlag s
+      → Nests presets (λ x. length (x .1)) (λ n x. brokenRow preset (n, x)) (λ x. flatten (x .1)) s (rowsAt q (p .presets)) (countAt 5 s q (p .presets)) t₄ t₅ t′ u′
       → Both preset (f .in-presets .rows) t₄ t₅ t′ u′
   presets-stored e v = both presetRows presets {end = p .k} (f .in-presets .rows) t₄ t₅ v (rw e (presets-stand f .reads)) (wide .conditions) (space .presets) (space .conditions)
 
 -- all five tables
-pub stored : {s : List ℕ} {p : Places} → Found s p → length s < 65536 → (t₁ t₂ t₃ t₄ t₅ : List ℕ) {u₁ u₂ u₃ u₄ u₅ : List ℕ} {g t q : ℕ} → Flags s g t q → Roomy kind s (t₁ ∷ t₂ ∷ t₃ ∷ t₄ ∷ t₅ ∷ [])
+pub stored : {s : List ℕ} {p : Places} → Found s p → length s < 65536 → (t₁ t₂ t₃ t₄ t₅ : List ℕ) {u₁ u₂ u₃ u₄ u₅ : List ℕ} {g t q : ℕ} → Flags s g t q
+    → Roomy kind s (t₁ ∷ t₂ ∷ t₃ ∷ t₄ ∷ t₅ ∷ [])
     → u₁ ≡ sets t₁ 0 (flatMap (λ r. r) (rowsOf (run (many (countAt 7 s g 2) (flat 27 group)) s (rowsAt g 2))))
-    → Nests switchGroups (λ x. length (x .1)) (λ n x. brokenRow switchGroup (n, x)) (λ x. flatten (x .1)) s (rowsAt t (p .«switch_groups»)) (countAt 5 s t (p .«switch_groups»)) t₂ t₃ u₂ u₃
+    → Nests switchGroups (λ x. length (x .1)) (λ n x. brokenRow switchGroup (n, x)) (λ x. flatten (x .1)) s (rowsAt t (p .«switch_groups»))
+    (countAt 5 s t (p .«switch_groups»)) t₂ t₃ u₂ u₃
     → Nests presets (λ x. length (x .1)) (λ n x. brokenRow preset (n, x)) (λ x. flatten (x .1)) s (rowsAt q (p .presets)) (countAt 5 s q (p .presets)) t₄ t₅ u₄ u₅
     → Fills kind s (t₁ ∷ t₂ ∷ t₃ ∷ t₄ ∷ t₅ ∷ []) (u₁ ∷ u₂ ∷ u₃ ∷ u₄ ∷ u₅ ∷ [])
 unfolding filled kind tables firstTable otherTables

@@ -37,7 +37,8 @@ reserved-so r w ones s v at = go (eqb v 1)
     go true = refl
     go false = refl
 
-top-tally : (h : Columns) → tally layouts h ≡ zeros 5 (h 0) + (pick (eqb (h 2) 1) (zeros 1 (h 10)) 0 + (pick (eqb (h 5) 1) (zeros 3 (h 4)) 0 + pick (eqb (h 8) 1) (zeros 3 (h 7)) 0))
+top-tally : (h : Columns)
+    → tally layouts h ≡ zeros 5 (h 0) + (pick (eqb (h 2) 1) (zeros 1 (h 10)) 0 + (pick (eqb (h 5) 1) (zeros 3 (h 4)) 0 + pick (eqb (h 8) 1) (zeros 3 (h 7)) 0))
 unfolding tally cells shown T.groups T.switchGroups T.presets sum flatten
 top-tally h = go (eqb (h 2) 1) (eqb (h 5) 1) (eqb (h 8) 1)
   where
@@ -46,7 +47,8 @@ top-tally h = go (eqb (h 2) 1) (eqb (h 5) 1) (eqb (h 8) 1)
         (flag 2 ∷ flag 5 ∷ flag 8 ∷ reserved 5 0 ∷ num 8 1 ∷ (pick a (reserved 1 10 ∷ num 7 3 ∷ []) [] ++ []))
         ++ ((pick b (reserved 3 4 ∷ num 5 6 ∷ []) [] ++ []) ++ ((pick c (reserved 3 7 ∷ num 5 9 ∷ []) [] ++ []) ++ []))
 
-    go : (a b c : Bool) → sum (λ (c : Cell). idle c (h (column c))) (some a b c) ≡ zeros 5 (h 0) + (pick a (zeros 1 (h 10)) 0 + (pick b (zeros 3 (h 4)) 0 + pick c (zeros 3 (h 7)) 0))
+    go : (a b c : Bool)
+        → sum (λ (c : Cell). idle c (h (column c))) (some a b c) ≡ zeros 5 (h 0) + (pick a (zeros 1 (h 10)) 0 + (pick b (zeros 3 (h 4)) 0 + pick c (zeros 3 (h 7)) 0))
     go true true true = omega arith
     go true true false = omega arith
     go true false true = omega arith
@@ -86,7 +88,10 @@ pub zeros-so : {s : List ℕ} {p : Places} → Found s p → length s < 65536 �
     → y ≡ reservedZeros 3 5 s t (p .«switch_groups») + switchesTally (rowsOf (run (many (countAt 5 s t (p .«switch_groups»)) switchGroups) s (rowsAt t (p .«switch_groups»))))
     → z ≡ reservedZeros 3 5 s q (p .presets) + presetsTally (rowsOf (run (many (countAt 5 s q (p .presets)) presets) s (rowsAt q (p .presets)))) → Tallies kind s (accepted r)
 zeros-so {s} {p} f h w e a x y z =
-    let x′ = x ∙ (λ i. reservedZeros 1 7 s (w .of-groups i) 2 + groupsTally (rowsOf (run (many (countAt 7 s (w .of-groups i) 2) (flat 27 group)) s (rowsAt (w .of-groups i) 2)))) ∙ (λ i. reservedZeros 1 7 s (groupsFlag s) 2 + groupsTally (rowsOf (groups-stand f .reads i))) in
+    let x′ =
+    x
+    ∙ (λ i. reservedZeros 1 7 s (w .of-groups i) 2 + groupsTally (rowsOf (run (many (countAt 7 s (w .of-groups i) 2) (flat 27 group)) s (rowsAt (w .of-groups i) 2))))
+    ∙ (λ i. reservedZeros 1 7 s (groupsFlag s) 2 + groupsTally (rowsOf (groups-stand f .reads i))) in
     let y′ = y ∙ (λ i. reservedZeros 3 5 s (w .of-switches i) (p .«switch_groups») + switchesTally (rowsOf (run (many (countAt 5 s (w .of-switches i) (p .«switch_groups»)) switchGroups) s (rowsAt (w .of-switches i) (p .«switch_groups»)))))
     ∙ (λ i. reservedZeros 3 5 s (switchesFlag s) (p .«switch_groups») + switchesTally (rowsOf (switches-stand f .reads i))) in
     let z′ = z ∙ (λ i. reservedZeros 3 5 s (w .of-presets i) (p .presets) + presetsTally (rowsOf (run (many (countAt 5 s (w .of-presets i) (p .presets)) presets) s (rowsAt (w .of-presets i) (p .presets)))))

@@ -150,7 +150,8 @@ four-stored t to a b c d x y z =
     let i : to + length a ≡ to + 7 = omega (arith, x) in
     let j : to + length a + length b ≡ to + 18 = omega (arith, x, y) in
     let k : to + length a + length b + length c ≡ to + 23 = omega (arith, x, y, z) in
-    sym (sets-append t to a (b ++ (c ++ d)) ∙ sets-append (sets t to a) (to + length a) b (c ++ d) ∙ sets-append (sets (sets t to a) (to + length a) b) (to + length a + length b) c d
+    sym
+    (sets-append t to a (b ++ (c ++ d)) ∙ sets-append (sets t to a) (to + length a) b (c ++ d) ∙ sets-append (sets (sets t to a) (to + length a) b) (to + length a + length b) c d
     ∙ (λ o. sets (sets (sets (sets t to a) (i o) b) (j o) c) (k o) d))
 
 -- the bytes of the parts
@@ -205,7 +206,8 @@ module _ (s : List ℕ) (at : ℕ) {b m n : ℕ} (e : b ≡ getD s (at + 1) 0) (
   parts-taken =
       let f₀ = headed s at in
       let f₁ = with-position s at in
-      let x : bytesOf 7 position f₀ s (at + 3) ≡ fives (part 2 1 b) = spans-long (eqb (f₀ 7) 1) 5 (took position f₀ s (at + 3) 0) f₀ refl ∙ ap (λ (b : ℕ). fives (part 2 1 b)) (sym e) in
+      let x : bytesOf 7 position f₀ s (at + 3) ≡ fives (part 2 1 b) =
+      spans-long (eqb (f₀ 7) 1) 5 (took position f₀ s (at + 3) 0) f₀ refl ∙ ap (λ (b : ℕ). fives (part 2 1 b)) (sym e) in
       let q : m ≡ at + 3 + bytesOf 7 position f₀ s (at + 3) = a ∙ ap (λ (k : ℕ). at + 3 + k) (sym x) in
       let g : f₁ 18 ≡ part 1 1 b = heads (each-off (optional 7 position end) f₀ s (at + 3) 0 18 5 refl) ∙ ap (part 1 1) (sym e) in
       let y : bytesOf 18 gain f₁ s m ≡ twos (part 1 1 b) = spans-long (eqb (f₁ 18) 1) 2 (took gain f₁ s m 0) f₁ refl ∙ ap twos g in
@@ -255,7 +257,9 @@ module _ {s : List ℕ} {at : ℕ} (w : Whole 27 group s at) {b : ℕ} (e : b �
       → PartPut 23 4 language l (blanks 3) 3 s j t₃ (to + 23) k t₄ → RowPut s at t to k t₄
   group-put {t} {h = h} {to = to} q e x y z =
       let l : length h ≡ 7 = ap length q in
-      let n = length-append h (x .row ++ (y .row ++ z .row)) ∙ ap (λ (k : ℕ). length h + k) (length-append (x .row) (y .row ++ z .row) ∙ ap (λ (k : ℕ). length (x .row) + k) (length-append (y .row) (z .row))) in
+      let n =
+      length-append h (x .row ++ (y .row ++ z .row))
+      ∙ ap (λ (k : ℕ). length h + k) (length-append (x .row) (y .row ++ z .row) ∙ ap (λ (k : ℕ). length (x .row) + k) (length-append (y .row) (z .row))) in
       let f : List ℕ → List ℕ = λ t. sets t (to + 7) (x .row) in
       let v : List ℕ → List ℕ = λ t. sets t (to + 18) (y .row) in
       let w : List ℕ → List ℕ = λ t. sets t (to + 23) (z .row) in

@@ -143,7 +143,8 @@ group-bytes : (g : Columns) → length (bytes (flatActs group g)) ≡ rowLong g
 unfolding bytes
 group-bytes g = ap (λ (l : List Act). length (bytes l)) (group-acts g) ∙ go (eqb (g 7) 1) (eqb (g 18) 1) (eqb (g 23) 1)
   where
-    go : (x y z : Bool) → length (bytes (map byte (headBytes g) ++ (when x (map byte (fieldsOf g positionCells)) ++ (when y (map byte (fieldsOf g gainCells)) ++ (when z (map byte (fieldsOf g languageCells)) ++ [])))))
+    go : (x y z : Bool)
+        → length (bytes (map byte (headBytes g) ++ (when x (map byte (fieldsOf g positionCells)) ++ (when y (map byte (fieldsOf g gainCells)) ++ (when z (map byte (fieldsOf g languageCells)) ++ [])))))
         ≡ 3 + (pick x 5 0 + (pick y 2 0 + pick z 3 0))
     go true true true = refl
     go true true false = refl

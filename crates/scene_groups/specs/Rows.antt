@@ -149,7 +149,8 @@ abbrev pub contentCells : List Cell
 contentCells = reserved 4 5 ∷ num 4 6 ∷ []
 
 abbrev pub positionCells : List (List Cell)
-positionCells = (reserved 1 8 ∷ num 7 9 ∷ []) ∷ (reserved 1 10 ∷ num 7 11 ∷ []) ∷ (reserved 3 12 ∷ num 5 13 ∷ []) ∷ (reserved 3 14 ∷ num 5 15 ∷ []) ∷ (num 4 16 ∷ num 4 17 ∷ []) ∷ []
+positionCells =
+    (reserved 1 8 ∷ num 7 9 ∷ []) ∷ (reserved 1 10 ∷ num 7 11 ∷ []) ∷ (reserved 3 12 ∷ num 5 13 ∷ []) ∷ (reserved 3 14 ∷ num 5 15 ∷ []) ∷ (num 4 16 ∷ num 4 17 ∷ []) ∷ []
 
 abbrev pub gainCells : List (List Cell)
 gainCells = (reserved 2 19 ∷ num 6 20 ∷ []) ∷ (reserved 3 21 ∷ num 5 22 ∷ []) ∷ []

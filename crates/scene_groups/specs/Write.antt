@@ -28,7 +28,8 @@ abbrev pub languageFields : ContentLanguage → List (List Field)
 languageFields l = fieldsOf (partFrom 23 (languageRow l)) languageCells
 
 abbrev pub groupFlags : SceneGroup → Bool
-groupFlags g = isFlag (g .«allow_on_off») && (isFlag (g .«default_on_off») && (isFlag (g .position .present) && (isFlag (g .gain .present) && isFlag (g .«content_language» .present))))
+groupFlags g =
+    isFlag (g .«allow_on_off») && (isFlag (g .«default_on_off») && (isFlag (g .position .present) && (isFlag (g .gain .present) && isFlag (g .«content_language» .present))))
 
 -- the fields of a part fit, if its flag v is 1
 abbrev pub partFits : ℕ → List (List Field) → Bool

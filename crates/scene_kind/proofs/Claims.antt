@@ -112,7 +112,8 @@ pub one-body : (body body′ : List ℕ) (lent lent′ after after′ : Lent) (m
     → reading kind body lent ≡ leaves (accepted m) after → reading kind body′ lent′ ≡ leaves (accepted m′) after′
     → kind .value m after body ≡ kind .value m′ after′ body′ → trail kind m body ≡ trail kind m′ body′ → body ≡ body′
 unfolding kind
-one-body body body′ lent lent′ after after′ m m′ b b′ e e′ v t = claims .round .apart body body′ lent lent′ m m′ after after′ b b′ e e′ (λ i. record { value = v i; trailing = t i })
+one-body body body′ lent lent′ after after′ m m′ b b′ e e′ v t =
+    claims .round .apart body body′ lent lent′ m m′ after after′ b b′ e e′ (λ i. record { value = v i; trailing = t i })
 
 -- 3 is given exactly if the body is otherwise accepted and a table has fewer rows than it needs; it names the lowest of the five that is short, and the rows it needs
 sized-so : (body : List ℕ) (z : Sizes) → measuring kind body ≡ accepted z → (g : ℕ) × (s : ℕ) × (m : ℕ) × (p : ℕ) × (c : ℕ) × (z ≡ sized g s m p c (z .before))
@@ -197,7 +198,8 @@ pub record Absent (m : MpegH3dAudioScene) : Type 0 where
 not-there : {A : Type 0} (p q : Prog A) (b : Bool) {at : ℕ} {v : A} {bs : List ℕ} → b ≡ false → Takes (pick b p q) at v bs → Takes q at v bs
 not-there p q b {at} {v} {bs} e d = subst (λ (b : Bool). Takes (pick b p q) at v bs) e d
 
-section-absent : {A : Type 0} (flag r w ones : ℕ) (p : Prog A) {at : ℕ} {v : Section A} {bs : List ℕ} → eqb flag 1 ≡ false → Takes (R.section flag r w ones p) at v bs → (v .reserved ≡ ones) × (v .count ≡ 0)
+section-absent : {A : Type 0} (flag r w ones : ℕ) (p : Prog A) {at : ℕ} {v : Section A} {bs : List ℕ} → eqb flag 1 ≡ false → Takes (R.section flag r w ones p) at v bs
+    → (v .reserved ≡ ones) × (v .count ≡ 0)
 unfolding R.section
 section-absent {A} flag r w ones p e d =
     let (z, _) = takes-ret (not-there _ _ (eqb flag 1) e d) in
@@ -260,7 +262,8 @@ preset-told at x bs d =
     let (v, e, z) = map-takes {B = Family} (many (part 0 4 (u₂ .value) + 1) R.condition) _ (u₂ .second) in
     subst (Told preset) e (sym (listed-length R.condition (many-takes R.condition _ z)))
 
-section-listed : {A : Type 0} (P : A → Type 0) (flag r w ones : ℕ) (p : Prog A) → ((at : ℕ) (x : A) (bs : List ℕ) → Takes p at x bs → P x) → {at : ℕ} {v : Section A} {bs : List ℕ} → Takes (R.section flag r w ones p) at v bs
+section-listed : {A : Type 0} (P : A → Type 0) (flag r w ones : ℕ) (p : Prog A) → ((at : ℕ) (x : A) (bs : List ℕ) → Takes p at x bs → P x)
+    → {at : ℕ} {v : Section A} {bs : List ℕ} → Takes (R.section flag r w ones p) at v bs
     → (v .count ≡ length (v .rows)) × Every P (v .rows)
 unfolding R.section
 section-listed {A} P flag r w ones p h {at} {v} {bs} d = go (eqb flag 1) d
@@ -304,7 +307,8 @@ pub record Lists (m : MpegH3dAudioScene) (after : Lent) (members conditions : �
   pub members-run : RunsOn switchGroup 0 (each (λ i. row 9 (at 9 (table 1 after) i)) 0 (m .«switch_groups» .count)) members
   pub conditions-run : RunsOn preset 0 (each (λ i. row 7 (at 7 (table 3 after) i)) 0 (m .presets .count)) conditions
 
-lists-so : (t : Scene) (lent : Lent) (run : Payload) → Listed-so t → Lists (sceneOf (t .0) run) (filled (tables pieces (t .1)) lent) (length (kids (t .1 .1 .0))) (length (kids (t .1 .1 .1 .0)))
+lists-so : (t : Scene) (lent : Lent) (run : Payload) → Listed-so t
+    → Lists (sceneOf (t .0) run) (filled (tables pieces (t .1)) lent) (length (kids (t .1 .1 .0))) (length (kids (t .1 .1 .1 .0)))
 unfolding filled tables firstTable otherTables
 lists-so t lent run h =
     let ss = parents switchGroup (t .1 .1 .0) in

@@ -60,7 +60,8 @@ abbrev pub presetRows : Nest
 presetRows = record { row = preset; kid = conditionRows; passes = preset-passes }
 
 abbrev rows-lawful : Lawful-pieces pieces
-rows-lawful = (flat-lawful 1 groupRows, (family-lawful 2 3 switchRows plainly (λ x f g o. refl) (omega arith), (family-lawful 4 5 presetRows plainly (λ x f g o. refl) (omega arith), tt)))
+rows-lawful =
+    (flat-lawful 1 groupRows, (family-lawful 2 3 switchRows plainly (λ x f g o. refl) (omega arith), (family-lawful 4 5 presetRows plainly (λ x f g o. refl) (omega arith), tt)))
 
 -- ---- the record
 
@@ -77,7 +78,9 @@ unfolding layouts heeds cells shown T.groups T.switchGroups T.presets flatten ha
 kept m = go (m .groups .present) (m .«switch_groups» .present) (m .presets .present)
   where
     top : Bool → Bool → Bool → List ℕ
-    top a b c = heedsOf body (of (m .«reserved_flags» ∷ m .«scene_info_id» ∷ bit a ∷ m .groups .count ∷ m .«reserved_switch_groups» ∷ bit b ∷ m .«switch_groups» .count ∷ m .«reserved_presets» ∷ bit c ∷ m .presets .count ∷ m .«reserved_groups» ∷ []))
+    top a b c =
+        heedsOf body
+        (of (m .«reserved_flags» ∷ m .«scene_info_id» ∷ bit a ∷ m .groups .count ∷ m .«reserved_switch_groups» ∷ bit b ∷ m .«switch_groups» .count ∷ m .«reserved_presets» ∷ bit c ∷ m .presets .count ∷ m .«reserved_groups» ∷ []))
 
     go : (a b c : Bool) → fields (sceneOf (top a b c) (m .trailing)) ≡ top a b c
     go true true true = refl

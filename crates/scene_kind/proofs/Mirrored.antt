@@ -69,7 +69,8 @@ position-so F x y z = go (eqb (F 7) 1)
         puts ((num 4 16 ∷ num 4 17 ∷ []) ∷ []) e
         (puts ((reserved 3 14 ∷ num 5 15 ∷ []) ∷ []) d (puts ((reserved 3 12 ∷ num 5 13 ∷ []) ∷ []) c (puts ((reserved 1 10 ∷ num 7 11 ∷ []) ∷ []) b (puts ((reserved 1 8 ∷ num 7 9 ∷ []) ∷ []) a F))))
 
-    go : (x : Bool) → _≡_ {A = Prog (List ℕ)} ((pick x (reads G.position F) (ret F) >>= λ g. reads (optional 18 G.gain (optional 23 G.language end)) g) >>= row27) (pick x R.position (ret (none 10)) >>= rest)
+    go : (x : Bool)
+        → _≡_ {A = Prog (List ℕ)} ((pick x (reads G.position F) (ret F) >>= λ g. reads (optional 18 G.gain (optional 23 G.language end)) g) >>= row27) (pick x R.position (ret (none 10)) >>= rest)
     go true = λ i. look 1 (λ a. look 1 (λ b. look 1 (λ c. look 1 (λ d. look 1 (λ e. gain-so (taken a b c d e) y z i)))))
     go false = gain-so F y z ∙ (λ i. given (F 18) 4 R.gain >>= λ g. given (F 23) 3 R.language >>= λ l. ret (each F 0 8 ++ (x i ++ (F 18 ∷ g ++ (F 23 ∷ l)))))
 
@@ -79,7 +80,9 @@ unfolding G.group reads puts put split total R.group u8 _>>=_ each
 group-so = λ i. look 1 (λ a. look 1 (λ b. look 1 (λ c. position-so (headed a b c) refl refl refl i)))
   where
     headed : (a b c : List ℕ) → Columns
-    headed a b c = puts ((reserved 4 5 ∷ num 4 6 ∷ []) ∷ []) c (puts ((reserved 3 2 ∷ flag 3 ∷ flag 4 ∷ flag 7 ∷ flag 18 ∷ flag 23 ∷ []) ∷ []) b (puts ((reserved 1 0 ∷ num 7 1 ∷ []) ∷ []) a blank))
+    headed a b c =
+        puts ((reserved 4 5 ∷ num 4 6 ∷ []) ∷ []) c
+        (puts ((reserved 3 2 ∷ flag 3 ∷ flag 4 ∷ flag 7 ∷ flag 18 ∷ flag 23 ∷ []) ∷ []) b (puts ((reserved 1 0 ∷ num 7 1 ∷ []) ∷ []) a blank))
 
 -- ---- parse_switch_group
 
@@ -100,7 +103,8 @@ preset-position-so : (F : Columns) → each F 8 5 ≡ none 5 → reads (optional
 unfolding reads puts put split total R.presetPosition u8 _>>=_ each
 preset-position-so F z = go (eqb (F 7) 1)
   where
-    go : (x : Bool) → _≡_ {A = Prog (List ℕ)} ((pick x (reads C.position F) (ret F) >>= λ g. ret g) >>= row13) (pick x R.presetPosition (ret (none 5)) >>= λ p. ret (each F 0 8 ++ p))
+    go : (x : Bool)
+        → _≡_ {A = Prog (List ℕ)} ((pick x (reads C.position F) (ret F) >>= λ g. ret g) >>= row13) (pick x R.presetPosition (ret (none 5)) >>= λ p. ret (each F 0 8 ++ p))
     go true = refl
     go false = λ i. ret (each F 0 8 ++ z i)
 
@@ -112,7 +116,8 @@ preset-gain-so F y z = go (eqb (F 5) 1)
     rest : List ℕ → Prog (List ℕ)
     rest g = given (F 7) 5 R.presetPosition >>= λ p. ret (each F 0 6 ++ (g ++ (F 7 ∷ p)))
 
-    go : (x : Bool) → _≡_ {A = Prog (List ℕ)} ((pick x (reads (one (num 8 6 ∷ []) end) F) (ret F) >>= λ g. reads (optional 7 C.position end) g) >>= row13) (pick x R.presetGain (ret (none 1)) >>= rest)
+    go : (x : Bool)
+        → _≡_ {A = Prog (List ℕ)} ((pick x (reads (one (num 8 6 ∷ []) end) F) (ret F) >>= λ g. reads (optional 7 C.position end) g) >>= row13) (pick x R.presetGain (ret (none 1)) >>= rest)
     go true = λ i. look 1 (λ a. preset-position-so (puts ((num 8 6 ∷ []) ∷ []) a F) z i)
     go false = preset-position-so F z ∙ (λ i. given (F 7) 5 R.presetPosition >>= λ p. ret (each F 0 6 ++ (y i ++ (F 7 ∷ p))))
 
@@ -173,7 +178,8 @@ module _ (G : Prog (List ℕ)) (S P : Prog Family) where
   with-switches f gs s =
       section (f 8) 3 5 7 P >>= λ p. ret (sceneIs (f 0 ∷ f 1 ∷ f 2 ∷ f 3 ∷ s .reserved ∷ f 5 ∷ s .count ∷ p .reserved ∷ f 8 ∷ p .count ∷ f 10 ∷ []) gs (s .rows) (p .rows))
 
-  switches-so : (f : Columns) (gs : List (List ℕ)) → f 4 ≡ 7 → f 6 ≡ 0 → f 7 ≡ 7 → f 9 ≡ 0 → reads T.switchGroups f >>= to-switches gs ≡ section (f 5) 3 5 7 S >>= with-switches f gs
+  switches-so : (f : Columns) (gs : List (List ℕ)) → f 4 ≡ 7 → f 6 ≡ 0 → f 7 ≡ 7 → f 9 ≡ 0
+      → reads T.switchGroups f >>= to-switches gs ≡ section (f 5) 3 5 7 S >>= with-switches f gs
   unfolding T.switchGroups reads puts put split total section u8 many _>>=_
   switches-so f gs e₄ e₆ e₇ e₉ = go (eqb (f 5) 1)
     where

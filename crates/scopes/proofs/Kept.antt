@@ -73,12 +73,15 @@ module _ (types : List ℕ) (g : Columns) where
   scope-matched rest e = and-both (eqb (g 1) (caseAt types (g 2))) _ e .0
 
   -- a column that stands nowhere but in the ID of a scope is not shown where there is none
-  plain-hides : (rest : Layout) (more : List Cell) → g 1 ≡ 0 → (j : ℕ) → has j (0 ∷ 2 ∷ 1 ∷ []) ≡ false → has j (all rest) ≡ false → has j (columns more) ≡ false → has j (columns (shown (judged (scope types) rest) g ++ more)) ≡ false
+  plain-hides : (rest : Layout) (more : List Cell) → g 1 ≡ 0 → (j : ℕ) → has j (0 ∷ 2 ∷ 1 ∷ []) ≡ false → has j (all rest) ≡ false → has j (columns more) ≡ false
+      → has j (columns (shown (judged (scope types) rest) g ++ more)) ≡ false
   unfolding shown scope flatten
   plain-hides rest more z j a b c =
-      columns-none j (shown (scope types) g ++ shown rest g) more (columns-none j (shown (scope types) g) (shown rest g) (own (eqb (g 1) 1) (eqb (g 1) 2) (ap (λ (c : ℕ). eqb c 1) z) (ap (λ (c : ℕ). eqb c 2) z)) (shown-in rest g j b)) c
+      columns-none j (shown (scope types) g ++ shown rest g) more
+      (columns-none j (shown (scope types) g) (shown rest g) (own (eqb (g 1) 1) (eqb (g 1) 2) (ap (λ (c : ℕ). eqb c 1) z) (ap (λ (c : ℕ). eqb c 2) z)) (shown-in rest g j b)) c
     where
-      own : (x y : Bool) → x ≡ false → y ≡ false → has j (columns (reserved 6 0 ∷ num 2 2 ∷ num 2 1 ∷ (pick x (reserved 1 3 ∷ num 7 4 ∷ []) (pick y (reserved 3 3 ∷ num 5 4 ∷ []) [] ++ []) ++ []))) ≡ false
+      own : (x y : Bool) → x ≡ false → y ≡ false
+          → has j (columns (reserved 6 0 ∷ num 2 2 ∷ num 2 1 ∷ (pick x (reserved 1 3 ∷ num 7 4 ∷ []) (pick y (reserved 3 3 ∷ num 5 4 ∷ []) [] ++ []) ++ []))) ≡ false
       own true y e f = absurd (let z : _≡_ {A = ℕ} 0 1 = cc e in omega arith)
       own false true e f = absurd (let z : _≡_ {A = ℕ} 0 1 = cc f in omega arith)
       own false false e f = a

@@ -89,7 +89,8 @@ scope-taken types s at = subst (λ (v : ℕ). of-case v ≡ as-case v) (sym (cas
     as-case : ℕ → List ℕ
     as-case v =
         part 2 6 (getD s at 0)
-        ∷ scopeRow (pick (eqb v 1) (Group kind (part 7 1 (getD s (at + 1) 0)) (record { 0 = part 0 7 (getD s (at + 1) 0) })) (pick (eqb v 2) (Preset (part 5 3 (getD s (at + 1) 0)) (record { 0 = part 0 5 (getD s (at + 1) 0) })) (Plain kind)))
+        ∷ scopeRow
+        (pick (eqb v 1) (Group kind (part 7 1 (getD s (at + 1) 0)) (record { 0 = part 0 7 (getD s (at + 1) 0) })) (pick (eqb v 2) (Preset (part 5 3 (getD s (at + 1) 0)) (record { 0 = part 0 5 (getD s (at + 1) 0) })) (Plain kind)))
 
     go : (x y : Bool) → eqb kind 3 ≡ y → of-case (pick x 1 (pick y 2 0)) ≡ as-case (pick x 1 (pick y 2 0))
     go true y e = refl
@@ -100,7 +101,8 @@ scope-taken types s at = subst (λ (v : ℕ). of-case v ≡ as-case v) (sym (cas
 
 pub scope-spans : (types : List ℕ) (f : Columns) (s : List ℕ) (at : ℕ) → spans (scope types) f s at ≡ ones (1 + idBytes types (part 0 2 (getD s at 0)))
 unfolding scope took putsAt put split total ones
-scope-spans types f s at = subst (λ (v : ℕ). 1 ∷ of-case v ≡ ones (1 + pick (eqb v 0) 0 1)) (sym (case-at types kind (part-below 0 2 (getD s at 0)))) (go (has kind types) (eqb kind 3))
+scope-spans types f s at =
+    subst (λ (v : ℕ). 1 ∷ of-case v ≡ ones (1 + pick (eqb v 0) 0 1)) (sym (case-at types kind (part-below 0 2 (getD s at 0)))) (go (has kind types) (eqb kind 3))
   where
     kind : ℕ
     kind = part 0 2 (getD s at 0)

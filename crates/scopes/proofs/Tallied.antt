@@ -31,7 +31,8 @@ pub told : (rt : ℕ) {own x r : ℕ} (s : DrcScope) {t : DrcScope} → own ≡ 
 told rt s e q f g = g ∙ (λ i. e i + f i) ∙ sym (ap (λ (s : DrcScope). zeros 6 rt + idZeros s) q) ∙ sym (zeros-so rt s)
 
 -- in a row, of which it is the first columns
-pub row-zeros : (types : List ℕ) (rt : ℕ) (s : DrcScope) (rest : List ℕ) → sum (λ (c : Cell). idle c (of (rt ∷ scopeRow s ++ rest) (column c))) (shown (scope types) (of (rt ∷ scopeRow s ++ rest))) ≡ scopeZeros rt s
+pub row-zeros : (types : List ℕ) (rt : ℕ) (s : DrcScope) (rest : List ℕ)
+    → sum (λ (c : Cell). idle c (of (rt ∷ scopeRow s ++ rest) (column c))) (shown (scope types) (of (rt ∷ scopeRow s ++ rest))) ≡ scopeZeros rt s
 unfolding tally cells shown scope sum flatten
 row-zeros types rt (Plain k) rest = refl
 row-zeros types rt (Group k r i) rest = refl

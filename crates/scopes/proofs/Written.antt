@@ -55,11 +55,13 @@ acts-so types rt Unknown = λ i. demand F.Scope (eqb 3 (caseAt types 0)) ∷ dem
 
 -- ---- the check pass
 
-pub scope-checked : (types : List ℕ) (rt : ℕ) (s : DrcScope) {p p₀ p₁ p₂ r : Pen} {a f h : Bool} {v x : ℕ} → a ≡ eqb (caseIs s) (caseAt types (kindIs s)) → Checked (demand F.Scope a ∷ []) 0 p p₀
+pub scope-checked : (types : List ℕ) (rt : ℕ) (s : DrcScope) {p p₀ p₁ p₂ r : Pen} {a f h : Bool} {v x : ℕ} → a ≡ eqb (caseIs s) (caseAt types (kindIs s))
+    → Checked (demand F.Scope a ∷ []) 0 p p₀
     → Spells (typeFields rt s) v → Spells (idFields s) x → FitsAll (v ∷ x ∷ []) f → Checked (demand F.Field f ∷ []) 0 p₀ p₁
     → ChecksAll true (v ∷ []) p₁ p₂ → h ≡ hasId s → ChecksAll h (x ∷ []) p₂ r → Checked (scopeActs types rt s) 2 p r
 scope-checked types rt s e w₀ t i f w₁ y g z =
-    rw (acts-so types rt s) (then (rw e at w₀) (then (rw (f .of (typeFields rt s ∷ idFields s ∷ []) (more t (more i none))) at w₁) (then (all-checked (more t none) y) (rw g at (all-checked (more i none) z)))))
+    rw (acts-so types rt s)
+    (then (rw e at w₀) (then (rw (f .of (typeFields rt s ∷ idFields s ∷ []) (more t (more i none))) at w₁) (then (all-checked (more t none) y) (rw g at (all-checked (more i none) z)))))
 
 -- ---- the quick test: no fault, or the first one that is named elsewhere
 
@@ -89,7 +91,8 @@ module _ (types : List ℕ) (rt : ℕ) (s : DrcScope) {a f : Bool} {v x : ℕ} (
       let (y, z) = and-both a f q in
       let c = parts-clean (hasId s) (typeFields rt s) (idFields s) (sym (g .of (typeFields rt s ∷ idFields s ∷ []) (more t (more i none))) ∙ z) in
       let n = some (hasId s) in
-      rw acts-are (quick-clean (demanded a f) 2 (both-and y (both-and z c)) (parts-long (hasId s) (typeFields rt s) (idFields s) ∙ sym k) (omega (arith, k, n)) (omega (arith, k, n)))
+      rw acts-are
+      (quick-clean (demanded a f) 2 (both-and y (both-and z c)) (parts-long (hasId s) (typeFields rt s) (idFields s) ∙ sym k) (omega (arith, k, n)) (omega (arith, k, n)))
     where
       some : (h : Bool) → (1 ≤ pick h 2 1) × (pick h 2 1 ≤ 2)
       some true = (omega arith, omega arith)
@@ -125,7 +128,8 @@ module _ (rt : ℕ) (s : DrcScope) where
 -- ---- in a row, of which it is the first columns: its actions are the same
 
 module _ (types : List ℕ) (rt : ℕ) where
-  pub row-acts : (s : DrcScope) (rest : List ℕ) → matches (scope types) (of (rt ∷ scopeRow s ++ rest)) ++ writes (judged (scope types) ▹ end) (of (rt ∷ scopeRow s ++ rest)) ≡ scopeActs types rt s
+  pub row-acts : (s : DrcScope) (rest : List ℕ)
+      → matches (scope types) (of (rt ∷ scopeRow s ++ rest)) ++ writes (judged (scope types) ▹ end) (of (rt ∷ scopeRow s ++ rest)) ≡ scopeActs types rt s
   unfolding scope writes matches shown flatten
   row-acts (Plain k) rest = refl
   row-acts (Group k r i) rest = refl

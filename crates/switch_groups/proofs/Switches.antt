@@ -46,7 +46,8 @@ fills = refl
 
 -- ---- measured
 
-pub two-lack : (s : List ℕ) (at : ℕ) → at ≤ length s → {o : Out (Unit {0})} {x y : Short} → o ≡ ends (ones 2) s at → o ≡ short x → y ≡ shortOf o → Summed switchGroups (λ x. length (x .1)) 32 s at (S.Short y)
+pub two-lack : (s : List ℕ) (at : ℕ) → at ≤ length s → {o : Out (Unit {0})} {x y : Short} → o ≡ ends (ones 2) s at → o ≡ short x → y ≡ shortOf o
+    → Summed switchGroups (λ x. length (x .1)) 32 s at (S.Short y)
 two-lack s at h e d q = broken-lacks switchGroup (flat 2 member) s at 32 h (head-lacks switchGroup (flat 2 member) s at (rw head-sizes e) d) d q
 
 -- behind the two bytes
@@ -83,7 +84,8 @@ module _ (s : List ℕ) (at : ℕ) {b count : ℕ} (e : b ≡ getD s (at + 1) 0)
   count-so = count-is s at ∙ sym (k ∙ ap (λ (b : ℕ). part 0 5 b + 1) e)
 
   -- where its last byte stands
-  last-is : at + 2 ≤ length s → isDone (run (many count (flat 2 member)) s (at + 2)) ≡ true → at + 2 + count ≡ posOf (run (many (kidsOf switchGroup s at) (flat 2 member)) s (at + total (headSizes switchGroup s at)))
+  last-is : at + 2 ≤ length s → isDone (run (many count (flat 2 member)) s (at + 2)) ≡ true
+      → at + 2 + count ≡ posOf (run (many (kidsOf switchGroup s at) (flat 2 member)) s (at + total (headSizes switchGroup s at)))
   unfolding took total
   last-is h q = sym (ap (λ (k : ℕ). posOf (run (many k (flat 2 member)) s (at + 2))) count-so ∙ singles-pos 2 member pair-one s count (at + 2) h q .0)
 
@@ -110,8 +112,10 @@ module _ (s : List ℕ) (at first : ℕ) (u : List ℕ) (f : Fillable switchGrou
     unfolding took putsAt put split total each
     switch-filled {id} {d} {g} q z r w =
         let c : count ≡ part 0 5 (getD s (at + 1) 0) + 1 = k ∙ ap (λ (b : ℕ). part 0 5 b + 1) e in
-        let columns : switchGroupRow g ≡ row 9 (set 5 first (tailed switchGroup s at (at + 2 + count))) = ap switchGroupRow r ∙ λ i. switchGroupRow (switchGroupFrom (q i) (e i) (z i) (ranged first (c i))) in
-        family-filled switchGroup 2 member s at first u f (last-is s at e k two-there (members-ask .1)) columns refl (w ∙ ap (λ (k : ℕ). sets u (first * 2) (flatMap (λ r. r) (rowsOf (run (many k (flat 2 member)) s (at + 2))))) (sym (count-so s at e k)))
+        let columns : switchGroupRow g ≡ row 9 (set 5 first (tailed switchGroup s at (at + 2 + count))) =
+        ap switchGroupRow r ∙ λ i. switchGroupRow (switchGroupFrom (q i) (e i) (z i) (ranged first (c i))) in
+        family-filled switchGroup 2 member s at first u f (last-is s at e k two-there (members-ask .1)) columns refl
+        (w ∙ ap (λ (k : ℕ). sets u (first * 2) (flatMap (λ r. r) (rowsOf (run (many k (flat 2 member)) s (at + 2))))) (sym (count-so s at e k)))
 
 -- ---- tallied
 
@@ -133,5 +137,7 @@ module _ (s : List ℕ) (at : ℕ) (h : at ≤ length s) (q : isDone (run switch
         → below ≡ sum (λ r. tally (member ∷ []) (of r)) (rowsOf (run (many count (flat 2 member)) s (at + 2))) → zs ≡ own + below → done zs (at + 2 + count + 1) ≡ mapOut (familyTally switchGroup member) (run switchGroups s at)
     unfolding took putsAt put split total each tally cells shown sum flatten
     switch-tallied {id} {d} {own} i z o w r =
-        let t : own ≡ tally (layouts switchGroup) (of (row 9 (tailed switchGroup s at (at + 2 + count)))) = o ∙ (λ j. zeros 1 (part 7 1 (i j)) + zeros 3 (part 5 3 (e j)) + zeros 1 (part 7 1 (z j))) ∙ omega arith in
-        family-tallied switchGroup 2 member s at h q (last-is s at e k two-known members-known) t (w ∙ ap (λ (k : ℕ). sum (λ r. tally (member ∷ []) (of r)) (rowsOf (run (many k (flat 2 member)) s (at + 2)))) (sym (count-so s at e k))) r refl
+        let t : own ≡ tally (layouts switchGroup) (of (row 9 (tailed switchGroup s at (at + 2 + count)))) =
+        o ∙ (λ j. zeros 1 (part 7 1 (i j)) + zeros 3 (part 5 3 (e j)) + zeros 1 (part 7 1 (z j))) ∙ omega arith in
+        family-tallied switchGroup 2 member s at h q (last-is s at e k two-known members-known) t
+        (w ∙ ap (λ (k : ℕ). sum (λ r. tally (member ∷ []) (of r)) (rowsOf (run (many k (flat 2 member)) s (at + 2)))) (sym (count-so s at e k))) r refl

@@ -41,8 +41,10 @@ row-acts t u i = rw add-zero
 
 module _ (u : List ℕ) (g : SwitchGroup) where
   -- the front, one check after the other
-  pub front : {n : ℕ} {p₀ p₁ p₂ p₃ : Pen} {inside flags : Bool} {vs : List ℕ} → inside ≡ leb (g .members .first + g .members .count) (length u / 2) → flags ≡ isFlag (g .«allow_on_off») && isFlag (g .«default_on_off»)
-      → Checked (demand F.Range inside ∷ []) 0 (At n) p₀ → Checked (demand F.Field flags ∷ []) 0 p₀ p₁ → Checked (demand F.Empty (leb 1 (g .members .count)) ∷ []) 0 p₁ p₂ → Spelt (headFields g) vs → ChecksAll true vs p₂ p₃
+  pub front : {n : ℕ} {p₀ p₁ p₂ p₃ : Pen} {inside flags : Bool} {vs : List ℕ} → inside ≡ leb (g .members .first + g .members .count) (length u / 2)
+      → flags ≡ isFlag (g .«allow_on_off») && isFlag (g .«default_on_off»)
+      → Checked (demand F.Range inside ∷ []) 0 (At n) p₀ → Checked (demand F.Field flags ∷ []) 0 p₀ p₁ → Checked
+      (demand F.Empty (leb 1 (g .members .count)) ∷ []) 0 p₁ p₂ → Spelt (headFields g) vs → ChecksAll true vs p₂ p₃
       → Checked (frontActs switchGroup (length u / 2) (switchGroupCols g)) 2 (At n) p₃
   unfolding writes shown cells matches matched every flatten
   front e f w₀ w₁ w₂ s w₃ =
@@ -76,9 +78,11 @@ module _ (u : List ℕ) (g : SwitchGroup) where
     pub front-stopped : {f : Fault} {m : ℕ} → p ≡ Stop f m → Checked (switchGroupActs u g) 35 (At n) p
     front-stopped e = broken-stopped switchGroup (length u / 2) (pairActs u) (switchGroupCols g) w 35 (omega arith) e
 
-    pub row-checked : {m : ℕ} {q r : Pen} {vs : List ℕ} → p ≡ At m → Checked (rows (pairActs u) (g .members .first) (g .members .count)) (g .members .count) (At m) q → Spelt (defaultFields g) vs → ChecksAll true vs q r → Checked (switchGroupActs u g) 35 (At n) r
+    pub row-checked : {m : ℕ} {q r : Pen} {vs : List ℕ} → p ≡ At m → Checked (rows (pairActs u) (g .members .first) (g .members .count)) (g .members .count) (At m) q
+        → Spelt (defaultFields g) vs → ChecksAll true vs q r → Checked (switchGroupActs u g) 35 (At n) r
     unfolding writes
-    row-checked e x s y = broken-checked switchGroup (length u / 2) (pairActs u) (switchGroupCols g) w 35 (here e x) (all-checked s y) (let h = front-behind e .few in omega (arith, h))
+    row-checked e x s y =
+        broken-checked switchGroup (length u / 2) (pairActs u) (switchGroupCols g) w 35 (here e x) (all-checked s y) (let h = front-behind e .few in omega (arith, h))
 
   -- ---- the quick test
 
@@ -88,7 +92,10 @@ module _ (u : List ℕ) (g : SwitchGroup) where
 
   module _ {inside head tail : Bool} {vs ws : List ℕ} (e : inside ≡ leb (g .members .first + g .members .count) (length u / 2)) (s : Spelt (headFields g) vs) (h : FitsAll vs head) (z : Spelt (defaultFields g) ws) (t : FitsAll ws tail) where
     tested : (inside && leb 1 (g .members .count)) && (head && tail) ≡ plainRow switchGroup (length u / 2) (pairActs u) (switchGroupCols g)
-    tested = (λ i. (e i && leb 1 (g .members .count)) && (h .of (headFields g) s i && t .of (defaultFields g) z i)) ∙ and-assoc (leb (g .members .first + g .members .count) (length u / 2)) (leb 1 (g .members .count)) (fitAll (headFields g) && fitAll (defaultFields g)) ∙ sym plain-so
+    tested =
+        (λ i. (e i && leb 1 (g .members .count)) && (h .of (headFields g) s i && t .of (defaultFields g) z i))
+        ∙ and-assoc (leb (g .members .first + g .members .count) (length u / 2)) (leb 1 (g .members .count)) (fitAll (headFields g) && fitAll (defaultFields g))
+        ∙ sym plain-so
 
     pub row-odd : (inside && leb 1 (g .members .count)) && (head && tail) ≡ false → Quick (switchGroupActs u g) 35 0
     row-odd q = broken-odd switchGroup (length u / 2) (pairActs u) (switchGroupCols g) 35 (sym tested ∙ q)
@@ -111,7 +118,8 @@ module _ (u : List ℕ) (g : SwitchGroup) where
         row-plain r =
             let (c, l) = kids-passed (pairActs u) (g .members .first) (g .members .count) v (omega (arith, r)) in
             let f = row-behind .few in
-            broken-quick switchGroup (length u / 2) (pairActs u) (switchGroupCols g) 35 switch-passes (sym tested ∙ q) (unfold matches matched clean in refl) c (omega (arith, l, r)) (omega arith) (omega (arith, f))
+            broken-quick switchGroup (length u / 2) (pairActs u) (switchGroupCols g) 35 switch-passes (sym tested ∙ q) (unfold matches matched clean in refl) c
+            (omega (arith, l, r)) (omega arith) (omega (arith, f))
 
         pub row-odd-kid : (k ≡ g .members .count → ⊥) → Quick (switchGroupActs u g) 35 0
         row-odd-kid r = let w = v .within in broken-odd-kid switchGroup (length u / 2) (pairActs u) (switchGroupCols g) 35 (kids-odd (pairActs u) (g .members .first) (g .members .count) v (omega (arith, r, w)))
@@ -124,12 +132,16 @@ module _ (u : List ℕ) (g : SwitchGroup) where
 
     pub head-ready : {vs : List ℕ} → Spelt (headFields g) vs → ReadyAll true vs n l
     unfolding writes
-    head-ready s = ready-part (kidActs switchGroup (pairActs u) (switchGroupCols g) ++ writes (switchGroup .tail) (switchGroupCols g)) {there = true} s (broken-filling switchGroup (length u / 2) (pairActs u) (switchGroupCols g) w)
+    head-ready s =
+        ready-part (kidActs switchGroup (pairActs u) (switchGroupCols g) ++ writes (switchGroup .tail) (switchGroupCols g)) {there = true} s
+        (broken-filling switchGroup (length u / 2) (pairActs u) (switchGroupCols g) w)
 
     module _ {vs : List ℕ} {n₁ : ℕ} {o₁ : List ℕ} (s : Spelt (headFields g) vs) (x : FillsAll true vs n l n₁ o₁) where
       head-filled : Filling (switchGroupActs u g) (kidActs switchGroup (pairActs u) (switchGroupCols g) ++ writes (switchGroup .tail) (switchGroupCols g)) n l n₁ o₁
       unfolding writes
-      head-filled = fill-part (kidActs switchGroup (pairActs u) (switchGroupCols g) ++ writes (switchGroup .tail) (switchGroupCols g)) {there = true} s (broken-filling switchGroup (length u / 2) (pairActs u) (switchGroupCols g) w) x
+      head-filled =
+          fill-part (kidActs switchGroup (pairActs u) (switchGroupCols g) ++ writes (switchGroup .tail) (switchGroupCols g)) {there = true} s
+          (broken-filling switchGroup (length u / 2) (pairActs u) (switchGroupCols g) w) x
 
       pub members-ready : Ready (rows (pairActs u) (g .members .first) (g .members .count)) n₁ o₁
       members-ready = kids-ready switchGroup (length u / 2) (pairActs u) (switchGroupCols g) head-filled

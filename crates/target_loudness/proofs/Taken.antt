@@ -33,7 +33,8 @@ unfolding took putsAt put split total sizes ones steered all has free flatten
 there-sizes f s at =
     let b = getD s at 0 in
     let e : 1 + (1 + part 0 1 b) ≡ 2 + part 0 1 b = omega arith in
-    ap (λ (l : List ℕ). 1 ∷ l) (sizes-so (18 ∷ []) (optional 18 lower ▹ line dependsCells ▹ end) refl refl (putsAt upperCells s at 0 f) s at 1 ∙ rest-sizes (part 0 1 b) (part-below 0 1 b))
+    ap (λ (l : List ℕ). 1 ∷ l)
+    (sizes-so (18 ∷ []) (optional 18 lower ▹ line dependsCells ▹ end) refl refl (putsAt upperCells s at 0 f) s at 1 ∙ rest-sizes (part 0 1 b) (part-below 0 1 b))
     ∙ sym (ones-more (1 + part 0 1 b)) ∙ ap ones e
 
 -- whatever was read before it
@@ -90,7 +91,8 @@ module _ (s : List ℕ) (at : ℕ) {b m d : ℕ} (e : b ≡ getD s at 0) (a : m 
   parts-taken : (f : Columns) → taken target f s at ≡ with-all f m
   unfolding took putsAt put split total
   parts-taken f =
-      let q : m ≡ at + 1 + total (pick (eqb (headed f 18) 1) (took lower (headed f) s (at + 1) 0) (headed f, []) .1) = a ∙ ap (λ (b : ℕ). at + 1 + part 0 1 b) e ∙ ap (λ (k : ℕ). at + 1 + k) (sym (spans-long (headed f 18) (part-below 0 1 (getD s at 0)) (headed f) s (at + 1))) in
+      let q : m ≡ at + 1 + total (pick (eqb (headed f 18) 1) (took lower (headed f) s (at + 1) 0) (headed f, []) .1) =
+      a ∙ ap (λ (b : ℕ). at + 1 + part 0 1 b) e ∙ ap (λ (k : ℕ). at + 1 + k) (sym (spans-long (headed f 18) (part-below 0 1 (getD s at 0)) (headed f) s (at + 1))) in
       ap (with-all f) (sym q)
 
   pub target-taken : {l : List ℕ} → PartTaken 18 3 lower (part 0 1 b) (blanks 2) s (at + 1) l
@@ -101,7 +103,8 @@ module _ (s : List ℕ) (at : ℕ) {b m d : ℕ} (e : b ≡ getD s at 0) (a : m 
         let f₀ = headed f in
         let f₁ = with-lower f in
         let v : f 15 ≡ 1 = flag-is 15 8 f w in
-        let h : 1 ∷ part 7 1 b ∷ part 1 6 b ∷ [] ≡ each f₁ 15 3 = (λ t. sym v t ∷ part 7 1 (e t) ∷ part 1 6 (e t) ∷ []) ∙ sym (each-off (optional 18 lower end) f₀ s (at + 1) 0 15 3 refl) in
+        let h : 1 ∷ part 7 1 b ∷ part 1 6 b ∷ [] ≡ each f₁ 15 3 =
+        (λ t. sym v t ∷ part 7 1 (e t) ∷ part 1 6 (e t) ∷ []) ∙ sym (each-off (optional 18 lower end) f₀ s (at + 1) 0 15 3 refl) in
         let o : each f 19 2 ≡ 0 ∷ 0 ∷ [] = ap (λ (q : List ℕ). getD q 4 0 ∷ getD q 5 0 ∷ []) w in
         let i : l ≡ each f₁ 18 3 = x .of f₀ (λ t. part 0 1 (sym e t) ∷ o t) in
         (λ t. h t ++ (i t ++ (part 7 1 (z t) ∷ part 1 6 (z t) ∷ part 0 1 (z t) ∷ []))) ∙ ap (λ (q : Columns). each q 15 9) (sym (parts-taken f)) ∙ part-there 15 8 target f s at refl w;

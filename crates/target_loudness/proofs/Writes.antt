@@ -150,4 +150,6 @@ module _ (g : Columns) {n : ℕ} {l : List ℕ} where
         depends-ready = record { fss = fieldsOf g dependsCells; spelt = s₂; ready = behind-lower .ready }
 
         pub target-filled : {r : ℕ} {o : List ℕ} → FillsAll true us n₂ o₂ r o → Filled (targetPart g) n l r o
-        target-filled {r} {o} z = subst (λ (b : Bool). Filled (when b (targetActs g)) n l r o) (sym (eq-eqb (g 15) 1 t)) (fill-last behind-lower (z .of (fieldsOf g dependsCells) s₂ (behind-lower .ready .sound)))
+        target-filled {r} {o} z =
+            subst (λ (b : Bool). Filled (when b (targetActs g)) n l r o) (sym (eq-eqb (g 15) 1 t))
+            (fill-last behind-lower (z .of (fieldsOf g dependsCells) s₂ (behind-lower .ready .sound)))

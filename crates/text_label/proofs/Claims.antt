@@ -76,7 +76,8 @@ claims = P.claims kind lawful samples
 -- ---- spelled out for this record and tables 6 and 7
 
 -- what is read writes back the same bytes, at the front of the output and nowhere else
-pub same-bytes : (body languages entries languages′ entries′ out : List ℕ) (m : MpegH3dAudioTextLabel) → Every Byte body → reading kind body (languages ∷ entries ∷ []) ≡ leaves (accepted m) (languages′ ∷ entries′ ∷ []) → length body ≤ length out
+pub same-bytes : (body languages entries languages′ entries′ out : List ℕ) (m : MpegH3dAudioTextLabel) → Every Byte body
+    → reading kind body (languages ∷ entries ∷ []) ≡ leaves (accepted m) (languages′ ∷ entries′ ∷ []) → length body ≤ length out
     → writing kind m (languages′ ∷ entries′ ∷ []) body out ≡ gives (accepted (length body)) (body ++ drop (length body) out)
 same-bytes body languages entries languages′ entries′ out m b e l = claims .round .writes-what-is-read body (languages ∷ entries ∷ []) m (languages′ ∷ entries′ ∷ []) out b e l
 
@@ -85,7 +86,8 @@ pub one-body : (body body′ : List ℕ) (lent lent′ after after′ : Lent) (m
     → reading kind body lent ≡ leaves (accepted m) after → reading kind body′ lent′ ≡ leaves (accepted m′) after′
     → kind .value m after body ≡ kind .value m′ after′ body′ → trail kind m body ≡ trail kind m′ body′ → body ≡ body′
 unfolding kind
-one-body body body′ lent lent′ after after′ m m′ b b′ e e′ v t = claims .round .apart body body′ lent lent′ m m′ after after′ b b′ e e′ (λ i. record { value = v i; trailing = t i })
+one-body body body′ lent lent′ after after′ m m′ b b′ e e′ v t =
+    claims .round .apart body body′ lent lent′ m m′ after after′ b b′ e e′ (λ i. record { value = v i; trailing = t i })
 
 -- 3 is given exactly if the body is otherwise accepted and a table has fewer rows than it needs; it names table 6 if that is short, else table 7, and the rows
 pub data Lacks (languages entries : List ℕ) (l n : ℕ) : ℕ → ℕ → Type 0 where
@@ -124,16 +126,19 @@ sized-so body z e =
     (l, n, sym (subst (λ (z : Sizes). sized l n (z .before) ≡ z) q refl))
 
 pub lacks-room : (body languages entries : List ℕ) (t r : ℕ)
-    → (reading kind body (languages ∷ entries ∷ []) ≡ leaves (refuses 3 (t ∷ r ∷ [])) (languages ∷ entries ∷ [])) ↔ ((l : ℕ) × (n : ℕ) × (k : ℕ) × (measuring kind body ≡ accepted (sized l n k)) × Lacks languages entries l n t r)
+    → (reading kind body (languages ∷ entries ∷ []) ≡ leaves (refuses 3 (t ∷ r ∷ [])) (languages ∷ entries ∷ [])) ↔
+    ((l : ℕ) × (n : ℕ) × (k : ℕ) × (measuring kind body ≡ accepted (sized l n k)) × Lacks languages entries l n t r)
 lacks-room body languages entries t r = (forth, back)
   where
-    forth : reading kind body (languages ∷ entries ∷ []) ≡ leaves (refuses 3 (t ∷ r ∷ [])) (languages ∷ entries ∷ []) → (l : ℕ) × (n : ℕ) × (k : ℕ) × (measuring kind body ≡ accepted (sized l n k)) × Lacks languages entries l n t r
+    forth : reading kind body (languages ∷ entries ∷ []) ≡ leaves (refuses 3 (t ∷ r ∷ [])) (languages ∷ entries ∷ [])
+        → (l : ℕ) × (n : ℕ) × (k : ℕ) × (measuring kind body ≡ accepted (sized l n k)) × Lacks languages entries l n t r
     forth h =
         let (z, e, d) = claims .more-room .no-room body (languages ∷ entries ∷ []) t r .0 h in
         let (l, n, q) = sized-so body z e in
         (l, n, z .before, e ∙ ap accepted q, low languages entries l n (subst (λ (z : Sizes). Lowest (z .tables) (languages ∷ entries ∷ []) t r) q d))
 
-    back : (l : ℕ) × (n : ℕ) × (k : ℕ) × (measuring kind body ≡ accepted (sized l n k)) × Lacks languages entries l n t r → reading kind body (languages ∷ entries ∷ []) ≡ leaves (refuses 3 (t ∷ r ∷ [])) (languages ∷ entries ∷ [])
+    back : (l : ℕ) × (n : ℕ) × (k : ℕ) × (measuring kind body ≡ accepted (sized l n k)) × Lacks languages entries l n t r
+        → reading kind body (languages ∷ entries ∷ []) ≡ leaves (refuses 3 (t ∷ r ∷ [])) (languages ∷ entries ∷ [])
     back (l, n, k, e, d) = claims .more-room .no-room body (languages ∷ entries ∷ []) t r .1 (sized l n k, e, lowest languages entries l n d)
 
 -- the lists of languages stand one after the other: the first begins at row n, each begins where the one before ended, and the last ends at row m
@@ -152,12 +157,15 @@ unfolding firsts flatMap ranged each
 runs-on n [] all-nil = rw add-zero ended
 runs-on n (l ∷ ls) (all-cons c h) =
     let e : n + length (entriesOf l) ≡ n + getD (l .0) 5 0 + getD (l .0) 8 0 + getD (l .0) 11 0 = omega (arith, entries-long l, c .groups, c .switch-groups, c .presets) in
-    let k : n + length (entriesOf l) + length (flatMap entriesOf ls) ≡ n + length (entriesOf l ++ flatMap entriesOf ls) = omega (arith, length-append (entriesOf l) (flatMap entriesOf ls)) in
+    let k : n + length (entriesOf l) + length (flatMap entriesOf ls) ≡ n + length (entriesOf l ++ flatMap entriesOf ls) =
+    omega (arith, length-append (entriesOf l) (flatMap entriesOf ls)) in
     let r = subst (RunsOn (n + length (entriesOf l)) (languagesFrom (n + length (entriesOf l)) ls)) k (runs-on (n + length (entriesOf l)) ls h) in
-    one-more {l = languageFrom n l} refl (omega (arith, c .groups)) (omega (arith, c .groups, c .switch-groups)) (subst (λ (i : ℕ). RunsOn i (languagesFrom (n + length (entriesOf l)) ls) (n + length (entriesOf l ++ flatMap entriesOf ls))) e r)
+    one-more {l = languageFrom n l} refl (omega (arith, c .groups)) (omega (arith, c .groups, c .switch-groups))
+    (subst (λ (i : ℕ). RunsOn i (languagesFrom (n + length (entriesOf l)) ls) (n + length (entriesOf l ++ flatMap entriesOf ls))) e r)
 
 -- of tables that were read: the rows of table 6 have their entries in table 7 from its front on, and none between; as many rows as measuring counts
-pub read-tables : (body languages entries languages′ entries′ : List ℕ) (m : MpegH3dAudioTextLabel) → reading kind body (languages ∷ entries ∷ []) ≡ leaves (accepted m) (languages′ ∷ entries′ ∷ [])
+pub read-tables : (body languages entries languages′ entries′ : List ℕ) (m : MpegH3dAudioTextLabel)
+    → reading kind body (languages ∷ entries ∷ []) ≡ leaves (accepted m) (languages′ ∷ entries′ ∷ [])
     → (rows : ℕ) × (k : ℕ) × (measuring kind body ≡ accepted (sized (m .languages) rows k)) × RunsOn 0 (each (λ i. languageOf languages′ (i * 12)) 0 (m .languages)) rows
 unfolding kind filled tables firstTable otherTables measuring onto sizes needs withPlace each
 read-tables body languages entries languages′ entries′ m e =
@@ -169,7 +177,8 @@ read-tables body languages entries languages′ entries′ m e =
     let n : length ls ≡ m .languages = b .counted ∙ sym (ap (λ (r : List ℕ). getD r 2 0) (b .is)) ∙ ap (λ (m : MpegH3dAudioTextLabel). m .languages) (w .top-is) in
     let a : x ++ drop (length x) languages ≡ languages′ = ap (λ (l : Lent). firstTable l) (w .after-is) in
     let r : RunsOn 0 (languagesFrom 0 ls) count = subst (RunsOn 0 (languagesFrom 0 ls)) (zero-add count) (runs-on 0 ls (all-counted body b)) in
-    let q : languagesFrom 0 ls ≡ each (λ i. languageOf languages′ (i * 12)) 0 (length ls) = sym (languages-found ls (drop (length x) languages)) ∙ ap (λ (t : List ℕ). each (λ i. languageOf t (i * 12)) 0 (length ls)) a in
+    let q : languagesFrom 0 ls ≡ each (λ i. languageOf languages′ (i * 12)) 0 (length ls) =
+    sym (languages-found ls (drop (length x) languages)) ∙ ap (λ (t : List ℕ). each (λ i. languageOf t (i * 12)) 0 (length ls)) a in
     let z : measuring kind body ≡ accepted (sized (length ls) count (w .sound .before)) = ap (onto (sizes kind)) (w .judges) ∙ λ i. accepted (sized (rows-counted ls i) count (w .sound .before)) in (
       count,
       w .sound .before,

@@ -40,7 +40,8 @@ cells l = flatten (entriesOf l)
 columns-long : (w : ℕ) (d : Labels) → length (columnsOf w d) ≡ length (d .entries) * 4
 columns-long w d =
     let wide = each-wide 4 (λ (v : Borne). borne (label w) (v .1 .offset) (v .1 .length) (of (v .0))) (d .entries) in
-    ap length (flat-map (borneRow (label w)) (d .entries)) ∙ rows-long 4 (map (borneRow (label w)) (d .entries)) wide ∙ ap (λ (n : ℕ). n * 4) (length-map (d .entries) (borneRow (label w)))
+    ap length (flat-map (borneRow (label w)) (d .entries)) ∙ rows-long 4 (map (borneRow (label w)) (d .entries)) wide
+    ∙ ap (λ (n : ℕ). n * 4) (length-map (d .entries) (borneRow (label w)))
 
 -- the columns of the three lists, one after the other
 cells-so : (l : List ℕ) (g s p : Labels) → cells (languageIs l g s p) ≡ columnsOf 7 g ++ (columnsOf 5 s ++ columnsOf 5 p)
@@ -59,7 +60,8 @@ cells-long s at {l} e =
     let p = r .presets in
     let three = languageIs (slice at (at + 3) s) g sw p in
     let n = ap length (cells-so (slice at (at + 3) s) g sw p) ∙ length-append (columnsOf 7 g) (columnsOf 5 sw ++ columnsOf 5 p) in
-    let k : length (cells three) ≡ sizeOf three * 4 = omega (arith, n, length-append (columnsOf 5 sw) (columnsOf 5 p), columns-long 7 g, columns-long 5 sw, columns-long 5 p, entries-long three) in
+    let k : length (cells three) ≡ sizeOf three * 4 =
+    omega (arith, n, length-append (columnsOf 5 sw) (columnsOf 5 p), columns-long 7 g, columns-long 5 sw, columns-long 5 p, entries-long three) in
     subst (λ (l : Language). length (cells l) ≡ sizeOf l * 4) (sym (r .is)) k
 
 module _ (s : List ℕ) (at first : ℕ) (t : List ℕ) (f : Fillable language 4 sizeOf s at first t) where
@@ -89,7 +91,9 @@ module _ (s : List ℕ) (at first : ℕ) (t : List ℕ) (f : Fillable language 4
     groups-so = nested-as a (the-language .groups-read)
 
     second : first₂ ≡ first + length (g₀ .entries)
-    second = x ∙ ap (λ (d : Descriptions). d .entries .first + d .entries .count) (groups-so .is) ∙ ap (λ (k : ℕ). first + k) (list-run 7 s (at + 3) (the-language .groups-read) .counted)
+    second =
+        x ∙ ap (λ (d : Descriptions). d .entries .first + d .entries .count) (groups-so .is)
+        ∙ ap (λ (k : ℕ). first + k) (list-run 7 s (at + 3) (the-language .groups-read) .counted)
 
     pub switch-groups-ask : Fillable (labels 5) 4 entryCount s n first₂ t₁
     switch-groups-ask =
@@ -110,7 +114,9 @@ module _ (s : List ℕ) (at first : ℕ) (t : List ℕ) (f : Fillable language 4
       switch-groups-so = nested-as b (ap (run (labels 5) s) (groups-so .on) ∙ the-language .switch-groups-read)
 
       third : first₃ ≡ first + length (g₀ .entries) + length (s₀ .entries)
-      third = y ∙ ap (λ (d : Descriptions). d .entries .first + d .entries .count) (switch-groups-so .is) ∙ (λ i. second i + list-run 5 s (the-language .groups-end) (the-language .switch-groups-read) .counted i)
+      third =
+          y ∙ ap (λ (d : Descriptions). d .entries .first + d .entries .count) (switch-groups-so .is)
+          ∙ (λ i. second i + list-run 5 s (the-language .groups-end) (the-language .switch-groups-read) .counted i)
 
       pub presets-ask : Fillable (labels 5) 4 entryCount s m first₃ t₂
       presets-ask =
@@ -145,7 +151,8 @@ module _ (s : List ℕ) (at first : ℕ) (t : List ℕ) (f : Fillable language 4
             ∙ sym (sets-append t (first * 4) ga (sa ++ pa))
             ∙ ap (sets t (first * 4)) (sym (ap cells (the-language .is) ∙ cells-so (slice at (at + 3) s) g₀ s₀ p₀))
 
-        pub language-filled : {l : DescriptionLanguage} → l ≡ lettersAt s at → Nested language 4 languageFrom cells s at first t (record { language = l; groups = g; «switch_groups» = sw; presets = p }) k t₃
+        pub language-filled : {l : DescriptionLanguage} → l ≡ lettersAt s at
+            → Nested language 4 languageFrom cells s at first t (record { language = l; groups = g; «switch_groups» = sw; presets = p }) k t₃
         unfolding ranged each
         language-filled u = record {
           value = f .value;
@@ -164,23 +171,27 @@ module _ (s : List ℕ) (at first : ℕ) (t : List ℕ) (f : Fillable language 4
 abbrev pub NestingLanguages : List ℕ → ℕ → ℕ → List ℕ → List ℕ → List ℕ → List ℕ → ℕ → ℕ → ℕ → ℕ → Type 0
 NestingLanguages s at count t₀ u₀ t u pos left to first = Nesting language sizeOf rowFrom 12 cells 4 s at count t₀ u₀ t u pos left to first
 
-pub languages-start : (s : List ℕ) (at count : ℕ) (t₀ u₀ : List ℕ) → Fillable (many count language) 4 (λ l. length (flatMap entriesOf l)) s at 0 u₀ → NestingLanguages s at count t₀ u₀ t₀ u₀ at count 0 0
+pub languages-start : (s : List ℕ) (at count : ℕ) (t₀ u₀ : List ℕ) → Fillable (many count language) 4 (λ l. length (flatMap entriesOf l)) s at 0 u₀
+    → NestingLanguages s at count t₀ u₀ t₀ u₀ at count 0 0
 languages-start s at count t₀ u₀ f = nest-start language sizeOf rowFrom 12 cells 4 s at count t₀ u₀ (rw entries-summed f)
 
 module _ {s : List ℕ} {at count : ℕ} {t₀ u₀ t u : List ℕ} {pos left to first : ℕ} (i : NestingLanguages s at count t₀ u₀ t u pos left to first) (h : 0 < left) where
   pub language-ask : Fillable language 4 sizeOf s pos first u
   language-ask = nest-ready language sizeOf rowFrom 12 cells 4 s at count t₀ u₀ i h
 
-  pub languages-turn : {r : TextLabelLanguage} {next first′ : ℕ} {t′ u′ row : List ℕ} → Nested language 4 languageFrom cells s pos first u r next u′ → first′ ≡ r .presets .entries .first + r .presets .entries .count
+  pub languages-turn : {r : TextLabelLanguage} {next first′ : ℕ} {t′ u′ row : List ℕ} → Nested language 4 languageFrom cells s pos first u r next u′
+      → first′ ≡ r .presets .entries .first + r .presets .entries .count
       → row ≡ languageRow r → t′ ≡ sets t to row → NestingLanguages s at count t₀ u₀ t′ u′ next (left - 1) (to + 12) first′
   unfolding ranged each
   languages-turn {r} {next} {first′} n x y z =
       let l = n .value in
       let d : run language s pos ≡ done l next = n .reads ∙ ap (done l) (sym (n .on)) in
       let c = counted s pos d in
-      let e : first′ ≡ first + length (l .1 .0) + length (l .1 .1 .0) + getD (l .0) 11 0 = x ∙ ap (λ (r : TextLabelLanguage). r .presets .entries .first + r .presets .entries .count) (n .is) in
+      let e : first′ ≡ first + length (l .1 .0) + length (l .1 .1 .0) + getD (l .0) 11 0 =
+      x ∙ ap (λ (r : TextLabelLanguage). r .presets .entries .first + r .presets .entries .count) (n .is) in
       nest-turn language sizeOf rowFrom 12 cells 4 s at count t₀ u₀ i h d (language-weighs s pos l next d) refl (cells-long s pos d) (omega (arith, e, c .presets, entries-long l))
       (z ∙ ap (sets t to) (y ∙ ap languageRow (n .is))) (n .stored)
 
-pub languages-end : {s : List ℕ} {at count : ℕ} {t₀ u₀ t u : List ℕ} {pos left to first : ℕ} → NestingLanguages s at count t₀ u₀ t u pos left to first → left ≤ 0 → Nests language sizeOf rowFrom cells s at count t₀ u₀ t u
+pub languages-end : {s : List ℕ} {at count : ℕ} {t₀ u₀ t u : List ℕ} {pos left to first : ℕ} → NestingLanguages s at count t₀ u₀ t u pos left to first → left ≤ 0
+    → Nests language sizeOf rowFrom cells s at count t₀ u₀ t u
 languages-end {s} {at} {count} {t₀} {u₀} i h = nest-end language sizeOf rowFrom 12 cells 4 s at count t₀ u₀ i h

@@ -28,7 +28,8 @@ pub record Counted (l : Language) : Type 0 where
 pub counted : (s : List ℕ) (at : ℕ) {l : Language} {m : ℕ} → run language s at ≡ done l m → Counted l
 counted s at e =
     let r = language-run s at e in
-    subst Counted (sym (r .is)) (record { groups = list-run 7 s _ (r .groups-read) .counted; switch-groups = list-run 5 s _ (r .switch-groups-read) .counted; presets = list-run 5 s _ (r .presets-read) .counted })
+    subst Counted (sym (r .is))
+    (record { groups = list-run 7 s _ (r .groups-read) .counted; switch-groups = list-run 5 s _ (r .switch-groups-read) .counted; presets = list-run 5 s _ (r .presets-read) .counted })
 
 -- of all that a loop read
 many-counted : (s : List ℕ) (k at : ℕ) (ls : List Language) {m : ℕ} → run (many k language) s at ≡ done ls m → Every Counted ls
@@ -36,7 +37,8 @@ many-counted s zero at ls e = subst (Every Counted) (sym (many-none language s 0
 many-counted s (suc k) at ls e =
     let n = many-next language s (suc k) at (omega arith) e in
     let j : suc k - 1 ≡ k = omega arith in
-    subst (Every Counted) (sym (n .is)) (all-cons (counted s at (n .reads)) (many-counted s k (n .middle) (n .rest) (ap (λ (i : ℕ). run (many i language) s (n .middle)) (sym j) ∙ n .goes-on)))
+    subst (Every Counted) (sym (n .is))
+    (all-cons (counted s at (n .reads)) (many-counted s k (n .middle) (n .rest) (ap (λ (i : ℕ). run (many i language) s (n .middle)) (sym j) ∙ n .goes-on)))
 
 pub all-counted : (s : List ℕ) {t : TextLabel} {k : ℕ} → BodyRun s t k → Every Counted (t .1 .0)
 all-counted s {t} b = many-counted s _ 2 (t .1 .0) (b .reads)
@@ -61,11 +63,13 @@ unfolding each
 row-is t i r e = sym (columns-so t (i * 12)) ∙ ap (λ (r : List ℕ). languageAt (of r)) e ∙ columns-so r 0
 
 -- table 6, whatever stands behind its rows
-pub languages-found : (ls : List Language) (behind : List ℕ) → each (λ i. languageOf (flatten (rowsFrom ls) ++ behind) (i * 12)) 0 (length ls) ≡ map (λ (q : ℕ × Language). languageFrom (q .0) (q .1)) (firsts sizeOf 0 ls)
+pub languages-found : (ls : List Language) (behind : List ℕ)
+    → each (λ i. languageOf (flatten (rowsFrom ls) ++ behind) (i * 12)) 0 (length ls) ≡ map (λ (q : ℕ × Language). languageFrom (q .0) (q .1)) (firsts sizeOf 0 ls)
 languages-found ls behind =
     let t : List ℕ = flatten (rowsFrom ls) ++ behind in
     let e = subst (λ (n : ℕ). each (λ i. row 12 (at 12 t i)) 0 n ≡ rowsFrom ls) (rows-counted ls) (found 12 (rowsFrom ls) (rows-wide ls) behind) in
-    each-as (λ (q : ℕ × Language). Unit {0}) (rangedRow 12 lists) (λ i. row 12 (at 12 t i)) (λ i. languageOf t (i * 12)) (λ q. languageFrom (q .0) (q .1)) (λ i q e u. row-is t i (rangedRow 12 lists q) e) 0 (length ls) (firsts sizeOf 0 ls) e (every-one (firsts sizeOf 0 ls))
+    each-as (λ (q : ℕ × Language). Unit {0}) (rangedRow 12 lists) (λ i. row 12 (at 12 t i)) (λ i. languageOf t (i * 12)) (λ q. languageFrom (q .0) (q .1))
+    (λ i q e u. row-is t i (rangedRow 12 lists q) e) 0 (length ls) (firsts sizeOf 0 ls) e (every-one (firsts sizeOf 0 ls))
   where
     every-one : {A : Type 0} (l : List A) → Every (λ (x : A). Unit {0}) l
     every-one [] = all-nil

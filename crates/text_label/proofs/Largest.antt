@@ -53,7 +53,8 @@ language-most u store l c =
     let (_, c₃) = and-both (fit (field 8 (l .language .2) ∷ [])) _ c₂ in
     let (x, c₄) = clean-both g (s ++ p) c₃ in
     let (y, z) = clean-both s p c₄ in
-    omega (arith, both-long g (s ++ p), both-long s p, list-most 7 127 u store (l .groups) refl x, list-most 5 31 u store (l .«switch_groups») refl y, list-most 5 31 u store (l .presets) refl z)
+    omega
+    (arith, both-long g (s ++ p), both-long s p, list-most 7 127 u store (l .groups) refl x, list-most 5 31 u store (l .«switch_groups») refl y, list-most 5 31 u store (l .presets) refl z)
 
 body-most : (m : MpegH3dAudioTextLabel) (t u store : List ℕ) → clean (textLabelActs m t u store) ≡ true → length (bytes (textLabelActs m t u store)) ≤ 728687
 unfolding textLabelActs clean bytes
@@ -65,6 +66,9 @@ body-most m t u store c =
     omega (arith, n, rows-most (rowActs t u store) 48579 (λ i e. language-most u store (languageOf t (i * 12)) e) 0 (m .languages) c₂)
 
 -- where writing answers 10, the length is at most 794,222
-pub largest : (m : MpegH3dAudioTextLabel) (lent : Lent) (store out after : List ℕ) (n : ℕ) → m .trailing .length < 65536 → Writes kind m lent store out (refuses 10 (n ∷ [])) after → n ≤ 794222
+pub largest : (m : MpegH3dAudioTextLabel) (lent : Lent) (store out after : List ℕ) (n : ℕ) → m .trailing .length < 65536
+    → Writes kind m lent store out (refuses 10 (n ∷ [])) after → n ≤ 794222
 unfolding kind
-largest m lent store out after n h w = longest kind m lent store 728687 (subst (λ (q : List Act). clean q ≡ true → length (bytes q) ≤ 728687) (sym (written-so m lent store)) (body-most m (firstTable lent) (firstTable (otherTables lent)) store)) h out after n w
+largest m lent store out after n h w =
+    longest kind m lent store 728687
+    (subst (λ (q : List Act). clean q ≡ true → length (bytes q) ≤ 728687) (sym (written-so m lent store)) (body-most m (firstTable lent) (firstTable (otherTables lent)) store)) h out after n w

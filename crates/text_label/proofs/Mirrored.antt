@@ -72,7 +72,9 @@ parse-over = λ i. look 1 (λ a. look 1 (λ b. many (part 0 4 (getD b 0 0)) (lan
 -- and with that of its labels
 pub mirrored : kind .program ≡ textLabel
 unfolding languageOver
-mirrored = parse-over ∙ (λ i. textLabelOver (u8s 3 >>= λ l. labelsOver 7 (seven-so i) >>= λ g. labelsOver 5 (five-so i) >>= λ s. labelsOver 5 (five-so i) >>= λ p. ret (languageIs l g s p)))
+mirrored =
+    parse-over
+    ∙ (λ i. textLabelOver (u8s 3 >>= λ l. labelsOver 7 (seven-so i) >>= λ g. labelsOver 5 (five-so i) >>= λ s. labelsOver 5 (five-so i) >>= λ p. ret (languageIs l g s p)))
 
 -- ---- and is written as the Rust's `write`
 

@@ -63,7 +63,8 @@ list-run w s at {d} {m} e =
     let x = run-split (many (part 0 w b) p) (λ l. ret (labelsOf w b l)) s (at + 1) d m e₁ in
     let (q, n) = run-ret _ s (x .middle) (x .second) in
     let c = many-long p s (part 0 w b) (at + 1) (x .value) (x .middle) (x .first) in
-    subst (λ (d : Labels). ListRun w s at d m) q (record { inside = h; counted = sym c; weighs = omega (arith, many-weighs p s (λ x. 1) (entry-weighs w s) _ (at + 1) (x .value) (x .middle) (x .first), sum-suc (λ (x : Borne). 0) (x .value), n) })
+    subst (λ (d : Labels). ListRun w s at d m) q
+    (record { inside = h; counted = sym c; weighs = omega (arith, many-weighs p s (λ x. 1) (entry-weighs w s) _ (at + 1) (x .value) (x .middle) (x .first), sum-suc (λ (x : Borne). 0) (x .value), n) })
 
 -- ---- a language
 
@@ -152,7 +153,8 @@ module _ (s : List ℕ) (at : ℕ) (h : at ≤ length s) {o : Run} (e : runOut o
               unfolding with-presets
               language-counted k =
                   let w = sum-onward (labels 5) (λ d. ret (with-presets d)) (after-switch-groups .place) z k in
-                  summed-done (finished (w .place) refl) (omega (arith, after-groups .is, after-switch-groups .is, w .is, entries-long (with-presets (w .value)))) (omega (arith, sum-small x c, sum-small y f, sum-small z k))
+                  summed-done (finished (w .place) refl) (omega (arith, after-groups .is, after-switch-groups .is, w .is, entries-long (with-presets (w .value))))
+                  (omega (arith, sum-small x c, sum-small y f, sum-small z k))
 
 -- ---- a language that was read
 
@@ -176,7 +178,8 @@ letters-so s at =
     let a = letter-at s at 0 (omega arith) ∙ ap (λ (n : ℕ). getD s n 0) (add-zero at) in
     λ i. letters (part 0 8 (sym a i)) (part 0 8 (sym (letter-at s at 1 (omega arith)) i)) (part 0 8 (sym (letter-at s at 2 (omega arith)) i))
 
-pub letters-are : (s : List ℕ) (at : ℕ) {a b c x y z : ℕ} → x ≡ getD s at 0 → a ≡ part 0 8 x → y ≡ getD s (at + 1) 0 → b ≡ part 0 8 y → z ≡ getD s (at + 2) 0 → c ≡ part 0 8 z → letters a b c ≡ lettersAt s at
+pub letters-are : (s : List ℕ) (at : ℕ) {a b c x y z : ℕ} → x ≡ getD s at 0 → a ≡ part 0 8 x → y ≡ getD s (at + 1) 0 → b ≡ part 0 8 y → z ≡ getD s (at + 2) 0
+    → c ≡ part 0 8 z → letters a b c ≡ lettersAt s at
 letters-are s at d e f g h k = λ i. letters ((e ∙ ap (part 0 8) d) i) ((g ∙ ap (part 0 8) f) i) ((k ∙ ap (part 0 8) h) i)
 
 pub language-run : (s : List ℕ) (at : ℕ) {l : Language} {m : ℕ} → run language s at ≡ done l m → LanguageRun s at l m
@@ -254,8 +257,10 @@ module _ (s : List ℕ) {o : Ends} (q : endsOut o ≡ ends (ones 2) s 0) where
     pub second-there : 1 < length s
     second-there = omega (arith, two-taken, head-got)
 
-    pub body-counted : {b count : ℕ} {r : Sum} → b ≡ getD s 1 0 → count ≡ part 0 4 b → Summed (many count language) (λ l. length (flatMap entriesOf l)) (381 * count) s n r → Summed (kind .program) rowsIn 5715 s 0 r
-    body-counted {r = r} u v x = go r refl (subst (λ (c : ℕ). Summed (many c language) (λ l. length (flatMap entriesOf l)) (381 * c) s 2 r) (v ∙ ap (part 0 4) u) (rw two-taken at x))
+    pub body-counted : {b count : ℕ} {r : Sum} → b ≡ getD s 1 0 → count ≡ part 0 4 b
+        → Summed (many count language) (λ l. length (flatMap entriesOf l)) (381 * count) s n r → Summed (kind .program) rowsIn 5715 s 0 r
+    body-counted {r = r} u v x =
+        go r refl (subst (λ (c : ℕ). Summed (many c language) (λ l. length (flatMap entriesOf l)) (381 * c) s 2 r) (v ∙ ap (part 0 4) u) (rw two-taken at x))
       where
         c : ℕ
         c = part 0 4 (getD s 1 0)
@@ -289,4 +294,5 @@ body-run s {t} {k} e =
     let x = run-split (many (part 0 4 b) language) (λ l. ret (bodyIs (getD s 0 0) b l)) s 2 t k e₂ in
     let (q, n) = run-ret _ s (x .middle) (x .second) in
     let c = many-long language s (part 0 4 b) 2 (x .value) _ (x .first) in
-    subst (λ (t : TextLabel). BodyRun s t k) q (record { inside = omega (arith, h₁); is = refl; counted = c; reads = (λ i. run (many (c i) language) s 2) ∙ x .first ∙ ap (done (x .value)) n })
+    subst (λ (t : TextLabel). BodyRun s t k) q
+    (record { inside = omega (arith, h₁); is = refl; counted = c; reads = (λ i. run (many (c i) language) s 2) ∙ x .first ∙ ap (done (x .value)) n })

@@ -30,24 +30,29 @@ use Rattle.wire.proofs.reading.Loops.{none-left, sum-small}
 use Rattle.wire.proofs.layouts.Rowed.{Wide}
 use Rattle.wire.proofs.Lists.{flat-rows}
 use Rattle.wire.proofs.layouts.Fronts.{front}
+use Rattle.frame.specs.declared.Refusal.{Refusal}
 use Rattle.frame.specs.declared.Room.{Room}
 use Rattle.frame.specs.declared.Room.the-variants as M
-use Rattle.frame.specs.Numbers.{accepted}
-use Rattle.frame.specs.Entry.{too-short, onto, Sizes, needs, room, firstTable, otherTables, lacking, filled, sizes, tail, Measures, Tallies, Reads}
+use Rattle.frame.specs.Numbers.{accepted, refused, refusal}
+use Rattle.frame.specs.Entry.{too-short, no-room, onto, Sizes, needs, room, firstTable, otherTables, lacking, filled, sizes, tail, Measures, Tallies, Reads}
 use Rattle.frame.specs.Sight.{andTable, andTables, Tops, Roomy, Fills}
+use Rattle.frame.specs.Kind.{Lent}
 use Rattle.frame.specs.Body as B
 use Rattle.frame.specs.Body.{layouts, withPlace, tables}
 use Rattle.frame.specs.Ranges.{rangedRow}
 use Rattle.frame.proofs.Lawful.{Shaped}
-use Rattle.frame.proofs.Tables.{rowsAt, has-table, enough}
+use Rattle.frame.proofs.Tables.{rowsAt, has-table, enough, reads-lowest}
 use Rattle.frame.proofs.MoreRoom.{none-fit, fit-head}
-use Rattle.frame.proofs.Entries.{measures-done, measures-cut, tallies, Known, known, tops-known, fills-known, reads-filled}
+use Rattle.frame.proofs.Entries.{measures-done, measures-cut, tallies, Known, known, tops-known, fills-known, roomy, reads-unmeasured, reads-filled}
+use Rattle.text_label.specs.declared.Measured.{Measured}
+use Rattle.text_label.specs.declared.Measured.the-variants as N
+use Rattle.text_label.specs.declared.Sizes as D
 use Rattle.text_label.specs.declared.rows.MpegH3dAudioTextLabel.{MpegH3dAudioTextLabel}
 use Rattle.text_label.specs.Layout.{head}
 use Rattle.text_label.specs.Rows.{Language, TextLabel}
 use Rattle.text_label.specs.Read.{language}
 use Rattle.text_label.specs.Kind.{lists, entriesOf, languageRows, pieces, kind}
-use Rattle.text_label.specs.Contract.{needed, sized, Bare, rowFrom}
+use Rattle.text_label.specs.Contract.{needed, sized, measured, Bare, rowFrom}
 use Rattle.text_label.proofs.Lawful.{lawful}
 use Rattle.text_label.proofs.Parsed as P
 use Rattle.text_label.proofs.Parsed.{second-there, bodyIs, sizeOf, rowsIn, BodyRun, body-run}
@@ -76,7 +81,8 @@ module _ (body : List ℕ) (h : length body ≤ 65535) {r : Sum} (w : Summed (ki
       let z = sizes-are t k ∙ (λ i. sized ((body-run body d .counted ∙ sym c) i) (q i) k) in
       subst (λ (z : Sizes). Measures kind body (accepted z)) z (measures-done kind body h d)
 
-pub measured-short : (body : List ℕ) → length body ≤ 65535 → {r : Sum} → Summed (kind .program) rowsIn 5715 body 0 r → {x : Short} → r ≡ S.Short x → Measures kind body (too-short x)
+pub measured-short : (body : List ℕ) → length body ≤ 65535 → {r : Sum} → Summed (kind .program) rowsIn 5715 body 0 r → {x : Short} → r ≡ S.Short x
+    → Measures kind body (too-short x)
 measured-short body h w e = measures-cut kind rowsIn body h (sym (ap sumOut e) ∙ w .is)
 
 -- ---- without languages
@@ -84,24 +90,29 @@ measured-short body h w e = measures-cut kind rowsIn body h (sym (ap sumOut e) �
 pub not-bare : (body : List ℕ) → Bare body false
 not-bare body = record { sizes = λ e. absurd (let z : _≡_ {A = ℕ} 0 1 = cc e in omega arith) }
 
-pub bare-so : (body : List ℕ) {o : Ends} {n count : ℕ} → length body ≤ 65535 → endsOut o ≡ ends (ones 2) body 0 → o ≡ E.At n → count ≡ part 0 4 (getD body 1 0) → Bare body (eqb count 0)
+pub bare-so : (body : List ℕ) {o : Ends} {n count : ℕ} → length body ≤ 65535 → endsOut o ≡ ends (ones 2) body 0 → o ≡ E.At n → count ≡ part 0 4 (getD body 1 0)
+    → Bare body (eqb count 0)
 unfolding flatMap _>>=_
 bare-so body {count = count} h e d c = record {
   sizes = λ q.
       let z : part 0 4 (getD body 1 0) ≡ 0 = sym c ∙ eqb-true count 0 q in
       let w = P.head-there body (second-there body e d) in
-      let r : run (kind .program) body 0 ≡ done (bodyIs (getD body 0 0) (getD body 1 0) []) 2 = w .same ∙ step (many (part 0 4 (getD body 1 0)) language) (λ l. ret (bodyIs (getD body 0 0) (getD body 1 0) l)) body 2 refl (ap (λ (k : ℕ). run (many k language) body 2) z ∙ none-left language body 0 2 (omega arith)) ∙ run-ret (bodyIs (getD body 0 0) (getD body 1 0) []) body 2 in
+      let r : run (kind .program) body 0 ≡ done (bodyIs (getD body 0 0) (getD body 1 0) []) 2 =
+      w .same
+      ∙ step (many (part 0 4 (getD body 1 0)) language) (λ l. ret (bodyIs (getD body 0 0) (getD body 1 0) l)) body 2 refl
+      (ap (λ (k : ℕ). run (many k language) body 2) z ∙ none-left language body 0 2 (omega arith))
+      ∙ run-ret (bodyIs (getD body 0 0) (getD body 1 0) []) body 2 in
       subst (λ (z : Sizes). Measures kind body (accepted z)) (sizes-are (bodyIs (getD body 0 0) (getD body 1 0) []) 2) (measures-done kind body h r);
 }
 
 -- ---- the room of both tables
 
 module _ (l n : ℕ) (t u : List ℕ) {a r : Room} (d : a ≡ andTable M.Enough (record { number = 6; columns = 12; rows = l }) t) (e : r ≡ andTable a (record { number = 7; columns = 4; rows = n }) u) where
-  pub room-so : r ≡ andTables M.Enough (needed l n) (t ∷ u ∷ [])
+  room-so : r ≡ andTables M.Enough (needed l n) (t ∷ u ∷ [])
   unfolding andTables firstTable otherTables
   room-so = e ∙ ap (λ (a : Room). andTable a (record { number = 7; columns = 4; rows = n }) u) d
 
-  pub has-room : r ≡ M.Enough → lacking (needed l n) (t ∷ u ∷ []) ≡ none
+  has-room : r ≡ M.Enough → lacking (needed l n) (t ∷ u ∷ []) ≡ none
   has-room f = enough (needed l n) (t ∷ u ∷ []) (sym room-so ∙ f)
 
 -- ---- a body that was measured: its languages stand behind the second byte
@@ -131,13 +142,15 @@ module _ (body : List ℕ) {l n k : ℕ} (m : Measures kind body (accepted (size
   pub two-measured : 2 ≤ length body
   two-measured = runs .inside
 
-  tops-are : {a b : ℕ} {p : Payload} → a ≡ part 0 8 (getD body 0 0) → b ≡ part 4 4 (getD body 1 0) → p ≡ tail k body → Tops kind body (record { «scene_info_id» = a; reserved = b; languages = l; trailing = p })
+  tops-are : {a b : ℕ} {p : Payload} → a ≡ part 0 8 (getD body 0 0) → b ≡ part 4 4 (getD body 1 0) → p ≡ tail k body
+      → Tops kind body (record { «scene_info_id» = a; reserved = b; languages = l; trailing = p })
   unfolding kind withPlace each
   tops-are e f g =
       let q : (j : ℕ) → getD (part 0 8 (getD body 0 0) ∷ part 4 4 (getD body 1 0) ∷ part 0 4 (getD body 1 0) ∷ []) j 0 ≡ getD (knows .sound .tree .0) j 0 = λ j. ap (λ (r : List ℕ). getD r j 0) (sym (runs .is)) in
       tops-known kind knows (λ i. record { «scene_info_id» = (e ∙ q 0) i; reserved = (f ∙ q 1) i; languages = (sym count-is ∙ runs .counted ∙ q 2) i; trailing = g i })
 
-  pub top-of-two : {a b x y : ℕ} {p : Payload} → y ≡ getD body 1 0 → x ≡ getD body 0 0 → a ≡ part 0 8 x → b ≡ part 4 4 y → p ≡ tail k body → Tops kind body (record { «scene_info_id» = a; reserved = b; languages = l; trailing = p })
+  pub top-of-two : {a b x y : ℕ} {p : Payload} → y ≡ getD body 1 0 → x ≡ getD body 0 0 → a ≡ part 0 8 x → b ≡ part 4 4 y → p ≡ tail k body
+      → Tops kind body (record { «scene_info_id» = a; reserved = b; languages = l; trailing = p })
   top-of-two d e f g h = tops-are (f ∙ ap (part 0 8) e) (g ∙ ap (part 4 4) d) h
 
   -- ---- its tally
@@ -151,7 +164,8 @@ module _ (body : List ℕ) {l n k : ℕ} (m : Measures kind body (accepted (size
   pub count-few : l < 16
   count-few = omega (arith, count-is, runs .counted, part-below 0 4 (getD body 1 0))
 
-  pub tallies-are : {y b before z : ℕ} → y ≡ getD body 1 0 → b ≡ part 4 4 y → before ≡ zeros 4 b → {next : ℕ} → done z next ≡ mapOut (sum (languageRows .zeros)) (run (many l language) body 2) → Tallies kind body (accepted (before + z))
+  pub tallies-are : {y b before z : ℕ} → y ≡ getD body 1 0 → b ≡ part 4 4 y → before ≡ zeros 4 b → {next : ℕ}
+      → done z next ≡ mapOut (sum (languageRows .zeros)) (run (many l language) body 2) → Tallies kind body (accepted (before + z))
   unfolding kind B.zeros layouts tally cells shown head sum flatten onto
   tallies-are {z = z} w b e {next} f =
       let v : getD (knows .sound .tree .0) 1 0 ≡ part 4 4 (getD body 1 0) = ap (λ (r : List ℕ). getD r 1 0) (runs .is) in
@@ -191,9 +205,13 @@ module _ (body : List ℕ) {l n k : ℕ} (m : Measures kind body (accepted (size
         let e : v .value ≡ ls = cc z in
         let es = flatMap entriesOf ls in
         let a : t′ ≡ flatten (rowsFrom ls) ++ drop (length (flatten (rowsFrom ls))) t =
-        v .outer ∙ ap (λ (l : List Language). sets t 0 (flatMap (rangedRow 12 lists) (firsts sizeOf 0 l))) e ∙ ap (sets t 0) (flat-map (rangedRow 12 lists) (firsts sizeOf 0 ls)) ∙ front 12 (rowsFrom ls) t (rows-wide ls) (omega (arith, both-fit .0, rows-counted ls, count-is))
+        v .outer ∙ ap (λ (l : List Language). sets t 0 (flatMap (rangedRow 12 lists) (firsts sizeOf 0 l))) e
+        ∙ ap (sets t 0) (flat-map (rangedRow 12 lists) (firsts sizeOf 0 ls))
+        ∙ front 12 (rowsFrom ls) t (rows-wide ls) (omega (arith, both-fit .0, rows-counted ls, count-is))
         in
-        let b : u′ ≡ flatten es ++ drop (length (flatten es)) u = v .inner ∙ ap (λ (l : List Language). sets u 0 (flatMap columnsIn l)) e ∙ ap (sets u 0) (flat-rows entriesOf ls) ∙ front 4 es u entries-wide (omega (arith, both-fit .1, rows-are)) in
+        let b : u′ ≡ flatten es ++ drop (length (flatten es)) u =
+        v .inner ∙ ap (λ (l : List Language). sets u 0 (flatMap columnsIn l)) e ∙ ap (sets u 0) (flat-rows entriesOf ls)
+        ∙ front 4 es u entries-wide (omega (arith, both-fit .1, rows-are)) in
         fills-known kind knows (λ i. a i ∷ b i ∷ [])
 
 -- ---- without languages no room is asked, and the tables stay
@@ -215,3 +233,25 @@ module _ {body : List ℕ} {r : Bool} (b : Bare body r) (e : r ≡ true) where
 
   pub bare-reads : {p : MpegH3dAudioTextLabel} → Tops kind body p → (t u : List ℕ) → Reads kind body (t ∷ u ∷ []) (accepted p) (t ∷ u ∷ [])
   bare-reads p t u = reads-filled kind body bare-sizes (t ∷ u ∷ []) (t ∷ u ∷ []) (bare-room t u) (bare-fills body bare-sizes t u) p
+
+-- ---- read: what measuring says, and the room of both tables
+
+module _ {body : List ℕ} {r : Measured} (m : Measures kind body (measured r)) where
+  pub not-measured : {x : Refusal} → r ≡ N.Refused x → (lent : Lent) → Reads kind body lent (refused (refusal x)) lent
+  not-measured e lent = reads-unmeasured kind body (rw e at m) lent
+
+  module _ {s : D.Sizes} (e : r ≡ N.Done s) where
+    pub well-measured : Measures kind body (accepted (sized (s .languages) (s .entries) (s .k)))
+    well-measured = rw e at m
+
+    module _ {t u : List ℕ} {a o : Room}
+        (d : a ≡ andTable M.Enough (record { number = 6; columns = 12; rows = s .languages }) t)
+        (f : o ≡ andTable a (record { number = 7; columns = 4; rows = s .entries }) u) where
+      pub lacks-room : {i k : ℕ} → o ≡ M.Lacks i k → Reads kind body (t ∷ u ∷ []) (no-room i k) (t ∷ u ∷ [])
+      lacks-room g = reads-lowest kind body well-measured (t ∷ u ∷ []) (room-so _ _ t u d f) g
+
+      pub both-roomy : o ≡ M.Enough → Roomy kind body (t ∷ u ∷ [])
+      both-roomy g = roomy kind body well-measured (t ∷ u ∷ []) (has-room _ _ t u d f g)
+
+      pub well-read : o ≡ M.Enough → {after : Lent} → Fills kind body (t ∷ u ∷ []) after → {p : MpegH3dAudioTextLabel} → Tops kind body p → Reads kind body (t ∷ u ∷ []) (accepted p) after
+      well-read g {after} w p = reads-filled kind body well-measured (t ∷ u ∷ []) after (has-room _ _ t u d f g) w p

@@ -16,7 +16,9 @@ enum-known-h c = search needs
 
 opened-behind-requires : tie.Need-opened-behind-requires
 opened-behind-requires c κs =
-    begins (c .before .before .before .before .before .before .before .before .before .before .before .before .before .args .body .now) (c .before .before .before .before .before .before .before .head-end .ensures) (ap endsOut (c .before .before .before .before .before .h .given .1))
+    let z = c .before .before .before .before .before in
+    let y = z .before .before .before .before .before .before .before .before in
+    begins (y .args .body .now) (z .before .before .head-end .ensures) (ap endsOut (z .h .given .1))
 
 enum-known-h-2 : tie.Need-enum-known-h-2
 enum-known-h-2 c = search needs
@@ -39,7 +41,8 @@ returns c =
 
 returns-2 : tie.Need-returns-2
 returns-2 c =
-    record { gives = reads-unmeasured kind _ (cut-head (c .before .before .before .before .before .before .before .before .before .args .body .now) (c .before .before .before .head-end .ensures) (ap endsOut (c .before .h2 .given .1))) _ }
+    let z = c .before .before .before .before .before .before .before .before .before in
+    record { gives = reads-unmeasured kind _ (cut-head (z .args .body .now) (c .before .before .before .head-end .ensures) (ap endsOut (c .before .h2 .given .1))) _ }
 
 pub opened-spec : {M : Type 1} → statement M
 opened-spec =

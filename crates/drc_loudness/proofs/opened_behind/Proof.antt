@@ -21,7 +21,9 @@ enum-known-w c = search needs
 
 opened-found-requires : tie.Need-opened-found-requires
 opened-found-requires c κs =
-    (rw (c .before .before .before .before .before .w .given .1) at (c .before .before .before .before .before .before .before .walk-lists .ensures) .finds, omega (arith, c .before .before .before .before .before .before .before .before .before .if1 .left))
+    let z = c .before .before .before .before .before in
+    let y = z .before .before .before .before in
+    (rw (z .w .given .1) at (z .before .before .walk-lists .ensures) .finds, omega (arith, y .if1 .left))
 
 enum-known-w-2 : tie.Need-enum-known-w-2
 enum-known-w-2 c = search needs
@@ -47,11 +49,13 @@ returns-2 c =
 
 returns-3 : tie.Need-returns-3
 returns-3 c =
-    record { gives = reads-unmeasured kind _ (measures-short kind _ (omega (arith, c .before .before .before .before .before .if1 .left)) (rw (c .before .w2 .given .1) at (c .before .before .before .walk-lists .ensures) .finds)) _ }
+    let z = c .before .before .before .before .before in
+    record { gives = reads-unmeasured kind _ (measures-short kind _ (omega (arith, z .if1 .left)) (rw (c .before .w2 .given .1) at (c .before .before .before .walk-lists .ensures) .finds)) _ }
 
 returns-4 : tie.Need-returns-4
 returns-4 c =
-    bare-opens (none-found (c .before .before .before .before .before .before .before .before .pre) (c .before .if2 .left) (c .nowhere .ensures)) (omega (arith, c .before .before .if1 .left)) _ _ _ _
+    bare-opens (none-found (c .before .before .before .before .before .before .before .before .pre) (c .before .if2 .left) (c .nowhere .ensures))
+    (omega (arith, c .before .before .if1 .left)) _ _ _ _
 
 pub opened-behind-spec : {M : Type 1} → statement M
 opened-behind-spec =

@@ -11,7 +11,9 @@ sizes-at-requires c κs = search needs
 
 returns : tie.Need-returns
 returns c =
-    bare-opens (bare-counted (c .before .before .before .before .before .before .before .before .before .before .pre .0) (c .before .before .before .before .before .before .before .before .before .before .pre .1) (c .before .before .before .before .sizes-at .ensures) (c .if1 .taken)) (c .before .before .before .before .before .before .before .before .before .before .pre .1) _ _ _ _
+    let z = c .before .before .before .before in
+    let y = z .before .before .before .before .before .before in
+    bare-opens (bare-counted (y .pre .0) (y .pre .1) (z .sizes-at .ensures) (c .if1 .taken)) (y .pre .1) _ _ _ _
 
 room-requires : tie.Need-room-requires
 room-requires c κs = search needs
@@ -24,7 +26,10 @@ enum-told c = search needs
 
 fill-requires : tie.Need-fill-requires
 fill-requires c κs =
-    (c .before .before .before .before .before .before .before .before .before .before .before .before .before .before .before .before .before .before .before .before .before .pre .0, c .before .before .before .before .before .before .before .before .before .before .before .before .before .before .before .before .before .before .before .before .before .pre .1, all-roomy kind _ (c .before .before .before .before .before .before .before .before .before .before .before .before .before .before .before .sizes-at .ensures) _ (c .before .before .before .before .before .before .room .ensures) (c .before .before .before .before .enum-told .given .1))
+    let z = c .before .before .before .before in
+    let y = z .before .before .before .before .before .before .before .before .before .before .before in
+    let x = y .before .before .before .before .before .before in
+    (x .pre .0, x .pre .1, all-roomy kind _ (y .sizes-at .ensures) _ (z .before .before .room .ensures) (z .enum-told .given .1))
 
 same-length : tie.Need-same-length
 same-length c = search needs
@@ -40,7 +45,8 @@ same-length-4 c = search needs
 
 returns-2 : tie.Need-returns-2
 returns-2 c =
-    record { gives = reads-lowest kind _ (c .before .before .before .before .before .before .before .before .before .before .before .before .sizes-at .ensures) _ (c .before .before .before .room .ensures) (c .before .r .given .1) }
+    let z = c .before .before .before .before .before .before .before .before .before .before .before .before in
+    record { gives = reads-lowest kind _ (z .sizes-at .ensures) _ (c .before .before .before .room .ensures) (c .before .r .given .1) }
 
 same-length-5 : tie.Need-same-length-5
 same-length-5 c = search needs
@@ -56,7 +62,11 @@ same-length-8 c = search needs
 
 returns-3 : tie.Need-returns-3
 returns-3 c =
-    record { gives = filled-opens kind _ (c .before .before .before .before .before .before .before .before .before .before .before .before .before .before .before .before .before .before .before .before .before .before .before .before .sizes-at .ensures) _ (c .before .before .before .before .before .before .before .before .before .before .before .before .before .before .before .room .ensures) (c .before .before .before .before .before .before .before .before .before .before .before .before .before .enum-told .given .1) (c .before .before .before .before .before .before .before .before .before .before .before .before .before .before .before .before .before .before .before .before .before .before .before .before .before .before .before .before .before .before .pre .0) (c .before .before .before .before .before .before .before .before .fill .ensures) }
+    let z = c .before .before .before .before .before .before .before .before in
+    let y = z .before .before .before .before .before in
+    let x = y .before .before .before .before .before .before .before .before .before .before .before in
+    let w = x .before .before .before .before .before .before in
+    record { gives = filled-opens kind _ (x .sizes-at .ensures) _ (y .before .before .room .ensures) (y .enum-told .given .1) (w .pre .0) (z .fill .ensures) }
 
 pub opened-found-spec : {M : Type 1} → statement M
 opened-found-spec =

@@ -33,7 +33,8 @@ and-table-requires-4 c κs = search needs
 returns : tie.Need-returns
 unfolding andTables firstTable otherTables
 returns c =
-    rw (c .and-table4 .ensures, c .before .before .and-table3 .ensures, c .before .before .before .before .and-table2 .ensures, c .before .before .before .before .before .before .and-table .ensures) refl
+    let z = c .before .before .before .before in
+    rw (c .and-table4 .ensures, c .before .before .and-table3 .ensures, z .and-table2 .ensures, z .before .before .and-table .ensures) refl
 
 pub room-spec : {M : Type 1} → statement M
 room-spec =

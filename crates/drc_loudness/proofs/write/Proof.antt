@@ -20,14 +20,17 @@ returns c =
 
 fill-requires : tie.Need-fill-requires
 fill-requires c κs =
-    fillable kind _ _ _ (c .before .before .before .before .check .ensures) _ (c .before .before .before .judge .ensures) (c .before .enum-told .given .1)
+    let z = c .before .before .before .before in
+    fillable kind _ _ _ (z .check .ensures) _ (c .before .before .before .judge .ensures) (c .before .enum-told .given .1)
 
 same-length : tie.Need-same-length
 same-length c = search needs
 
 returns-2 : tie.Need-returns-2
 returns-2 c =
-    writes-done kind _ _ _ (c .before .before .before .before .before .before .before .check .ensures) _ (c .before .before .before .before .before .before .judge .ensures) (c .before .before .before .before .enum-told .given .1) (c .before .before .fill .ensures)
+    let z = c .before .before .before .before in
+    writes-done kind _ _ _ (z .before .before .before .check .ensures) _
+    (z .before .before .judge .ensures) (z .enum-told .given .1) (c .before .before .fill .ensures)
 
 pub write-spec : {M : Type 1} → statement M
 write-spec =

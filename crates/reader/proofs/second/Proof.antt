@@ -80,7 +80,8 @@ both s false e = ap told (run-u8 s 0 ∙ ap (λ t. byteAt t s 0) e) ∙ told-sam
 -- a read from where a first one leaves the reader is the second of two
 in-order : (s : List ℕ) → told (run Prog.u8 s (after 0 (run Prog.u8 s 0))) ≡ run secondByte s 0
 in-order s =
-    ap (λ o. told (run Prog.u8 s (after 0 o))) (run-u8 s 0) ∙ (both s (leb 1 (length s)) refl ∙ sym (run-bind Prog.u8 (λ b. Prog.u8) s 0 ∙ ap (λ o. andThen o (λ a n. run Prog.u8 s n)) (run-u8 s 0)))
+    ap (λ o. told (run Prog.u8 s (after 0 o))) (run-u8 s 0)
+    ∙ (both s (leb 1 (length s)) refl ∙ sym (run-bind Prog.u8 (λ b. Prog.u8) s 0 ∙ ap (λ o. andThen o (λ a n. run Prog.u8 s n)) (run-u8 s 0)))
 
 -- the reader that `new` makes of s
 abbrev Starts : RefT (List ℕ) → Reader → Type 0
@@ -150,7 +151,8 @@ module _ {M : Type 1} (𝓤 : URA M) (H : Heap 𝓤) (A : Atoms 𝓤) (W : Given
     reads l d os k =
         use3 W (later (some (λ (a : ℕ). some (λ (γ : GName). OnLoan 𝓤 H A W κ q l d a γ)))) (lends-local 𝓤 H A W κ q l d) $ await ! tt $ pick ! (λ a. pick ! (λ γ. split3 ! $
         use2 W (raw (Read .pre (to-read l a γ d))) (goes-read l a γ d) $
-        calls ! fm read.ended (read.clauses 𝓤 H A mem run) known-read (to-read l a γ d) (λ b ws. ReadsByte d b (ws .0)) (λ b ws. id⊢ 𝓤 _) byteVal (EL.tells B.the-type B′.the-laws) (os _ _) (λ b ws f is.
+        calls ! fm read.ended (read.clauses 𝓤 H A mem run) known-read (to-read l a γ d) (λ b ws. ReadsByte d b (ws .0)) (λ b ws. id⊢ 𝓤 _) byteVal
+        (EL.tells B.the-type B′.the-laws) (os _ _) (λ b ws f is.
         -- [the last value; the byte; the tokens; what the lender keeps]
         fsplit ! $ move ! (3 ∷ 0 ∷ 4 ∷ []) $ use3 W (later (Local 𝓤 H A W κ q l (ws .0))) (comes-back 𝓤 H A W κ q l a γ (ws .0)) $ await ! tt $ split3 ! $ move ! (3 ∷ []) $ drop ! $ move ! (3 ∷ []) $ k b (ws .0) f is)))
 
@@ -160,7 +162,8 @@ module _ {M : Type 1} (𝓤 : URA M) (H : Heap 𝓤) (A : Atoms 𝓤) (W : Given
         alloc1 ! (λ l₀. alloc1 ! (λ l₁. alloc1 ! (λ l₂. alloc1 ! (λ l₃. alloc1 ! (λ l₄. alloc1 ! (λ l₅. alloc1 ! (λ l₆. alloc0 ! $ params1 ! $
         pass1 ! (init ! 10 refl (shr-slice-lawful 𝓤 H A W (named 0) κ u8 .typed s (v ∷ []) is .0)) $ pass0 ! $
         move ! (14 ∷ []) $ use1 W (raw (New .pre to-new) ⊛ ‵ (fsep Own ftrue)) goes-new $ split ! $
-        calls ! fm new.ended (new.clauses 𝓤 H A mem run) known-new to-new (λ r ws. Starts s r) (λ r ws. id⊢ 𝓤 _) (LL.val (T.the-type αᵉ) (T′.the-laws αᵉ)) (LL.tells (T.the-type αᵉ) (T′.the-laws αᵉ)) (and-then ! (load ! (from ! (stop !)) (look ! 12 refl)) (no-more !)) (λ r ws st isᵣ.
+        calls ! fm new.ended (new.clauses 𝓤 H A mem run) known-new to-new (λ r ws. Starts s r) (λ r ws. id⊢ 𝓤 _) (LL.val (T.the-type αᵉ) (T′.the-laws αᵉ))
+        (LL.tells (T.the-type αᵉ) (T′.the-laws αᵉ)) (and-then ! (load ! (from ! (stop !)) (look ! 12 refl)) (no-more !)) (λ r ws st isᵣ.
         let wt = LL.lawful (T.the-type αᵉ) (T′.the-laws αᵉ) 𝓤 H A W .typed r _ isᵣ .0 in
         -- [what the struct owns; the token; what s owns; _6; …; _5; …; _4; …; _3; …; _2; …; _1; …; _0; …]
         drop ! $ land ! (from ! (stop !)) (init ! 9 refl wt) $
@@ -182,7 +185,8 @@ pub second-spec : {M : Type 1} → stated.statement M
 unfolding code.routine
 second-spec 𝓤 H 𝓜 𝓖 𝓡 =
     let W = givenOf 𝓤 H 𝓜 𝓖 in
-    ends 𝓤 H 𝓜 𝓖 𝓡 second.ended stayed (second.clauses 𝓤 H (𝓖 .A) (𝓜 .mem) (𝓡 .run)) code.env (goes-none-slice 𝓤 H (𝓖 .A) W 1 (0 ∷ []) tt (plain (λ _. u8)) yes, tt) #reader·second code.function (code.unfolded 𝓤 H 𝓜 𝓡)
+    ends 𝓤 H 𝓜 𝓖 𝓡 second.ended stayed (second.clauses 𝓤 H (𝓖 .A) (𝓜 .mem) (𝓡 .run)) code.env
+    (goes-none-slice 𝓤 H (𝓖 .A) W 1 (0 ∷ []) tt (plain (λ _. u8)) yes, tt) #reader·second code.function (code.unfolded 𝓤 H 𝓜 𝓡)
     (λ κs. (slice-vals, tt)) (λ κs. (shr-slice-tells (named 0) (κs .0) u8, tt)) (λ fm κs qs bounds a g are. via 𝓤 _ (fst∗ 𝓤 _ (emp 𝓤)) (walk 𝓤 H (𝓖 .A) W (𝓜 .mem) (𝓡 .run) _ _ fm
     (cited 𝓤 H _ 𝓜 𝓡 code.env #reader·new new-def.routine code.calls-reader·Reader·new (new-thm.met 𝓤 H 𝓜 𝓖 𝓡))
     (cited 𝓤 H _ 𝓜 𝓡 code.env #reader·u8 read-def.routine code.calls-reader·Reader·u8 (read-thm.met 𝓤 H 𝓜 𝓖 𝓡)) (κs .0) (qs .0) (a .0) (are .0)))

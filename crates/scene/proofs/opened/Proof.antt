@@ -28,12 +28,14 @@ opened-rows-requires c κs = search needs
 
 returns-2 : tie.Need-returns-2
 returns-2 c =
-    bare-opens (rw (c .before .l .given .1) at (c .before .before .before .first-look .ensures) .sees) (omega (arith, c .before .before .before .before .if1 .left)) _ _ _ _ _
+    let z = c .before .before .before .before in
+    bare-opens (rw (c .before .l .given .1) at (c .before .before .before .first-look .ensures) .sees) (omega (arith, z .if1 .left)) _ _ _ _ _
 
 returns-3 : tie.Need-returns-3
 unfolding kind
 returns-3 c =
-    record { gives = reads-unmeasured kind _ (measures-short kind _ (omega (arith, c .before .before .before .before .if1 .left)) (rw (c .before .l2 .given .1) at (c .before .before .before .first-look .ensures) .sees)) _ }
+    let z = c .before .before .before .before in
+    record { gives = reads-unmeasured kind _ (measures-short kind _ (omega (arith, z .if1 .left)) (rw (c .before .l2 .given .1) at (c .before .before .before .first-look .ensures) .sees)) _ }
 
 same-length : tie.Need-same-length
 same-length c = search needs

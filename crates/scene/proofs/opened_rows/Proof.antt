@@ -14,7 +14,9 @@ enum-known-w c = search needs
 
 opened-found-requires : tie.Need-opened-found-requires
 opened-found-requires c κs =
-    (rw (c .before .before .before .before .before .before .w .given .1) at (c .before .before .before .before .before .before .before .before .find-sections .ensures) .finds, c .before .before .before .before .before .before .before .before .before .before .before .before .before .before .before .pre)
+    let z = c .before .before .before .before .before .before in
+    let y = z .before .before .before .before .before .before .before .before .before in
+    (rw (z .w .given .1) at (z .before .before .find-sections .ensures) .finds, y .pre)
 
 enum-known-w-2 : tie.Need-enum-known-w-2
 enum-known-w-2 c = search needs
@@ -40,7 +42,8 @@ returns c = search needs
 returns-2 : tie.Need-returns-2
 unfolding kind
 returns-2 c =
-    record { gives = reads-unmeasured kind _ (measures-short kind _ (omega (arith, c .before .before .before .before .before .before .before .before .before .before .pre)) (rw (c .before .w2 .given .1) at (c .before .before .before .find-sections .ensures) .finds)) _ }
+    let z = c .before .before .before .before .before .before .before .before .before .before in
+    record { gives = reads-unmeasured kind _ (measures-short kind _ (omega (arith, z .pre)) (rw (c .before .w2 .given .1) at (c .before .before .before .find-sections .ensures) .finds)) _ }
 
 pub opened-rows-spec : {M : Type 1} → statement M
 opened-rows-spec =

@@ -39,7 +39,10 @@ and-table-requires-5 c κs = search needs
 returns : tie.Need-returns
 unfolding andTables firstTable otherTables
 returns c =
-    rw (c .and-table5 .ensures, c .before .before .and-table4 .ensures, c .before .before .before .before .and-table3 .ensures, c .before .before .before .before .before .before .and-table2 .ensures, c .before .before .before .before .before .before .before .before .and-table .ensures) refl
+    let z = c .before .before .before .before in
+    let y = z .before .before .before .before in
+    rw
+    (c .and-table5 .ensures, c .before .before .and-table4 .ensures, z .and-table3 .ensures, z .before .before .and-table2 .ensures, y .and-table .ensures) refl
 
 pub room-spec : {M : Type 1} → statement M
 room-spec =

@@ -1,8 +1,5 @@
 -- Reading: without languages the record stands at once; else the body is measured, room is asked, and both tables are filled.
-use Rattle.frame.proofs.Entries.{reads-unmeasured, roomy, reads-filled}
-use Rattle.frame.proofs.Tables.{reads-lowest}
-use Rattle.text_label.specs.Kind.{kind}
-use Rattle.text_label.proofs.Sighted.{room-so, has-room, bare-sizes, bare-reads}
+use Rattle.text_label.proofs.Sighted.{bare-sizes, bare-reads, not-measured, well-measured, lacks-room, both-roomy, well-read}
 use borrow.Author.Needs.{needs}
 use Rattle.text_label.proofs.read.Statement.{statement}
 use Rattle.text_label.proofs.read.Tie as tie
@@ -45,15 +42,15 @@ enum-told c = search needs
 
 fill-requires : tie.Need-fill-requires
 fill-requires c κs =
-    let w = rw (c .before .before .before .before .before .before .before .before .before .before .before .m2 .given .1) at (c .before .before .before .before .before .before .before .before .before .before .before .before .before .measure .ensures) in (w, roomy kind _ w _ (has-room _ _ _ _ (c .before .before .before .before .before .before .before .and-table .ensures) (c .before .before .before .before .and-table2 .ensures) (c .before .before .enum-told .given .1)))
+    let z = c .before .before .before .before in
+    let y = z .before .before .before .before .before .before .before in
+    (search well-measured, both-roomy (y .before .before .measure .ensures) (y .m2 .given .1) (z .before .before .before .and-table .ensures) (z .and-table2 .ensures) (c .before .before .enum-told .given .1))
 
 record-at-requires-2 : tie.Need-record-at-requires-2
-record-at-requires-2 c κs =
-    rw (c .before .before .before .before .before .before .before .before .before .before .before .before .before .before .before .before .m2 .given .1) at (c .before .before .before .before .before .before .before .before .before .before .before .before .before .before .before .before .before .before .measure .ensures)
+record-at-requires-2 c κs = search well-measured
 
 returns-2 : tie.Need-returns-2
-returns-2 c =
-    reads-unmeasured kind _ (rw (c .before .m .given .1) at (c .before .before .before .measure .ensures)) _
+returns-2 c = search not-measured
 
 same-length : tie.Need-same-length
 same-length c = search needs
@@ -62,8 +59,7 @@ same-length-2 : tie.Need-same-length-2
 same-length-2 c = search needs
 
 returns-3 : tie.Need-returns-3
-returns-3 c =
-    reads-lowest kind _ (rw (c .before .before .before .before .before .before .before .before .before .before .m2 .given .1) at (c .before .before .before .before .before .before .before .before .before .before .before .before .measure .ensures)) _ (room-so _ _ _ _ (c .before .before .before .before .before .before .and-table .ensures) (c .before .before .before .and-table2 .ensures)) (c .before .r .given .1)
+returns-3 c = search lacks-room
 
 same-length-3 : tie.Need-same-length-3
 same-length-3 c = search needs
@@ -72,8 +68,7 @@ same-length-4 : tie.Need-same-length-4
 same-length-4 c = search needs
 
 returns-4 : tie.Need-returns-4
-returns-4 c =
-    reads-filled kind _ (rw (c .before .before .before .before .before .before .before .before .before .before .before .before .before .before .before .before .before .m2 .given .1) at (c .before .before .before .before .before .before .before .before .before .before .before .before .before .before .before .before .before .before .before .measure .ensures)) _ _ (has-room _ _ _ _ (c .before .before .before .before .before .before .before .before .before .before .before .before .before .and-table .ensures) (c .before .before .before .before .before .before .before .before .before .before .and-table2 .ensures) (c .before .before .before .before .before .before .before .before .enum-told .given .1)) (c .before .before .before .before .before .fill .ensures) (c .record-at2 .ensures)
+returns-4 c = search well-read
 
 pub read-spec : {M : Type 1} → statement M
 read-spec =

@@ -93,7 +93,8 @@ module _ (b : Bearing) (s : List ℕ) where
         ∙ go (ends (headSizes b s at) s at) refl
         ∙ sym (ap (mapOut (λ (u : Unit {0}). borneAt b s at)) (ends-append (headSizes b s at) (1 ∷ sizeIs b s at ∷ []) s at))
       where
-        go : (o : Out (Unit {0})) → ends (headSizes b s at) s at ≡ o → andThen o (λ u m. run (rest b (headed b s at)) s m) ≡ mapOut (λ (u : Unit {0}). borneAt b s at) (thenEnds o (1 ∷ sizeIs b s at ∷ []) s)
+        go : (o : Out (Unit {0})) → ends (headSizes b s at) s at ≡ o
+            → andThen o (λ u m. run (rest b (headed b s at)) s m) ≡ mapOut (λ (u : Unit {0}). borneAt b s at) (thenEnds o (1 ∷ sizeIs b s at ∷ []) s)
         go (done u m) e = let q = ends-at (headSizes b s at) s at e in rest-so (headed b s at) m ∙ ap (λ (k : ℕ). mapOut (λ (u : Unit {0}). (row (b .width) (headed b s at), span (k + 1) (getD s k 0))) (ends (1 ∷ getD s k 0 ∷ []) s m)) q
         go (short x) e = refl
 
@@ -140,7 +141,8 @@ borne-row b offset size g =
     (λ j h. ap (λ (v : ℕ). pick (eqb (0 + j) (b .offset)) offset (pick (eqb (0 + j) (b .size)) size v)) (ap (of (row (b .width) g)) (zero-add j) ∙ each-in g 0 (b .width) j h))
 
 -- What a function promises that takes one such row, from its columns (r) and its end.
-pub bear-filled : (b : Bearing) (s : List ℕ) (at : ℕ) → at ≤ length s → isDone (run (bearing b) s at) ≡ true → {r : List ℕ} {next : ℕ} → r ≡ row (b .width) (borne b (sizeAt b s at + 1) (sizeIs b s at) (headed b s at)) → next ≡ sizeAt b s at + 1 + sizeIs b s at
+pub bear-filled : (b : Bearing) (s : List ℕ) (at : ℕ) → at ≤ length s → isDone (run (bearing b) s at) ≡ true → {r : List ℕ} {next : ℕ}
+    → r ≡ row (b .width) (borne b (sizeAt b s at + 1) (sizeIs b s at) (headed b s at)) → next ≡ sizeAt b s at + 1 + sizeIs b s at
     → done r next ≡ mapOut (borneRow b) (run (bearing b) s at)
 bear-filled b s at h q e k =
     (λ i. done ((e ∙ sym (borne-row b (sizeAt b s at + 1) (sizeIs b s at) (headed b s at))) i) (k i)) ∙ sym (ap (mapOut (borneRow b)) (bear-whole b s at h q .is))
@@ -193,7 +195,8 @@ module _ (b : Bearing) (store : List ℕ) (g : Columns) where
   acts-so = ap (λ (q : List Act). demand F.Range inStore ∷ q) (append-assoc (demands (b .head ∷ []) g) (writes (b .head) g) (payloadActs b store g))
 
   -- The check pass: the range, the head and the byte with the length; the pen counts the bytes, if it got there.
-  pub bear-checked : {inside : Bool} {k n : ℕ} {p₀ p₁ : Pen} (p₂ : Pen) {r : Pen} → inside ≡ inStore → Checked (demand F.Range inside ∷ []) 0 (At n) p₀ → Checked (headActs b g) k p₀ p₁
+  pub bear-checked : {inside : Bool} {k n : ℕ} {p₀ p₁ : Pen} (p₂ : Pen) {r : Pen} → inside ≡ inStore → Checked (demand F.Range inside ∷ []) 0 (At n) p₀
+      → Checked (headActs b g) k p₀ p₁
       → Checked (byte (field 8 (g (b .size)) ∷ []) ∷ []) 1 p₁ p₂ → CheckedRun (g (b .size)) p₂ r → Checked (bearingActs b store g) (k + 256) (At n) r
   unfolding clean
   bear-checked {k = k} {n} {p₀} {p₁} p₂ {r} e w₀ w₁ w₂ w₃ = subst (λ (q : List Act). Checked q (k + 256) (At n) r) acts-so (go p₂ refl)
@@ -233,9 +236,11 @@ module _ (b : Bearing) (store : List ℕ) (g : Columns) where
         let (c, l, u) = head-passed w (ltb-true _ _ p) in
         let z = ltb-true (g (b .size)) 256 q₁ in
         let j = slice-long (g (b .offset)) (g (b .size)) store (leb-true _ _ (sym e ∙ i)) in
-        let y : clean (demand F.Range inStore ∷ (headActs b g ++ payloadActs b store g)) ≡ true = both-and (sym e ∙ i) (clean-append (headActs b g) (payloadActs b store g) ∙ both-and c (both-and (both-and q₁ refl) refl)) in
+        let y : clean (demand F.Range inStore ∷ (headActs b g ++ payloadActs b store g)) ≡ true =
+        both-and (sym e ∙ i) (clean-append (headActs b g) (payloadActs b store g) ∙ both-and c (both-and (both-and q₁ refl) refl)) in
         let n : length (bytes (demand F.Range inStore ∷ (headActs b g ++ payloadActs b store g))) ≡ k + (1 + g (b .size)) =
-        ap length (bytes-append (headActs b g) (payloadActs b store g)) ∙ length-append (bytes (headActs b g)) (bytes (payloadActs b store g)) ∙ omega (arith, l, ap length (append-nil (borneBytes b store g)), j) in
+        ap length (bytes-append (headActs b g) (payloadActs b store g)) ∙ length-append (bytes (headActs b g)) (bytes (payloadActs b store g))
+        ∙ omega (arith, l, ap length (append-nil (borneBytes b store g)), j) in
         subst (λ (a : List Act). Quick a (h + 256) (k + (1 + g (b .size)))) acts-so (quick-clean _ (h + 256) y n (omega arith) (omega (arith, u, z)))
 
     pub bear-odd : inside && (ltb 0 k && ltb (g (b .size)) 256) ≡ false → Quick (bearingActs b store g) (h + 256) 0
@@ -261,7 +266,9 @@ module _ (b : Bearing) (store : List ℕ) (g : Columns) where
     bear-inside = leb-true _ _ (demanded w)
 
     pub bear-filling : Filling (bearingActs b store g) (writes (b .head) g ++ payloadActs b store g) n l n l
-    bear-filling = fill-turn (fill-demand (fill-demand (fill-demand (fill-start w)))) refl refl (record { place = omega (arith, ap length (matched-none (b .head ∷ []) g)); holds = ap (sets l n) (sym (matched-none (b .head ∷ []) g)) })
+    bear-filling =
+        fill-turn (fill-demand (fill-demand (fill-demand (fill-start w)))) refl refl
+        (record { place = omega (arith, ap length (matched-none (b .head ∷ []) g)); holds = ap (sets l n) (sym (matched-none (b .head ∷ []) g)) })
 
   module _ {n₀ n : ℕ} {l o : List ℕ} (v : Filling (bearingActs b store g) (payloadActs b store g) n₀ l n o) where
     pub size-ready : (g (b .size) < 256) × (n < length o)

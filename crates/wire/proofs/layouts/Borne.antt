@@ -32,7 +32,8 @@ bear-form b = hole (b .head) 0 (λ v. prefixed) (last end)
 unfoldable pub bear-test : Bearing → Bool
 bear-test b =
     form-proper [] (bear-form b)
-    && (below (b .width) (form-all (bear-form b)) && (not (has (b .offset) (form-all (bear-form b))) && (not (has (b .size) (form-all (bear-form b))) && (below (b .width) (b .offset ∷ b .size ∷ []) && (not (eqb (b .size) (b .offset)) && ltb 0 (b .width))))))
+    &&
+    (below (b .width) (form-all (bear-form b)) && (not (has (b .offset) (form-all (bear-form b))) && (not (has (b .size) (form-all (bear-form b))) && (below (b .width) (b .offset ∷ b .size ∷ []) && (not (eqb (b .size) (b .offset)) && ltb 0 (b .width))))))
 
 -- a row that ends with a payload, and that it passes the one test
 pub record Bear : Type 0 where
@@ -83,7 +84,9 @@ module _ (x : Bear) where
 
   unfoldable pub bears : Codec Borne (List ℕ × List ℕ)
   unfolding rows-of form-means prefixed seen-as
-  bears = seen-as with-unit (λ v. (v .0, v .1 .0)) (bearing b) bear-same (λ v. v .1 ∷ []) bear-spans meant (λ c. (c .0, c .1 .0)) (λ d. (d .0, (d .1, tt))) (λ s v. refl) (λ c f e. refl)
+  bears =
+      seen-as with-unit (λ v. (v .0, v .1 .0)) (bearing b) bear-same (λ v. v .1 ∷ []) bear-spans meant (λ c. (c .0, c .1 .0)) (λ d. (d .0, (d .1, tt))) (λ s v. refl)
+      (λ c f e. refl)
 
   -- nothing stands behind the payload
   shown-so : (g : Columns) → form-shown form g ≡ shown (b .head) g
@@ -117,7 +120,8 @@ module _ (x : Bear) where
       let y : Spells prefixed (run store g) l = record { fits = prefixed-fits l; sound = ap clean (sym q) ∙ e₄; same = ap bytes q } in
       let fit-so : Fit form g = (ap (every sound g) (shown-so g) ∙ both-sound (shown (b .head) g) g d f, ap clean (match-so g) ∙ m) in
       let s = row-spells (b .width) form blank (t .proper-so) (t .below-so) (λ j h. refl) g (run store g, tt) (l, tt) fit-so (ap clean (woven-so g (run store g)) ∙ e₃) (y, tt) in
-      let r : Spells with-unit (woven form g (run store g, tt)) (row (b .width) (kept (b .head ∷ []) g blank), (l, tt)) = subst (λ (cs : List Cell). Spells with-unit (woven form g (run store g, tt)) (row (b .width) (mix (columns cs) g blank), (l, tt))) (shown-so g) s in
+      let r : Spells with-unit (woven form g (run store g, tt)) (row (b .width) (kept (b .head ∷ []) g blank), (l, tt)) =
+      subst (λ (cs : List Cell). Spells with-unit (woven form g (run store g, tt)) (row (b .width) (mix (columns cs) g blank), (l, tt))) (shown-so g) s in
       record { fits = (r .fits, refl); sound = r .sound; same = after-demands (b .head ∷ []) g (writes (b .head) g ++ run store g) ∙ sym (ap bytes (woven-so g (run store g))) ∙ r .same }
 
   -- ---- in its table
@@ -173,7 +177,8 @@ module _ (x : Bear) where
       let k : length l ≡ g (b .size) = slice-long (v .1 .offset) (v .1 .length) s i ∙ sym (y .size) in
       let w : clean (run s g) ≡ true = (λ z. clean (byte (field 8 (sym k z) ∷ []) ∷ copy (borneBytes b s g) ∷ [])) ∙ ap clean (sym (prefixed-acts l)) ∙ e₂ in
       let n : g (b .offset) + g (b .size) ≤ length s = omega (arith, y .offset, y .size, i) in
-      both-and (le-leb _ _ n) (both-and c (both-and d (clean-append (matches (b .head) g) _ ∙ both-and (ap clean (sym (match-so g)) ∙ r .fit .1) (ap clean (sym (woven-so g (run s g))) ∙ r .sound (run s g, tt) (w, tt)))))
+      both-and (le-leb _ _ n)
+      (both-and c (both-and d (clean-append (matches (b .head) g) _ ∙ both-and (ap clean (sym (match-so g)) ∙ r .fit .1) (ap clean (sym (woven-so g (run s g))) ∙ r .sound (run s g, tt) (w, tt)))))
 
   pub bear-columns : (s : List ℕ) (v : Borne) → Good bears (meant s v) → v .1 .offset < 65536 → v .1 .length < 65536 → Every Column (borneRow b v)
   unfolding bears seen-as As-fits rows-of
@@ -205,7 +210,9 @@ module _ (x : Bear) where
     table = flatten (map (borneRow b) vs) ++ behind
 
     pub borne-found : each (λ i. row (b .width) (at (b .width) table i)) 0 (length vs) ≡ map (borneRow b) vs
-    borne-found = subst (λ (m : ℕ). each (λ i. row (b .width) (at (b .width) table i)) 0 m ≡ map (borneRow b) vs) (length-map vs (borneRow b)) (found (b .width) (map (borneRow b) vs) (borne-wide vs) behind)
+    borne-found =
+        subst (λ (m : ℕ). each (λ i. row (b .width) (at (b .width) table i)) 0 m ≡ map (borneRow b) vs) (length-map vs (borneRow b))
+        (found (b .width) (map (borneRow b) vs) (borne-wide vs) behind)
 
     pub borne-room : length vs ≤ length table / b .width
     borne-room = omega (arith, room-for (b .width) (map (borneRow b) vs) behind (t .wide-so) (borne-wide vs), length-map vs (borneRow b))
@@ -228,7 +235,9 @@ module _ (x : Bear) where
       mixed = mix-in (columns (shown (b .head) f)) f blank j (subst (λ (cs : List Cell). has j (columns cs) ≡ true) (shown-so f) e)
 
       go : (y : Bool) → has j (form-all form) ≡ y → f j ≡ of (bearingHeeds b f) j
-      go true q = sym (row-on (b .width) (form-all form) (t .below-so) (bearingHeeds b f) (borne b (f (b .offset)) (f (b .size)) k) refl j q ∙ off (eqb j (b .offset)) (eqb j (b .size)) refl refl q ∙ mixed)
+      go true q =
+          sym
+          (row-on (b .width) (form-all form) (t .below-so) (bearingHeeds b f) (borne b (f (b .offset)) (f (b .size)) k) refl j q ∙ off (eqb j (b .offset)) (eqb j (b .size)) refl refl q ∙ mixed)
       go false q = clash e (form-shown-in form f j q)
 
   bear-kept : (store : List ℕ) (f : Columns) → bearingActs b store f ≡ bearingActs b store (of (bearingHeeds b f))
@@ -247,7 +256,9 @@ module _ (x : Bear) where
       let also : eqb (b .size) (b .size) ≡ true = eq-eqb (b .size) (b .size) refl in
       let i₀ : f (b .offset) ≡ h (b .offset) = sym (p (b .offset) (rw same) ∙ rw same) in
       let s₀ : f (b .size) ≡ h (b .size) = sym (p (b .size) (rw (also, t .two-so)) ∙ rw (t .two-so, also)) in
-      let w : writes (b .head) f ++ run store f ≡ writes (b .head) h ++ run store h = sym (woven-so f (run store f)) ∙ a .acts (run store f, tt) ∙ woven-so h (run store f) ∙ (λ z. writes (b .head) h ++ (byte (field 8 (s₀ z) ∷ []) ∷ copy (slice (i₀ z) (i₀ z + s₀ z) store) ∷ [])) in
+      let w : writes (b .head) f ++ run store f ≡ writes (b .head) h ++ run store h =
+      sym (woven-so f (run store f)) ∙ a .acts (run store f, tt) ∙ woven-so h (run store f)
+      ∙ (λ z. writes (b .head) h ++ (byte (field 8 (s₀ z) ∷ []) ∷ copy (slice (i₀ z) (i₀ z + s₀ z) store) ∷ [])) in
       λ z. demand F.Range (leb (i₀ z + s₀ z) (length store))
       ∷ demand F.Field ((every-same flagged (shown (b .head) f) o′ ∙ ap (every flagged h) c) z)
       ∷ demand F.Empty ((every-same counted (shown (b .head) f) o′ ∙ ap (every counted h) c) z)

@@ -241,7 +241,8 @@ put-mix (c ∷ cs) g f e =
     let (a, b) = and-both (sound c (g (column c))) (every sound g cs) e in
     λ i j. (ap (λ (x : Columns). pick (eqb j (column c)) (loaded c (stored c (g (column c)))) (x j)) (put-mix cs g f b) ∙ go j (eqb j (column c)) refl (loaded-back c (g (column c)) a)) i
   where
-    go : (j : ℕ) (x : Bool) → eqb j (column c) ≡ x → loaded c (stored c (g (column c))) ≡ g (column c) → pick x (loaded c (stored c (g (column c)))) (mix (columns cs) g f j) ≡ pick (x || has j (columns cs)) (g j) (f j)
+    go : (j : ℕ) (x : Bool) → eqb j (column c) ≡ x → loaded c (stored c (g (column c))) ≡ g (column c)
+        → pick x (loaded c (stored c (g (column c)))) (mix (columns cs) g f j) ≡ pick (x || has j (columns cs)) (g j) (f j)
     go j true q h = h ∙ ap g (sym (eqb-true j (column c) q))
     go j false q h = refl
 
@@ -279,7 +280,8 @@ unfolding bytes
 bytes-long g [] = refl
 bytes-long g (cs ∷ css) = ap suc (bytes-long g css)
 
-puts-mix : (css : List (List Cell)) (g f : Columns) → every sound g (flatten css) ≡ true → clean (map (byteOf g) css) ≡ true → puts css (bytes (map (byteOf g) css)) f ≡ mix (columns (flatten css)) g f
+puts-mix : (css : List (List Cell)) (g f : Columns) → every sound g (flatten css) ≡ true → clean (map (byteOf g) css) ≡ true
+    → puts css (bytes (map (byteOf g) css)) f ≡ mix (columns (flatten css)) g f
 unfolding puts bytes clean flatten has
 puts-mix [] g f h e = refl
 puts-mix (cs ∷ css) g f h e =
@@ -300,18 +302,24 @@ abbrev Forth : List ℕ → Layout → Type 0
 Forth known l = (f g : Columns) → On known f g → Fine l g → clean (writes l g) ≡ true → (at : ℕ) → Takes (reads l f) at (mix (columns (shown l g)) g f) (bytes (writes l g))
 
 -- one part and what comes after it
-part-forth : (known : List ℕ) (a l : Layout) → Forth known a → Forth known l → (f g : Columns) → On known f g → every sound g (shown a g ++ shown l g) ≡ true → clean (matches a g ++ matches l g) ≡ true
+part-forth : (known : List ℕ) (a l : Layout) → Forth known a → Forth known l → (f g : Columns) → On known f g → every sound g (shown a g ++ shown l g) ≡ true
+    → clean (matches a g ++ matches l g) ≡ true
     → clean (writes a g ++ writes l g) ≡ true → (at : ℕ) → Takes (reads a f >>= λ x. reads l x) at (mix (columns (shown a g ++ shown l g)) g f) (bytes (writes a g ++ writes l g))
 part-forth known a l x y f g o h m e at =
     let (h₀, h₁) = every-append sound g (shown a g) (shown l g) h in
     let (m₀, m₁) = clean-both (matches a g) (matches l g) m in
     let (e₀, e₁) = clean-both (writes a g) (writes l g) e in
-    let t = takes-bind (λ x. reads l x) (x f g o (h₀, m₀) e₀ at) (y (mix (columns (shown a g)) g f) g (mix-on (columns (shown a g)) known o) (h₁, m₁) e₁ (at + length (bytes (writes a g)))) in
-    rw (bytes-append (writes a g) (writes l g)) (subst (λ (x : Columns). Takes (reads a f >>= λ x. reads l x) at x (bytes (writes a g) ++ bytes (writes l g))) (mixed (shown a g) (shown l g) g f) t)
+    let t =
+    takes-bind (λ x. reads l x) (x f g o (h₀, m₀) e₀ at)
+    (y (mix (columns (shown a g)) g f) g (mix-on (columns (shown a g)) known o) (h₁, m₁) e₁ (at + length (bytes (writes a g)))) in
+    rw (bytes-append (writes a g) (writes l g))
+    (subst (λ (x : Columns). Takes (reads a f >>= λ x. reads l x) at x (bytes (writes a g) ++ bytes (writes l g))) (mixed (shown a g) (shown l g) g f) t)
 
-choice-forth : (known : List ℕ) (a c l : Layout) → Forth known a → Forth known c → Forth known l → (f g : Columns) → On known f g → (b d : Bool) → d ≡ b → every sound g (pick b (shown a g) (shown c g) ++ shown l g) ≡ true
+choice-forth : (known : List ℕ) (a c l : Layout) → Forth known a → Forth known c → Forth known l → (f g : Columns) → On known f g → (b d : Bool) → d ≡ b
+    → every sound g (pick b (shown a g) (shown c g) ++ shown l g) ≡ true
     → clean (pick b (matches a g) (matches c g) ++ matches l g) ≡ true → clean (pick b (writes a g) (writes c g) ++ writes l g) ≡ true → (at : ℕ)
-    → Takes (pick d (reads a f) (reads c f) >>= λ x. reads l x) at (mix (columns (pick b (shown a g) (shown c g) ++ shown l g)) g f) (bytes (pick b (writes a g) (writes c g) ++ writes l g))
+    → Takes (pick d (reads a f) (reads c f) >>= λ x. reads l x) at (mix (columns (pick b (shown a g) (shown c g) ++ shown l g)) g f)
+    (bytes (pick b (writes a g) (writes c g) ++ writes l g))
 choice-forth known a c l x y z f g o true d q h m e at = rw q (part-forth known a l x z f g o h m e at)
 choice-forth known a c l x y z f g o false d q h m e at = rw q (part-forth known c l y z f g o h m e at)
 
@@ -345,7 +353,8 @@ forth known (word k l) p f g o h e at =
     let q = forth (k ∷ known) l p₁ m g (on-both (k ∷ []) known (mix-in (k ∷ []) g f) (mix-on (k ∷ []) known o)) (h .0, h .1) e₃ (at + 1 + 1) in
     let v : g k / 256 * 256 + g k % 256 ≡ g k = omega arith in
     let r : Takes (reads l (set k (g k / 256 * 256 + g k % 256) f)) (at + 1 + 1) (mix (columns (shown l g)) g m) (bytes (writes l g)) = rw (set-mix k (g k / 256 * 256 + g k % 256) g f v) q in
-    rw (← mixed (num 16 k ∷ []) (shown l g) g f) (seen (g k / 256 ∷ []) (g k % 256 ∷ bytes (writes l g)) refl (λ i. zero-add (g k / 256) i ∷ zero-add (g k % 256) i ∷ bytes (writes l g)) (seen (g k % 256 ∷ []) (bytes (writes l g)) refl refl r))
+    rw (← mixed (num 16 k ∷ []) (shown l g) g f)
+    (seen (g k / 256 ∷ []) (g k % 256 ∷ bytes (writes l g)) refl (λ i. zero-add (g k / 256) i ∷ zero-add (g k % 256) i ∷ bytes (writes l g)) (seen (g k % 256 ∷ []) (bytes (writes l g)) refl refl r))
 forth known (choose k is a c l) p f g o h e at =
     let (p₀, p₁) = and-both (has k known) _ p in
     let (p₂, p₃) = and-both (proper known a) _ p₁ in
@@ -479,7 +488,8 @@ put-else [] fs f j e = refl
 put-else (c ∷ cs) [] f j e = refl
 put-else (c ∷ cs) (field w v ∷ fs) f j e = let (a, b) = or-none (eqb j (column c)) (has j (columns cs)) e in rw a (put-else cs fs f j b)
 
-put-back : (cs : List Cell) (fs : List Field) → widths fs ≡ map width cs → fit fs ≡ true → distinct (columns cs) ≡ true → (f g : Columns) → On (columns cs) (put cs fs f) g → (map (fieldOf g) cs ≡ fs) × (every sound g cs ≡ true)
+put-back : (cs : List Cell) (fs : List Field) → widths fs ≡ map width cs → fit fs ≡ true → distinct (columns cs) ≡ true → (f g : Columns)
+    → On (columns cs) (put cs fs f) g → (map (fieldOf g) cs ≡ fs) × (every sound g cs ≡ true)
 unfolding widths distinct put every has
 put-back [] [] q z d f g o = (refl, refl)
 put-back [] (field w v ∷ fs) q z d f g o = let z : _≡_ {A = ℕ} 0 1 = cc q in absurd (omega arith)
@@ -517,7 +527,8 @@ unfolding puts flatten
 puts-else [] xs f j e = refl
 puts-else (cs ∷ css) xs f j e = let (a, b) = none-columns j cs (flatten css) e in put-else cs _ (puts css (drop 1 xs) f) j a ∙ puts-else css (drop 1 xs) f j b
 
-puts-back : (css : List (List Cell)) (xs : List ℕ) → length xs ≡ length css → eights css ≡ true → distinct (columns (flatten css)) ≡ true → (f g : Columns) → On (columns (flatten css)) (puts css xs f) g
+puts-back : (css : List (List Cell)) (xs : List ℕ) → length xs ≡ length css → eights css ≡ true → distinct (columns (flatten css)) ≡ true → (f g : Columns)
+    → On (columns (flatten css)) (puts css xs f) g
     → (Every Byte xs → Makes (map (byteOf g) css) xs) × (every sound g (flatten css) ≡ true)
 unfolding eights puts flatten clean bytes every
 puts-back [] [] n w d f g o = ((λ h. record { sound = refl; is = refl }), refl)
@@ -536,7 +547,8 @@ puts-back (cs ∷ css) (x ∷ xs) n w d f g o =
     let mk : Every Byte (x ∷ xs) → Makes (map (byteOf g) (cs ∷ css)) (x ∷ xs) = λ h. let y = m (every-tail Byte h) in record { sound = both-and s (y .sound); is = λ i. sym (j (every-head Byte h)) i ∷ y .is i } in
     (mk, append-every sound g cs (flatten css) q r)
   where
-    later : Apart (columns cs) (columns (flatten css)) → On (columns (flatten css)) (put cs (split (map width cs) x) (puts css xs f)) g → On (columns (flatten css)) (puts css xs f) g
+    later : Apart (columns cs) (columns (flatten css)) → On (columns (flatten css)) (put cs (split (map width cs) x) (puts css xs f)) g
+        → On (columns (flatten css)) (puts css xs f) g
     later a o j e = go (has j (columns cs)) refl
       where
         go : (y : Bool) → has j (columns cs) ≡ y → puts css xs f j ≡ g j
@@ -555,7 +567,8 @@ unfolding clean flatten fit
 bytes-fit [] g e = refl
 bytes-fit (cs ∷ css) g e = let (a, b) = and-both (fit (map (fieldOf g) cs)) _ e in fit-both cs (flatten css) g a (bytes-fit css g b)
 
-pub all-fit : (known : List ℕ) (l : Layout) → proper known l ≡ true → (g : Columns) → clean (matches l g) ≡ true → clean (writes l g) ≡ true → fit (map (fieldOf g) (shown l g)) ≡ true
+pub all-fit : (known : List ℕ) (l : Layout) → proper known l ≡ true → (g : Columns) → clean (matches l g) ≡ true → clean (writes l g) ≡ true
+    → fit (map (fieldOf g) (shown l g)) ≡ true
 unfolding proper writes shown matches fit clean
 all-fit known end p g m e = refl
 all-fit known (line css l) p g m e =
@@ -580,7 +593,8 @@ all-fit known (choose k is a c l) p g m e =
     let (e₀, e₁) = clean-both (pick (is (g k)) (writes a g) (writes c g)) (writes l g) e in
     fit-both (pick (is (g k)) (shown a g) (shown c g)) (shown l g) g (go (is (g k)) (all-fit known a p₂ g) (all-fit known c p₄ g) m₀ e₀) (all-fit known l p₇ g m₁ e₁)
   where
-    go : (b : Bool) → (clean (matches a g) ≡ true → clean (writes a g) ≡ true → fit (map (fieldOf g) (shown a g)) ≡ true) → (clean (matches c g) ≡ true → clean (writes c g) ≡ true → fit (map (fieldOf g) (shown c g)) ≡ true)
+    go : (b : Bool) → (clean (matches a g) ≡ true → clean (writes a g) ≡ true → fit (map (fieldOf g) (shown a g)) ≡ true)
+        → (clean (matches c g) ≡ true → clean (writes c g) ≡ true → fit (map (fieldOf g) (shown c g)) ≡ true)
         → clean (pick b (matches a g) (matches c g)) ≡ true → clean (pick b (writes a g) (writes c g)) ≡ true → fit (map (fieldOf g) (pick b (shown a g) (shown c g))) ≡ true
     go true x y = x
     go false x y = y
@@ -653,12 +667,14 @@ record Choice (b : Bool) (a c l : Layout) (f g : Columns) (bs : List ℕ) : Type
   agrees : clean (pick b (matches a g) (matches c g) ++ matches l g) ≡ true
   rest : Off (columns (pick b (shown a g) (shown c g) ++ shown l g)) f g
 
-choice-back : (known : List ℕ) (a c l : Layout) → proper known a ≡ true → proper known c ≡ true → Backs a → Backs c → Backs l → Apart known (all l) → Apart (all a) (all l) → Apart (all c) (all l) → (b : Bool) (f g : Columns) (at : ℕ) (bs : List ℕ)
+choice-back : (known : List ℕ) (a c l : Layout) → proper known a ≡ true → proper known c ≡ true → Backs a → Backs c → Backs l → Apart known (all l)
+    → Apart (all a) (all l) → Apart (all c) (all l) → (b : Bool) (f g : Columns) (at : ℕ) (bs : List ℕ)
     → Takes (pick b (reads a f) (reads c f) >>= λ x. reads l x) at g bs → Choice b a c l f g bs
 choice-back known a c l p q x z y k d d′ true f g at bs t = let r = part-back known a l p x y k d f g at bs t in record { makes = r .makes; sounds = r .sounds; agrees = r .agrees; rest = r .rest }
 choice-back known a c l p q x z y k d d′ false f g at bs t = let r = part-back known c l q z y k d′ f g at bs t in record { makes = r .makes; sounds = r .sounds; agrees = r .agrees; rest = r .rest }
 
-choice-none : (a c l : Layout) (g : Columns) (j : ℕ) → has j (all a) ≡ false → has j (all c) ≡ false → has j (all l) ≡ false → (b : Bool) → has j (columns (pick b (shown a g) (shown c g) ++ shown l g)) ≡ false
+choice-none : (a c l : Layout) (g : Columns) (j : ℕ) → has j (all a) ≡ false → has j (all c) ≡ false → has j (all l) ≡ false → (b : Bool)
+    → has j (columns (pick b (shown a g) (shown c g) ++ shown l g)) ≡ false
 choice-none a c l g j x z y true = columns-none j (shown a g) (shown l g) (shown-in a g j x) (shown-in l g j y)
 choice-none a c l g j x z y false = columns-none j (shown c g) (shown l g) (shown-in c g j z) (shown-in l g j y)
 
@@ -666,7 +682,8 @@ pub set-else : (k v : ℕ) (f : Columns) (j : ℕ) → eqb j k ≡ false → set
 set-else k v f j e = rw e
 
 -- a column that is set and stays
-set-stays : (k v : ℕ) (l : Layout) (f g : Columns) → has k (all l) ≡ false → Off (columns (shown l g)) (set k v f) g → (v ≡ g k) × ((j : ℕ) → has j (k ∷ columns (shown l g)) ≡ false → f j ≡ g j)
+set-stays : (k v : ℕ) (l : Layout) (f g : Columns) → has k (all l) ≡ false → Off (columns (shown l g)) (set k v f) g
+    → (v ≡ g k) × ((j : ℕ) → has j (k ∷ columns (shown l g)) ≡ false → f j ≡ g j)
 unfolding has
 set-stays k v l f g n w =
     let e : eqb k k ≡ true = eq-eqb k k refl in
@@ -746,7 +763,9 @@ back known (choose k′ is a c l) p k f g at bs t =
     let kc = apart-right known (all a) (all c) kac in
     let kl = apart-right known (all a ++ all c) (all l) k in
     let d = free-apart (all a ++ all c) (all l) p₆ in
-    let r = choice-back known a c l p₂ p₄ (back known a p₂ ka) (back known c p₄ kc) (back known l p₇ kl) kl (apart-front (all a) (all c) (all l) d) (apart-back (all a) (all c) (all l) d) (is (f k′)) f g at bs t in
+    let r =
+    choice-back known a c l p₂ p₄ (back known a p₂ ka) (back known c p₄ kc) (back known l p₇ kl) kl (apart-front (all a) (all c) (all l) d)
+    (apart-back (all a) (all c) (all l) d) (is (f k′)) f g at bs t in
     let e : f k′ ≡ g k′ = r .rest k′ (choice-none a c l g k′ (ka k′ p₀) (kc k′ p₀) (kl k′ p₀) (is (f k′))) in
     let r′ = subst (λ (b : Bool). Choice b a c l f g bs) (ap is e) r in
     record { makes = r′ .makes; fine = (r′ .sounds, r′ .agrees); rest = r′ .rest }
@@ -948,7 +967,8 @@ bytes-shown (judged p l) g e = let (a, b) = and-both (in-bytes p) (in-bytes l) e
 
 -- ---- nothing is passed over unseen
 
-skips-on : {A : Type 0} (n at : ℕ) (s : List ℕ) (a : A) (k : ℕ) (b : Bool) {p : List Payload} {o : Out A} → (o ≡ done a k → p ≡ []) → _≡_ {A = Out A} (elim b [ true ↦ o | false ↦ short (needing (at + n)) ]) (done a k)
+skips-on : {A : Type 0} (n at : ℕ) (s : List ℕ) (a : A) (k : ℕ) (b : Bool) {p : List Payload} {o : Out A} → (o ≡ done a k → p ≡ [])
+    → _≡_ {A = Out A} (elim b [ true ↦ o | false ↦ short (needing (at + n)) ]) (done a k)
     → _≡_ {A = List Payload} (elim b [ true ↦ p | false ↦ [] ]) []
 skips-on n at s a k true h e = h e
 skips-on n at s a k false h e = refl
@@ -958,13 +978,15 @@ unfolding reads passed run
 skips end f s at g k e = refl
 skips (line css l) f s at g k e = skips-on (length css) at s g k (leb (at + length css) (length s)) (skips l (puts css (slice at (at + length css) s) f) s (at + length css) g k) e
 skips (word c l) f s at g k e =
-    skips-on 1 at s g k (leb (at + 1) (length s)) (λ e. skips-on 1 (at + 1) s g k (leb (at + 1 + 1) (length s)) (skips l (set c (getD (slice at (at + 1) s) 0 0 * 256 + getD (slice (at + 1) (at + 1 + 1) s) 0 0) f) s (at + 1 + 1) g k) e) e
+    skips-on 1 at s g k (leb (at + 1) (length s))
+    (λ e. skips-on 1 (at + 1) s g k (leb (at + 1 + 1) (length s)) (skips l (set c (getD (slice at (at + 1) s) 0 0 * 256 + getD (slice (at + 1) (at + 1 + 1) s) 0 0) f) s (at + 1 + 1) g k) e) e
 skips (choose j is p q l) f s at g k e =
     let u = run-split (pick (is (f j)) (reads p f) (reads q f)) (λ x. reads l x) s at g k e in
     passed-bind (pick (is (f j)) (reads p f) (reads q f)) (λ x. reads l x) s at (u .first)
     ∙ (λ i. go (is (f j)) (skips p f s at (u .value) (u .middle)) (skips q f s at (u .value) (u .middle)) (u .first) i ++ skips l (u .value) s (u .middle) g k (u .second) i)
   where
-    go : (b : Bool) {x : Columns} {n : ℕ} → (run (reads p f) s at ≡ done x n → passed (reads p f) s at ≡ []) → (run (reads q f) s at ≡ done x n → passed (reads q f) s at ≡ []) → run (pick b (reads p f) (reads q f)) s at ≡ done x n
+    go : (b : Bool) {x : Columns} {n : ℕ} → (run (reads p f) s at ≡ done x n → passed (reads p f) s at ≡ [])
+        → (run (reads q f) s at ≡ done x n → passed (reads q f) s at ≡ []) → run (pick b (reads p f) (reads q f)) s at ≡ done x n
         → passed (pick b (reads p f) (reads q f)) s at ≡ []
     go true h i e = h e
     go false h i e = i e

@@ -103,7 +103,8 @@ module _ {A : Type 0} (b : Broken) (kid : Prog A) (s : List ℕ) (at : ℕ) wher
   behind-so : (n : ℕ) → endOf (run (rest b kid (headed b s at)) s n) ≡ behindHead n
   behind-so n =
       ap endOf (run-bind (many (kidsOf b s at) kid) (lastly b (headed b s at)) s n)
-      ∙ end-then (run (many (kidsOf b s at) kid) s n) (λ l m. run (lastly b (headed b s at) l) s m) (λ m. ends (tailSizes b s at m) s m) (λ l m. ap endOf (last-so l m) ∙ map-map (λ (u : Unit {0}). rowed b l (tailed b s at m)) (λ v. tt) (ends (tailSizes b s at m) s m) ∙ end-same (ends (tailSizes b s at m) s m))
+      ∙ end-then (run (many (kidsOf b s at) kid) s n) (λ l m. run (lastly b (headed b s at) l) s m) (λ m. ends (tailSizes b s at m) s m)
+      (λ l m. ap endOf (last-so l m) ∙ map-map (λ (u : Unit {0}). rowed b l (tailed b s at m)) (λ v. tt) (ends (tailSizes b s at m) s m) ∙ end-same (ends (tailSizes b s at m) s m))
 
   head-so : run (broken b kid) s at ≡ andThen (ends (headSizes b s at) s at) (λ u n. run (rest b kid (headed b s at)) s n)
   head-so =
@@ -111,7 +112,8 @@ module _ {A : Type 0} (b : Broken) (kid : Prog A) (s : List ℕ) (at : ℕ) wher
       ∙ ap (λ (o : Out Columns). andThen o (λ f n. run (rest b kid f) s n)) (read-so (b .head) blank s at)
       ∙ then-map (headed b s at) (ends (headSizes b s at) s at) (λ f n. run (rest b kid f) s n)
 
-  headed-so : {o : Out (Unit {0})} {v : Out (Unit {0})} → o ≡ ends (headSizes b s at) s at → o ≡ v → endOf (run (broken b kid) s at) ≡ endOf (andThen v (λ u n. run (rest b kid (headed b s at)) s n))
+  headed-so : {o : Out (Unit {0})} {v : Out (Unit {0})} → o ≡ ends (headSizes b s at) s at → o ≡ v
+      → endOf (run (broken b kid) s at) ≡ endOf (andThen v (λ u n. run (rest b kid (headed b s at)) s n))
   headed-so e d = ap endOf (head-so ∙ ap (λ (o : Out (Unit {0})). andThen o (λ u n. run (rest b kid (headed b s at)) s n)) (sym e ∙ d))
 
   -- The head was measured by reads of its sizes (o, as endsOut of the call): code stands at n, with the rows and the tail left (head-got), or hands the refusal up (head-lacks).
@@ -147,7 +149,8 @@ module _ {A : Type 0} (b : Broken) (kid : Prog A) (s : List ℕ) (at : ℕ) wher
   then-is (done a n) k e = (a, n, refl, e)
   then-is (short x) k e = absurd (let z : _≡_ {A = ℕ} 0 1 = cc e in omega arith)
 
-  broke-so : (n : ℕ) (l : List A) (m : ℕ) {u : Unit {0}} {x : List ℕ × List A} {end : ℕ} → at ≤ length s → ends (headSizes b s at) s at ≡ done u n → run (many (kidsOf b s at) kid) s n ≡ done l m → run (lastly b (headed b s at) l) s m ≡ done x end → Broke x end
+  broke-so : (n : ℕ) (l : List A) (m : ℕ) {u : Unit {0}} {x : List ℕ × List A} {end : ℕ} → at ≤ length s → ends (headSizes b s at) s at ≡ done u n
+      → run (many (kidsOf b s at) kid) s n ≡ done l m → run (lastly b (headed b s at) l) s m ≡ done x end → Broke x end
   broke-so n l m {x = x} {end} h e₁ e₂ r =
       let n-is = ends-at (headSizes b s at) s at e₁ in
       let n-in = ends-within (headSizes b s at) s at h e₁ in
@@ -184,7 +187,10 @@ module _ {A : Type 0} (b : Broken) (kid : Prog A) (s : List ℕ) (at : ℕ) wher
 
 many-end : {A : Type 0} (p : Prog A) (s : List ℕ) (k at : ℕ) → endOf (run (many (suc k) p) s at) ≡ andThen (endOf (run p s at)) (λ u m. endOf (run (many k p) s m))
 unfolding many
-many-end {A} p s k at = ap endOf (run-bind p (λ x. many k p >>= λ l. ret (x ∷ l)) s at) ∙ end-then (run p s at) (λ x m. run (many k p >>= λ l. ret (x ∷ l)) s m) (λ m. endOf (run (many k p) s m)) (λ x m. ap endOf (run-bind (many k p) (λ l. ret (x ∷ l)) s m ∙ then-ret (λ (l : List A). x ∷ l) (run (many k p) s m) s) ∙ map-map (λ (l : List A). x ∷ l) (λ v. tt) (run (many k p) s m))
+many-end {A} p s k at =
+    ap endOf (run-bind p (λ x. many k p >>= λ l. ret (x ∷ l)) s at)
+    ∙ end-then (run p s at) (λ x m. run (many k p >>= λ l. ret (x ∷ l)) s m) (λ m. endOf (run (many k p) s m))
+    (λ x m. ap endOf (run-bind (many k p) (λ l. ret (x ∷ l)) s m ∙ then-ret (λ (l : List A). x ∷ l) (run (many k p) s m) s) ∙ map-map (λ (l : List A). x ∷ l) (λ v. tt) (run (many k p) s m))
 
 then-ends : (a c s : List ℕ) (at : ℕ) → andThen (ends a s at) (λ u m. ends c s m) ≡ ends (a ++ c) s at
 unfolding thenEnds
@@ -203,7 +209,8 @@ unfolding many run
 many-zero p s at = refl
 
 -- Rows that are w reads of one byte each are one comparison, reads::head of w * k: `each` is λ s at. refl, unfolding took and ones, for a layout of so many lines of one byte.
-pub lines-end : (n : ℕ) (l : Layout) (w : ℕ) → ((s : List ℕ) (at : ℕ) → spans l blank s at ≡ ones w) → (s : List ℕ) (k at : ℕ) → endOf (run (many k (flat n l)) s at) ≡ ends (ones (w * k)) s at
+pub lines-end : (n : ℕ) (l : Layout) (w : ℕ) → ((s : List ℕ) (at : ℕ) → spans l blank s at ≡ ones w) → (s : List ℕ) (k at : ℕ)
+    → endOf (run (many k (flat n l)) s at) ≡ ends (ones (w * k)) s at
 unfolding ones ends run
 lines-end n l w each s zero at = ap endOf (many-zero (flat n l) s at) ∙ ap (λ (k : ℕ). ends (ones k) s at) (sym (mul-zero w))
 lines-end n l w each s (suc k) at =
@@ -243,7 +250,8 @@ module _ (n : ℕ) (l : Layout) (one : (s : List ℕ) (at : ℕ) → spans l bla
       go (short x) q = refl
 
   -- Where such a tail goes on behind its t bytes, what is left of it begins where these end.
-  pub singles-before : (b : Broken) (at k t : ℕ) (left : ℕ → List ℕ) → kidsOf b s at ≡ k → ((m : ℕ) → tailSizes b s at m ≡ ones t ++ left (m + t)) → (m : ℕ) → behindHead b (flat n l) s at m ≡ andThen (ends (ones (k + t)) s m) (λ u j. ends (left j) s j)
+  pub singles-before : (b : Broken) (at k t : ℕ) (left : ℕ → List ℕ) → kidsOf b s at ≡ k → ((m : ℕ) → tailSizes b s at m ≡ ones t ++ left (m + t)) → (m : ℕ)
+      → behindHead b (flat n l) s at m ≡ andThen (ends (ones (k + t)) s m) (λ u j. ends (left j) s j)
   singles-before b at k t left e f m =
       (λ i. andThen ((singles-end (kidsOf b s at) m ∙ ap (λ (k : ℕ). ends (ones k) s m) e) i) (λ u m. (ap (λ (l : List ℕ). ends l s m) (f m) ∙ behind-ones t left m) i))
       ∙ then-then (ends (ones k) s m) (λ u m. ends (ones t) s m) (λ u j. ends (left j) s j)
@@ -278,7 +286,8 @@ many-tall n l s (suc k) at {rs} {m} e =
     let j : suc k - 1 ≡ k = omega arith in
     let r = many-tall n l s k (w .middle) (ap (λ (i : ℕ). run (many i (flat n l)) s (w .middle)) (sym j) ∙ w .goes-on) in
     let h = flat-is n l s at (w .row) (w .middle) (w .reads) .0 in
-    ap (λ (l : List (List ℕ)). length (flatten l)) (w .is) ∙ length-append (w .row) (flatten (w .rest)) ∙ omega (arith, r, h, suc-mul (length (w .rest)) n) ∙ ap (λ (l : List (List ℕ)). length l * n) (sym (w .is))
+    ap (λ (l : List (List ℕ)). length (flatten l)) (w .is) ∙ length-append (w .row) (flatten (w .rest)) ∙ omega (arith, r, h, suc-mul (length (w .rest)) n)
+    ∙ ap (λ (l : List (List ℕ)). length l * n) (sym (w .is))
 
 sum-ones : {A : Type 0} (l : List A) → sum (λ x. 1) l ≡ length l
 unfolding sum
@@ -301,10 +310,13 @@ family-test b kid = ltb (b .count) (b .width) && (not (eqb (b .count) (b .first)
 
 -- a row that was read, with its first row: the columns that code has at hand
 pub placed-so : (b : Broken) (first : ℕ) {A : Type 0} (l : List A) (g : Columns) → brokenRow b (first, rowed b l g) ≡ row (b .width) (set (b .first) first g)
-placed-so b first l g = each-like (set (b .first) first (of (row (b .width) g))) (set (b .first) first g) 0 (b .width) (λ j h. ap (λ (v : ℕ). pick (eqb (0 + j) (b .first)) first v) (ap (of (row (b .width) g)) (zero-add j) ∙ each-in g 0 (b .width) j h))
+placed-so b first l g =
+    each-like (set (b .first) first (of (row (b .width) g))) (set (b .first) first g) 0 (b .width)
+    (λ j h. ap (λ (v : ℕ). pick (eqb (0 + j) (b .first)) first v) (ap (of (row (b .width) g)) (zero-add j) ∙ each-in g 0 (b .width) j h))
 
 -- its column for the count says how many rows it has
-count-so : {A : Type 0} (b : Broken) (kid : Prog A) (s : List ℕ) (at first : ℕ) {x : List ℕ × List A} {end : ℕ} → ltb (b .count) (b .width) ≡ true → eqb (b .count) (b .first) ≡ false → has (b .count) (all (b .tail)) ≡ false
+count-so : {A : Type 0} (b : Broken) (kid : Prog A) (s : List ℕ) (at first : ℕ) {x : List ℕ × List A} {end : ℕ} → ltb (b .count) (b .width) ≡ true
+    → eqb (b .count) (b .first) ≡ false → has (b .count) (all (b .tail)) ≡ false
     → Broke b kid s at x end → getD (brokenRow b (first, x)) (b .count) 0 ≡ length (x .1)
 count-so {A} b kid s at first {x} l c o w =
     let g : Columns = tailed b s at (w .middle) in
@@ -328,7 +340,8 @@ module _ (b : Broken) (n : ℕ) (kid : Layout) (s : List ℕ) (at first : ℕ) (
     begun = the-row .there;
     sound = ap isDone (the-row .kids);
     room =
-        let e : first * n + n * kidsOf b s at ≡ (first + length (f .value .1)) * n = ap (λ (k : ℕ). first * n + k) (mul-comm n (kidsOf b s at) ∙ ap (λ (k : ℕ). k * n) (sym (the-row .counts))) ∙ sym (add-mul first (length (f .value .1)) n) in
+        let e : first * n + n * kidsOf b s at ≡ (first + length (f .value .1)) * n =
+        ap (λ (k : ℕ). first * n + k) (mul-comm n (kidsOf b s at) ∙ ap (λ (k : ℕ). k * n) (sym (the-row .counts))) ∙ sym (add-mul first (length (f .value .1)) n) in
         omega (arith, e, f .room);
   }
 
@@ -370,7 +383,8 @@ module _ (b : Broken) (n : ℕ) (kid : Layout) (s : List ℕ) (at count : ℕ) (
     family-ask h = nest-ready (broken b (flat n kid)) (λ x. length (x .1)) (λ i x. brokenRow b (i, x)) (b .width) (λ x. flatten (x .1)) n s at count t₀ u₀ i h
 
     -- The next first row stands behind those that the row r counts.
-    pub families-turn : family-test b kid ≡ true → 0 < left → {r t′ u′ : List ℕ} {next first′ : ℕ} → Nested (broken b (flat n kid)) n (λ i x. brokenRow b (i, x)) (λ x. flatten (x .1)) s pos first u r next u′
+    pub families-turn : family-test b kid ≡ true → 0 < left → {r t′ u′ : List ℕ} {next first′ : ℕ}
+        → Nested (broken b (flat n kid)) n (λ i x. brokenRow b (i, x)) (λ x. flatten (x .1)) s pos first u r next u′
         → first′ ≡ first + getD r (b .count) 0 → t′ ≡ sets t to r → Families b n kid s at count t₀ u₀ t′ u′ next (left - 1) (to + b .width) first′
     unfolding family-test
     families-turn c h {r} {next = next} {first′} w k q =
@@ -381,9 +395,12 @@ module _ (b : Broken) (n : ℕ) (kid : Layout) (s : List ℕ) (at count : ℕ) (
         let d : run (broken b (flat n kid)) s pos ≡ done x next = w .reads ∙ ap (done x) (sym (w .on)) in
         let o = broke b (flat n kid) s pos (i .inside) d in
         let e : getD r (b .count) 0 ≡ length (x .1) = ap (λ (l : List ℕ). getD l (b .count) 0) (w .is) ∙ count-so b (flat n kid) s pos first c₀ (not-true _ c₂) (not-true _ c₄) o in
-        let v = many-weighs (flat n kid) s (λ x. 1) (λ at x m e. let z = flat-is n kid s at x m e .1 in omega (arith, z, leb-true 1 (weight kid) c₅)) (kidsOf b s pos) _ (x .1) (o .middle) (o .kids) in
+        let v =
+        many-weighs (flat n kid) s (λ x. 1) (λ at x m e. let z = flat-is n kid s at x m e .1 in omega (arith, z, leb-true 1 (weight kid) c₅)) (kidsOf b s pos) _
+        (x .1) (o .middle) (o .kids) in
         nest-turn (broken b (flat n kid)) (λ x. length (x .1)) (λ i x. brokenRow b (i, x)) (b .width) (λ x. flatten (x .1)) n s at count t₀ u₀ i h d
-        (omega (arith, v, sum-ones (x .1), o .on)) (each-length (set (b .first) first (of (x .0))) 0 (b .width)) (many-tall n kid s (kidsOf b s pos) _ (o .kids)) (k ∙ ap (λ (k : ℕ). first + k) e) (q ∙ ap (sets t to) (w .is)) (w .stored)
+        (omega (arith, v, sum-ones (x .1), o .on)) (each-length (set (b .first) first (of (x .0))) 0 (b .width)) (many-tall n kid s (kidsOf b s pos) _ (o .kids))
+        (k ∙ ap (λ (k : ℕ). first + k) e) (q ∙ ap (sets t to) (w .is)) (w .stored)
 
     pub families-end : left ≤ 0 → Nests (broken b (flat n kid)) (λ x. length (x .1)) (λ i x. brokenRow b (i, x)) (λ x. flatten (x .1)) s at count t₀ u₀ t u
     families-end h = nest-end (broken b (flat n kid)) (λ x. length (x .1)) (λ i x. brokenRow b (i, x)) (b .width) (λ x. flatten (x .1)) n s at count t₀ u₀ i h
@@ -423,13 +440,15 @@ module _ (b : Broken) (n : ℕ) (kid : Layout) (s : List ℕ) (at : ℕ) (h : at
         subst (λ (m : ℕ). m + total (tailSizes b s at m) ≤ length s) (sym (p ∙ ap posOf (o .kids))) (o .inside)
 
     -- The reserved bits of its own fields and of its rows; with adding-turn or walk-turn, by as-done, the loop goes on.
-    pub family-tallied : {own below zeros next : ℕ} → own ≡ tally (layouts b) (of (row (b .width) (tailed b s at m))) → below ≡ sum (λ r. tally (kid ∷ []) (of r)) (rowsOf (run (many (kidsOf b s at) (flat n kid)) s (at + total (headSizes b s at))))
+    pub family-tallied : {own below zeros next : ℕ} → own ≡ tally (layouts b) (of (row (b .width) (tailed b s at m)))
+        → below ≡ sum (λ r. tally (kid ∷ []) (of r)) (rowsOf (run (many (kidsOf b s at) (flat n kid)) s (at + total (headSizes b s at))))
         → zeros ≡ own + below → next ≡ m + total (tailSizes b s at m) → done zeros next ≡ mapOut (familyTally b kid) (run (broken b (flat n kid)) s at)
     family-tallied {own} {below} {zeros} {next} e f z k =
         let (x, k′, r) = is-done (run (broken b (flat n kid)) s at) q in
         let o = broke b (flat n kid) s at h r in
         let w : o .middle ≡ m = sym (p ∙ ap posOf (o .kids)) in
-        let a : own ≡ tally (layouts b) (of (x .0)) = e ∙ ap (λ (m : ℕ). tally (layouts b) (of (row (b .width) (tailed b s at m)))) (sym w) ∙ ap (λ (x : Family). tally (layouts b) (of (x .0))) (sym (o .is)) in
+        let a : own ≡ tally (layouts b) (of (x .0)) =
+        e ∙ ap (λ (m : ℕ). tally (layouts b) (of (row (b .width) (tailed b s at m)))) (sym w) ∙ ap (λ (x : Family). tally (layouts b) (of (x .0))) (sym (o .is)) in
         let c : below ≡ sum (λ r. tally (kid ∷ []) (of r)) (x .1) = f ∙ ap (λ (o : Out (List (List ℕ))). sum (λ r. tally (kid ∷ []) (of r)) (rowsOf o)) (o .kids) in
         let d : next ≡ k′ = k ∙ sym (o .on ∙ ap (λ (m : ℕ). m + total (tailSizes b s at m)) w) in
         (λ i. done ((z ∙ λ j. a j + c j) i) (d i)) ∙ sym (ap (mapOut (familyTally b kid)) r)
@@ -445,7 +464,9 @@ module _ (b : Broken) (n : ℕ) (kid : Layout) (s : List ℕ) (at first : ℕ) (
       let o = broke b (flat n kid) s at h z in
       let w : o .middle ≡ m = sym (p ∙ ap posOf (o .kids)) in
       let g : Columns = tailed b s at (o .middle) in
-      let a = e ∙ ap (λ (m : ℕ). row (b .width) (set (b .first) first (tailed b s at m))) (sym w) ∙ sym (placed-so b first (x .1) g) ∙ ap (λ (x : Family). brokenRow b (first, x)) (sym (o .is)) in
+      let a =
+      e ∙ ap (λ (m : ℕ). row (b .width) (set (b .first) first (tailed b s at m))) (sym w) ∙ sym (placed-so b first (x .1) g)
+      ∙ ap (λ (x : Family). brokenRow b (first, x)) (sym (o .is)) in
       let c = k ∙ sym (o .on ∙ ap (λ (m : ℕ). m + total (tailSizes b s at m)) w) in
       (λ i. done (a i) (c i)) ∙ sym (ap (mapOut (λ x. brokenRow b (first, x))) z)
 
@@ -539,7 +560,10 @@ module _ (f : ℕ → List Act) (first count : ℕ) {most i long : ℕ} (v : Pla
       go false z = refl
       go true z =
           let (a, m, s) = faulty (f (first + i)) (0 + long) (v .odd h) in
-          let y : At (0 + length (bytes (rows (λ j. f (first + j)) 0 count))) ≡ Stop a m = sym (clean-looks (rows (λ j. f (first + j)) 0 count) 0 z) ∙ v .passes 0 ∙ ap (λ (l : List Act). looks l (At (0 + long))) (rows-turn (λ j. f (first + j)) i count h) ∙ looks-append (f (first + i)) _ (At (0 + long)) ∙ ap (looks (rows (λ j. f (first + j)) (i + 1) (count - (i + 1)))) s ∙ stuck (rows (λ j. f (first + j)) (i + 1) (count - (i + 1))) a m in
+          let y : At (0 + length (bytes (rows (λ j. f (first + j)) 0 count))) ≡ Stop a m =
+          sym (clean-looks (rows (λ j. f (first + j)) 0 count) 0 z) ∙ v .passes 0
+          ∙ ap (λ (l : List Act). looks l (At (0 + long))) (rows-turn (λ j. f (first + j)) i count h) ∙ looks-append (f (first + i)) _ (At (0 + long))
+          ∙ ap (looks (rows (λ j. f (first + j)) (i + 1) (count - (i + 1)))) s ∙ stuck (rows (λ j. f (first + j)) (i + 1) (count - (i + 1))) a m in
           absurd (let z : _≡_ {A = ℕ} 0 1 = cc y in omega arith)
 
   pub kids-checked : (n : ℕ) → count ≤ i → Checked (rows f first count) (most * count) (At n) (At (n + long))
@@ -577,9 +601,11 @@ module _ (b : Broken) (room : ℕ) (kid : ℕ → List Act) (g : Columns) where
     front-passed e = front-so (passed-clean (frontActs b room g) _ w e)
 
     pub broken-stopped : (most : ℕ) → k ≤ most → {f : Fault} {m : ℕ} → p ≡ Stop f m → Checked (brokenActs b room kid g) most (At n) p
-    broken-stopped most l e = check-stop most (check-turn {rest = kidActs b kid g ++ writes (b .tail) g} k (check-start (brokenActs b room kid g) (At n)) (sym acts-so) w (omega arith)) e l
+    broken-stopped most l e =
+        check-stop most (check-turn {rest = kidActs b kid g ++ writes (b .tail) g} k (check-start (brokenActs b room kid g) (At n)) (sym acts-so) w (omega arith)) e l
 
-    pub broken-checked : (most : ℕ) {j t : ℕ} {q r : Pen} → Checked (kidActs b kid g) j p q → Checked (writes (b .tail) g) t q r → k + (j + t) ≤ most → Checked (brokenActs b room kid g) most (At n) r
+    pub broken-checked : (most : ℕ) {j t : ℕ} {q r : Pen} → Checked (kidActs b kid g) j p q → Checked (writes (b .tail) g) t q r → k + (j + t) ≤ most
+        → Checked (brokenActs b room kid g) most (At n) r
     broken-checked most {r = r} x y l = subst (λ (q : List Act). Checked q most (At n) r) acts-so (more most (then w (then x y)) l)
 
   -- The quick test: its range, its counts and its own bytes (plainRow), and then its rows.
@@ -587,15 +613,18 @@ module _ (b : Broken) (room : ℕ) (kid : ℕ → List Act) (g : Columns) where
   plainRow = leb (g (b .first) + g (b .count)) room && (every counted g (cells (layouts b) g) && (clean (writes (b .head) g) && clean (writes (b .tail) g)))
 
   -- a flag is a field of one bit, so the bytes tell, and what has to match
-  flags-too : nest-test b ≡ true → clean (matched (layouts b) g) ≡ true → clean (writes (b .head) g) ≡ true → clean (writes (b .tail) g) ≡ true → every flagged g (cells (layouts b) g) ≡ true
+  flags-too : nest-test b ≡ true → clean (matched (layouts b) g) ≡ true → clean (writes (b .head) g) ≡ true → clean (writes (b .tail) g) ≡ true
+      → every flagged g (cells (layouts b) g) ≡ true
   unfolding cells matched nest-test
   flags-too t₀ m h t =
-      let (p₀, _) = and-both (proper [] (b .head) && (not (has (b .count) (all (b .tail))) && (free (all (b .head)) (all (b .tail)) && proper (sure (b .head) ++ []) (b .tail)))) _ t₀ in
+      let (p₀, _) =
+      and-both (proper [] (b .head) && (not (has (b .count) (all (b .tail))) && (free (all (b .head)) (all (b .tail)) && proper (sure (b .head) ++ []) (b .tail)))) _ t₀ in
       let (p, p₁) = and-both (proper [] (b .head)) _ p₀ in
       let (_, p₂) = and-both (not (has (b .count) (all (b .tail)))) _ p₁ in
       let (_, q) = and-both (free (all (b .head)) (all (b .tail))) _ p₂ in
       let (x, y) = clean-both (matches (b .head) g) (matches (b .tail) g) m in
-      append-every flagged g (shown (b .head) g) (shown (b .tail) g) (fit-flags (shown (b .head) g) g (all-fit [] (b .head) p g x h)) (fit-flags (shown (b .tail) g) g (all-fit (sure (b .head) ++ []) (b .tail) q g y t))
+      append-every flagged g (shown (b .head) g) (shown (b .tail) g) (fit-flags (shown (b .head) g) g (all-fit [] (b .head) p g x h))
+      (fit-flags (shown (b .tail) g) g (all-fit (sure (b .head) ++ []) (b .tail) q g y t))
 
   pub clean-parts : clean (brokenActs b room kid g)
       ≡ leb (g (b .first) + g (b .count)) room && (every flagged g (cells (layouts b) g) && (every counted g (cells (layouts b) g) && (clean (matched (layouts b) g) && (clean (writes (b .head) g) && (clean (kidActs b kid g) && clean (writes (b .tail) g))))))
@@ -624,11 +653,15 @@ module _ (b : Broken) (room : ℕ) (kid : ℕ → List Act) (g : Columns) where
   broken-long : length (bytes (brokenActs b room kid g)) ≡ length (bytes (writes (b .head) g)) + (length (bytes (kidActs b kid g)) + length (bytes (writes (b .tail) g)))
   unfolding bytes
   broken-long =
-      ap length (after-demands (layouts b) g (writes (b .head) g ++ (kidActs b kid g ++ writes (b .tail) g)) ∙ bytes-append (writes (b .head) g) (kidActs b kid g ++ writes (b .tail) g) ∙ ap (λ (l : List ℕ). bytes (writes (b .head) g) ++ l) (bytes-append (kidActs b kid g) (writes (b .tail) g)))
-      ∙ length-append (bytes (writes (b .head) g)) (bytes (kidActs b kid g) ++ bytes (writes (b .tail) g)) ∙ ap (λ (k : ℕ). length (bytes (writes (b .head) g)) + k) (length-append (bytes (kidActs b kid g)) (bytes (writes (b .tail) g)))
+      ap length
+      (after-demands (layouts b) g (writes (b .head) g ++ (kidActs b kid g ++ writes (b .tail) g)) ∙ bytes-append (writes (b .head) g) (kidActs b kid g ++ writes (b .tail) g) ∙ ap (λ (l : List ℕ). bytes (writes (b .head) g) ++ l) (bytes-append (kidActs b kid g) (writes (b .tail) g)))
+      ∙ length-append (bytes (writes (b .head) g)) (bytes (kidActs b kid g) ++ bytes (writes (b .tail) g))
+      ∙ ap (λ (k : ℕ). length (bytes (writes (b .head) g)) + k) (length-append (bytes (kidActs b kid g)) (bytes (writes (b .tail) g)))
 
   -- It has no fault and makes r bytes; a test of its own failed; or one of its rows has a fault.
-  pub broken-quick : (most : ℕ) {r : ℕ} → nest-test b ≡ true → plainRow ≡ true → clean (matched (layouts b) g) ≡ true → clean (kidActs b kid g) ≡ true → r ≡ length (bytes (writes (b .head) g)) + (length (bytes (kidActs b kid g)) + length (bytes (writes (b .tail) g))) → 0 < r → r ≤ most → Quick (brokenActs b room kid g) most r
+  pub broken-quick : (most : ℕ) {r : ℕ} → nest-test b ≡ true → plainRow ≡ true → clean (matched (layouts b) g) ≡ true → clean (kidActs b kid g) ≡ true
+      → r ≡ length (bytes (writes (b .head) g)) + (length (bytes (kidActs b kid g)) + length (bytes (writes (b .tail) g))) → 0 < r → r ≤ most
+      → Quick (brokenActs b room kid g) most r
   broken-quick most x e m k q p l = quick-clean (brokenActs b room kid g) most (plain-clean x e m k) (broken-long ∙ sym q) p l
 
   pub broken-odd : (most : ℕ) → plainRow ≡ false → Quick (brokenActs b room kid g) most 0
@@ -645,7 +678,9 @@ module _ (b : Broken) (room : ℕ) (kid : ℕ → List Act) (g : Columns) where
     broken-ready = front-so (clean-both (frontActs b room g) (kidActs b kid g ++ writes (b .tail) g) (ap clean acts-so ∙ w .sound) .0)
 
     pub broken-filling : Filling (brokenActs b room kid g) (writes (b .head) g ++ (kidActs b kid g ++ writes (b .tail) g)) n l n l
-    broken-filling = fill-turn (fill-demand (fill-demand (fill-demand (fill-start w)))) refl refl (record { place = omega (arith, ap length (matched-none (layouts b) g)); holds = ap (sets l n) (sym (matched-none (layouts b) g)) })
+    broken-filling =
+        fill-turn (fill-demand (fill-demand (fill-demand (fill-start w)))) refl refl
+        (record { place = omega (arith, ap length (matched-none (layouts b) g)); holds = ap (sets l n) (sym (matched-none (layouts b) g)) })
 
   module _ {n₀ n : ℕ} {l o : List ℕ} (v : Filling (brokenActs b room kid g) (kidActs b kid g ++ writes (b .tail) g) n₀ l n o) where
     pub kids-ready : Ready (kidActs b kid g) n o

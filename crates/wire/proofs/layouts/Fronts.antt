@@ -19,11 +19,14 @@ pub front : (n : ℕ) (l : List (List ℕ)) (t : List ℕ) → Every (Wide n) l 
 front n l t w h = front-stored t (flatten l) (omega (arith, rows-long n l w))
 
 -- the rows of a list that was read, which stand in one table; and rows that are their own columns
-pub rows-front : {A : Type 0} (row : A → List ℕ) (n : ℕ) {o : Out (List A)} {end : ℕ} (l : List A) (t : List ℕ) {t′ : List ℕ} → t′ ≡ sets t 0 (flatMap row (rowsOf o)) → o ≡ done l end → Every (Wide n) (map row l) → length l * n ≤ length t
+pub rows-front : {A : Type 0} (row : A → List ℕ) (n : ℕ) {o : Out (List A)} {end : ℕ} (l : List A) (t : List ℕ) {t′ : List ℕ} → t′ ≡ sets t 0 (flatMap row (rowsOf o))
+    → o ≡ done l end → Every (Wide n) (map row l) → length l * n ≤ length t
     → t′ ≡ flatten (map row l) ++ drop (length (flatten (map row l))) t
-rows-front {A} row n l t e d w h = e ∙ ap (λ (o : Out (List A)). sets t 0 (flatMap row (rowsOf o))) d ∙ ap (sets t 0) (flat-map row l) ∙ front n (map row l) t w (rw (length-map l row) h)
+rows-front {A} row n l t e d w h =
+    e ∙ ap (λ (o : Out (List A)). sets t 0 (flatMap row (rowsOf o))) d ∙ ap (sets t 0) (flat-map row l) ∙ front n (map row l) t w (rw (length-map l row) h)
 
-pub flat-front : (n : ℕ) {o : Out (List (List ℕ))} {end : ℕ} (l : List (List ℕ)) (t : List ℕ) {t′ : List ℕ} → t′ ≡ sets t 0 (flatMap (λ r. r) (rowsOf o)) → o ≡ done l end → Every (Wide n) l → length l * n ≤ length t
+pub flat-front : (n : ℕ) {o : Out (List (List ℕ))} {end : ℕ} (l : List (List ℕ)) (t : List ℕ) {t′ : List ℕ} → t′ ≡ sets t 0 (flatMap (λ r. r) (rowsOf o)) → o ≡ done l end
+    → Every (Wide n) l → length l * n ≤ length t
     → t′ ≡ flatten l ++ drop (length (flatten l)) t
 flat-front n l t {t′} e d w h =
     let q : map (λ r. r) l ≡ l = map-id l in
@@ -34,7 +37,8 @@ pub record Both (b : Broken) (l : List Family) (t u t′ u′ : List ℕ) : Type
   pub outer : t′ ≡ flatten (parents b l) ++ drop (length (flatten (parents b l))) t
   pub inner : u′ ≡ flatten (kids l) ++ drop (length (flatten (kids l))) u
 
-pub both : (n : Nest) (p : Prog Family) {s : List ℕ} {at count end : ℕ} (l : List Family) (t u : List ℕ) {t′ u′ : List ℕ} → Nests p (λ x. length (x .1)) (λ i x. brokenRow (n .row) (i, x)) (λ x. flatten (x .1)) s at count t u t′ u′ → run (many count p) s at ≡ done l end
+pub both : (n : Nest) (p : Prog Family) {s : List ℕ} {at count end : ℕ} (l : List Family) (t u : List ℕ) {t′ u′ : List ℕ}
+    → Nests p (λ x. length (x .1)) (λ i x. brokenRow (n .row) (i, x)) (λ x. flatten (x .1)) s at count t u t′ u′ → run (many count p) s at ≡ done l end
     → Every (Wide (n .kid .columns)) (kids l) → length l * n .row .width ≤ length t → length (kids l) * n .kid .columns ≤ length u → Both (n .row) l t u t′ u′
 both n p {end = end} l t u v d w h k =
     let z : done (v .value) (v .end) ≡ done l end = sym (v .reads) ∙ d in

@@ -13,7 +13,8 @@ use Rattle.wire.proofs.layouts.Forms.{Form, last, form-shown, form-matc
 use Rattle.wire.proofs.layouts.Rowed.{Flat, flat-proper, flat-below, flats, row-on, on-all, Nest, Nest-tests, nest-tests, broken-form}
 
 -- the columns that writing reads are kept
-pub kept-on : (n : ℕ) {T M : Type 0} (x : Form T M) → below n (form-all x) ≡ true → (f init : Columns) → On (columns (form-shown x f)) f (of (row n (mix (columns (form-shown x f)) f init)))
+pub kept-on : (n : ℕ) {T M : Type 0} (x : Form T M) → below n (form-all x) ≡ true → (f init : Columns)
+    → On (columns (form-shown x f)) f (of (row n (mix (columns (form-shown x f)) f init)))
 kept-on n x b f init j e = go (has j (form-all x)) refl
   where
     ks : List ℕ
@@ -60,7 +61,9 @@ module _ (n : Nest) where
       off false z q = refl
 
       go : (y : Bool) → has j (form-all x) ≡ y → f j ≡ of (brokenHeeds b f) j
-      go true q = sym (row-on (b .width) (form-all x) (t .below-so) (brokenHeeds b f) (set (b .first) (f (b .first)) k) refl j q ∙ off (eqb j (b .first)) refl q ∙ mix-in (columns (form-shown x f)) f blank j e)
+      go true q =
+          sym
+          (row-on (b .width) (form-all x) (t .below-so) (brokenHeeds b f) (set (b .first) (f (b .first)) k) refl j q ∙ off (eqb j (b .first)) refl q ∙ mix-in (columns (form-shown x f)) f blank j e)
       go false q = clash e (form-shown-in x f j q)
 
   -- its first row is one of its columns
@@ -69,13 +72,15 @@ module _ (n : Nest) where
   first-of = let same : eqb (b .first) (b .first) ≡ true = eq-eqb (b .first) (b .first) refl in rw same
 
   -- columns that agree where writing reads
-  broken-alike : (room : ℕ) (kid : ℕ → List Act) (f h : Columns) → On (columns (form-shown x f)) f h → f (b .first) ≡ h (b .first) → brokenActs b room kid f ≡ brokenActs b room kid h
+  broken-alike : (room : ℕ) (kid : ℕ → List Act) (f h : Columns) → On (columns (form-shown x f)) f h → f (b .first) ≡ h (b .first)
+      → brokenActs b room kid f ≡ brokenActs b room kid h
   unfolding form-shown form-matches woven cells matched
   broken-alike room kid f h o i₀ =
       let t = nest-tests b (flats (n .kid)) (n .passes) in
       let cs : List Cell = shown (b .head) f ++ shown (b .tail) f in
       let s = alike (b .width) x blank (t .proper-so) (t .below-so) (λ j h. refl) f h o in
-      let c₀ : f (b .count) ≡ h (b .count) = sym (sure-shown (b .head) f {f = h} (λ j e. sym (cells-on (shown (b .head) f) (shown (b .tail) f) o .0 j e)) (b .count) (t .counts-so)) in
+      let c₀ : f (b .count) ≡ h (b .count) =
+      sym (sure-shown (b .head) f {f = h} (λ j e. sym (cells-on (shown (b .head) f) (shown (b .tail) f) o .0 j e)) (b .count) (t .counts-so)) in
       λ i. demand F.Range (leb (i₀ i + c₀ i) room)
       ∷ demand F.Field ((every-same flagged cs o ∙ ap (every flagged h) (s .cells)) i)
       ∷ demand F.Empty ((every-same counted cs o ∙ ap (every counted h) (s .cells)) i)
@@ -85,7 +90,8 @@ module _ (n : Nest) where
   broken-kept room kid f =
       let t = nest-tests b (flats (n .kid)) (n .passes) in
       let same : eqb (b .first) (b .first) ≡ true = eq-eqb (b .first) (b .first) refl in
-      broken-alike room kid f (of (brokenHeeds b f)) (row-kept f) (sym (row-on (b .width) (b .first ∷ b .count ∷ []) (t .range-so) (brokenHeeds b f) (set (b .first) (f (b .first)) (kept (layouts b) f blank)) refl (b .first) first-of ∙ rw same))
+      broken-alike room kid f (of (brokenHeeds b f)) (row-kept f)
+      (sym (row-on (b .width) (b .first ∷ b .count ∷ []) (t .range-so) (brokenHeeds b f) (set (b .first) (f (b .first)) (kept (layouts b) f blank)) refl (b .first) first-of ∙ rw same))
 
   -- no column past the last is read
   pub broken-row : (room : ℕ) (kid : ℕ → List Act) (f g : Columns) → row (b .width) f ≡ row (b .width) g → brokenActs b room kid f ≡ brokenActs b room kid g

@@ -49,7 +49,8 @@ unfolding writes most bytes
 writes-most end g = omega arith
 writes-most (line css l) g = omega (arith, both-long (map (byteOf g) css) (writes l g), line-long g css, writes-most l g)
 writes-most (word k l) g = omega (arith, writes-most l g)
-writes-most (choose k is p q l) g = omega (arith, both-long (pick (is (g k)) (writes p g) (writes q g)) (writes l g), one (is (g k)) (writes-most p g) (writes-most q g), writes-most l g)
+writes-most (choose k is p q l) g =
+    omega (arith, both-long (pick (is (g k)) (writes p g) (writes q g)) (writes l g), one (is (g k)) (writes-most p g) (writes-most q g), writes-most l g)
   where
     one : (b : Bool) → length (bytes (writes p g)) ≤ most p → length (bytes (writes q g)) ≤ most q → length (bytes (pick b (writes p g) (writes q g))) ≤ larger (most p) (most q)
     one true x y = omega (arith, x, larger-so (most p) (most q) .0)

@@ -38,7 +38,8 @@ module _ {Q A B : Type 0} (P : Q → Type 0) (h : Q → A) (f : ℕ → A) where
       λ j. w i q a p j ∷ each-as v t w (i + 1) k qs b r j
 
 module _ {Q A : Type 0} (P : Q → Type 0) (h : Q → A) (f : ℕ → A) where
-  pub each-clean : (a : ℕ → List Act) → ((i : ℕ) (q : Q) → f i ≡ h q → P q → clean (a i) ≡ true) → (i k : ℕ) (qs : List Q) → each f i k ≡ map h qs → Every P qs → clean (rows a i k) ≡ true
+  pub each-clean : (a : ℕ → List Act) → ((i : ℕ) (q : Q) → f i ≡ h q → P q → clean (a i) ≡ true) → (i k : ℕ) (qs : List Q) → each f i k ≡ map h qs → Every P qs
+      → clean (rows a i k) ≡ true
   unfolding each rows flatten clean
   each-clean a w i zero [] e all-nil = refl
   each-clean a w i zero (q ∷ qs) e r = let z : _≡_ {A = ℕ} 0 1 = cc e in absurd (omega arith)
@@ -64,7 +65,8 @@ found-one n r before behind i e b = each-like (at n (before ++ (r ++ behind)) i)
     one : (j : ℕ) → j < n → getD (before ++ (r ++ behind)) (i * n + (0 + j)) 0 ≡ getD r (0 + j) 0
     one j l = rw (zero-add j, ← b) (getD-append-add before (r ++ behind) j 0 ∙ List·getD-append r behind 0 j (rw e l))
 
-found-from : (n : ℕ) (l : List (List ℕ)) → Every (Wide n) l → (behind before : List ℕ) (i : ℕ) → length before ≡ i * n → each (λ i. row n (at n (before ++ (flatten l ++ behind)) i)) i (length l) ≡ l
+found-from : (n : ℕ) (l : List (List ℕ)) → Every (Wide n) l → (behind before : List ℕ) (i : ℕ) → length before ≡ i * n
+    → each (λ i. row n (at n (before ++ (flatten l ++ behind)) i)) i (length l) ≡ l
 unfolding each flatten
 found-from n [] all-nil behind before i b = refl
 found-from n (r ∷ l) (all-cons e h) behind before i b =
@@ -100,7 +102,8 @@ unfolding matches bytes
 matches-none end g = refl
 matches-none (line css l) g = matches-none l g
 matches-none (word k l) g = matches-none l g
-matches-none (choose k is p q l) g = bytes-append (pick (is (g k)) (matches p g) (matches q g)) (matches l g) ∙ (λ i. go (is (g k)) (matches-none p g) (matches-none q g) i ++ matches-none l g i)
+matches-none (choose k is p q l) g =
+    bytes-append (pick (is (g k)) (matches p g) (matches q g)) (matches l g) ∙ (λ i. go (is (g k)) (matches-none p g) (matches-none q g) i ++ matches-none l g i)
   where
     go : (b : Bool) → bytes (matches p g) ≡ [] → bytes (matches q g) ≡ [] → bytes (pick b (matches p g) (matches q g)) ≡ []
     go true x y = x
@@ -200,7 +203,9 @@ module _ (x : Flat) where
   -- found in a table, it means what was read
   pub flat-again : (r : List ℕ) → flats .Fits r → (g : Columns) → row (x .columns) g ≡ r → flatMeans (x .columns) (x .layout) g ≡ r
   unfolding flats seen-as As-fits rows-of form-shown cells
-  flat-again r f g e = means-again (x .columns) (last (x .layout)) blank (flat-proper x) (flat-below x) (λ j h. refl) (r, tt) (f .0) g (on-all (last (x .layout)) (of r) g (row-on (x .columns) (form-all (last (x .layout))) (flat-below x) r g e))
+  flat-again r f g e =
+      means-again (x .columns) (last (x .layout)) blank (flat-proper x) (flat-below x) (λ j h. refl) (r, tt) (f .0) g
+      (on-all (last (x .layout)) (of r) g (row-on (x .columns) (form-all (last (x .layout))) (flat-below x) r g e))
 
   pub flat-spells : (g : Columns) → clean (flatActs (x .layout) g) ≡ true → Spells flats (flatActs (x .layout) g) (flatMeans (x .columns) (x .layout) g)
   unfolding flats seen-as As-fits form-shown form-matches woven cells matched clean bytes rows-of Holes
@@ -214,7 +219,9 @@ module _ (x : Flat) where
   pub flat-ready : (r : List ℕ) → flats .Fits r → clean (flats .acts r) ≡ true → (g : Columns) → row (x .columns) g ≡ r → clean (flatActs (x .layout) g) ≡ true
   unfolding flats seen-as As-fits rows-of form-shown form-matches woven cells matched clean Cleans
   flat-ready r f e g q =
-      let y = row-ready (x .columns) (last (x .layout)) blank (flat-proper x) (flat-below x) (λ j h. refl) (r, tt) (f .0) e g (on-all (last (x .layout)) (of r) g (row-on (x .columns) (form-all (last (x .layout))) (flat-below x) r g q)) in
+      let y =
+      row-ready (x .columns) (last (x .layout)) blank (flat-proper x) (flat-below x) (λ j h. refl) (r, tt) (f .0) e g
+      (on-all (last (x .layout)) (of r) g (row-on (x .columns) (form-all (last (x .layout))) (flat-below x) r g q)) in
       let (a, b) = sound-both (shown (x .layout) g) g (y .fit .0) in
       both-and a (both-and b (clean-append (matches (x .layout) g) (writes (x .layout) g) ∙ both-and (y .fit .1) (y .sound tt tt)))
 
@@ -233,7 +240,8 @@ broken-form b m = hole (b .head) (b .count) (list m) (last (b .tail))
 unfoldable pub nest-test : Broken → Bool
 nest-test b =
     proper [] (b .head) && (not (has (b .count) (all (b .tail))) && (free (all (b .head)) (all (b .tail)) && proper (sure (b .head) ++ []) (b .tail)))
-    && (below (b .width) (all (b .head) ++ all (b .tail)) && (has (b .count) (sure (b .head)) && (not (has (b .first) (all (b .head) ++ all (b .tail))) && (below (b .width) (b .first ∷ b .count ∷ []) && (not (eqb (b .count) (b .first)) && leb 1 (weight (b .head)))))))
+    &&
+    (below (b .width) (all (b .head) ++ all (b .tail)) && (has (b .count) (sure (b .head)) && (not (has (b .first) (all (b .head) ++ all (b .tail))) && (below (b .width) (b .first ∷ b .count ∷ []) && (not (eqb (b .count) (b .first)) && leb 1 (weight (b .head)))))))
 
 module _ {A C : Type 0} (b : Broken) (m : Codec A C) (t : nest-test b ≡ true) where
   pub record Nest-tests : Type 0 where
@@ -248,7 +256,8 @@ module _ {A C : Type 0} (b : Broken) (m : Codec A C) (t : nest-test b ≡ true) 
   pub nest-tests : Nest-tests
   unfolding nest-test form-proper form-all
   nest-tests =
-      let (p₀, p₁) = and-both (proper [] (b .head) && (not (has (b .count) (all (b .tail))) && (free (all (b .head)) (all (b .tail)) && proper (sure (b .head) ++ []) (b .tail)))) _ t in
+      let (p₀, p₁) =
+      and-both (proper [] (b .head) && (not (has (b .count) (all (b .tail))) && (free (all (b .head)) (all (b .tail)) && proper (sure (b .head) ++ []) (b .tail)))) _ t in
       let (p₂, p₃) = and-both (below (b .width) (all (b .head) ++ all (b .tail))) _ p₁ in
       let (p₄, p₅) = and-both (has (b .count) (sure (b .head))) _ p₃ in
       let (p₆, p₇) = and-both (not (has (b .first) (all (b .head) ++ all (b .tail)))) _ p₅ in
@@ -270,7 +279,9 @@ module _ {A C : Type 0} (b : Broken) (m : Codec A C) (t : nest-test b ≡ true) 
 
   unfoldable pub breaks : Codec (List ℕ × List A) (List ℕ × List C)
   unfolding rows-of form-means list
-  breaks = seen-as with-unit (λ v. (v .0, v .1 .0)) (broken b (m .read)) broken-same (λ v. flatMap (m .spans) (v .1)) broken-spans (λ s v. (v .0, map (m .means s) (v .1))) (λ c. (c .0, c .1 .0)) (λ d. (d .0, (d .1, tt)))
+  breaks =
+      seen-as with-unit (λ v. (v .0, v .1 .0)) (broken b (m .read)) broken-same (λ v. flatMap (m .spans) (v .1)) broken-spans (λ s v. (v .0, map (m .means s) (v .1)))
+      (λ c. (c .0, c .1 .0)) (λ d. (d .0, (d .1, tt)))
       (λ s v. refl) (λ c f e. refl)
 
   -- found in its table, with its first row besides
@@ -284,11 +295,15 @@ module _ {A C : Type 0} (b : Broken) (m : Codec A C) (t : nest-test b ≡ true) 
       go true z = clash (subst (λ (k : ℕ). has k (form-all (broken-form b m)) ≡ true) (eqb-true j (b .first) z) h) (nest-tests b m t .starts-so)
       go false z = refl
 
-  pub broken-again : (c : List ℕ × List C) → breaks .Fits c → (g : Columns) → On (form-all (broken-form b m)) (of (c .0)) g → row (b .width) (mix (columns (cells (layouts b) g)) g blank) ≡ c .0
+  pub broken-again : (c : List ℕ × List C) → breaks .Fits c → (g : Columns) → On (form-all (broken-form b m)) (of (c .0)) g
+      → row (b .width) (mix (columns (cells (layouts b) g)) g blank) ≡ c .0
   unfolding breaks seen-as As-fits rows-of form-shown cells
-  broken-again c f g o = means-again (b .width) (broken-form b m) blank (nest-tests b m t .proper-so) (nest-tests b m t .below-so) (λ j h. refl) (c .0, (c .1, tt)) (f .0) g (on-all (broken-form b m) (of (c .0)) g o)
+  broken-again c f g o =
+      means-again (b .width) (broken-form b m) blank (nest-tests b m t .proper-so) (nest-tests b m t .below-so) (λ j h. refl) (c .0, (c .1, tt)) (f .0) g
+      (on-all (broken-form b m) (of (c .0)) g o)
 
-  pub broken-spells : (room : ℕ) (kid : ℕ → List Act) (v : ℕ → C) → ((i : ℕ) → clean (kid i) ≡ true → Spells m (kid i) (v i)) → (g : Columns) → clean (brokenActs b room kid g) ≡ true
+  pub broken-spells : (room : ℕ) (kid : ℕ → List Act) (v : ℕ → C) → ((i : ℕ) → clean (kid i) ≡ true → Spells m (kid i) (v i)) → (g : Columns)
+      → clean (brokenActs b room kid g) ≡ true
       → Spells breaks (brokenActs b room kid g) (brokenMeans b v g)
   unfolding breaks seen-as As-fits form-shown form-matches woven cells matched clean bytes rows-of Holes
   broken-spells room kid v h g e =
@@ -301,19 +316,24 @@ module _ {A C : Type 0} (b : Broken) (m : Codec A C) (t : nest-test b ≡ true) 
       let (e₄, _) = clean-both (rows kid (g (b .first)) (g (b .count))) _ e₃ in
       let y = spells-rows m kid v h (g (b .first)) (g (b .count)) e₄ in
       let ks = columns (shown (b .head) g ++ shown (b .tail) g) in
-      let k : mix ks g blank (b .count) ≡ g (b .count) = sure-shown (b .head) g (cells-on (shown (b .head) g) (shown (b .tail) g) (mix-in ks g blank) .0) (b .count) (nest-tests b m t .counts-so) in
+      let k : mix ks g blank (b .count) ≡ g (b .count) =
+      sure-shown (b .head) g (cells-on (shown (b .head) g) (shown (b .tail) g) (mix-in ks g blank) .0) (b .count) (nest-tests b m t .counts-so) in
       let y′ = subst (λ (n : ℕ). Spells (list m n) (rows kid (g (b .first)) (g (b .count))) (each v (g (b .first)) (g (b .count)))) (sym k) y in
-      let s = row-spells (b .width) x blank (nest-tests b m t .proper-so) (nest-tests b m t .below-so) (λ j h. refl) g (rows kid (g (b .first)) (g (b .count)), tt) (each v (g (b .first)) (g (b .count)), tt) (both-sound (shown (b .head) g ++ shown (b .tail) g) g d f, w) e₂ (y′, tt) in
+      let s =
+      row-spells (b .width) x blank (nest-tests b m t .proper-so) (nest-tests b m t .below-so) (λ j h. refl) g (rows kid (g (b .first)) (g (b .count)), tt)
+      (each v (g (b .first)) (g (b .count)), tt) (both-sound (shown (b .head) g ++ shown (b .tail) g) g d f, w) e₂ (y′, tt) in
       record { fits = (s .fits, refl); sound = s .sound; same = after-demands (layouts b) g _ ∙ s .same }
 
-  pub broken-ready : (c : List ℕ × List C) → breaks .Fits c → clean (breaks .acts c) ≡ true → (g : Columns) → On (form-all (broken-form b m)) (of (c .0)) g → (room : ℕ) (kid : ℕ → List Act)
+  pub broken-ready : (c : List ℕ × List C) → breaks .Fits c → clean (breaks .acts c) ≡ true → (g : Columns) → On (form-all (broken-form b m)) (of (c .0)) g
+      → (room : ℕ) (kid : ℕ → List Act)
       → g (b .first) + g (b .count) ≤ room → clean (rows kid (g (b .first)) (g (b .count))) ≡ true → clean (brokenActs b room kid g) ≡ true
   unfolding breaks seen-as As-fits rows-of form-shown form-matches woven cells matched clean Cleans
   broken-ready c f e g o room kid l h =
       let x = broken-form b m in
       let y = row-ready (b .width) x blank (nest-tests b m t .proper-so) (nest-tests b m t .below-so) (λ j h. refl) (c .0, (c .1, tt)) (f .0) e g (on-all x (of (c .0)) g o) in
       let (p, q) = sound-both (shown (b .head) g ++ shown (b .tail) g) g (y .fit .0) in
-      both-and (le-leb _ _ l) (both-and p (both-and q (clean-append (matches (b .head) g ++ matches (b .tail) g) _ ∙ both-and (y .fit .1) (y .sound (rows kid (g (b .first)) (g (b .count)), tt) (h, tt)))))
+      both-and (le-leb _ _ l)
+      (both-and p (both-and q (clean-append (matches (b .head) g ++ matches (b .tail) g) _ ∙ both-and (y .fit .1) (y .sound (rows kid (g (b .first)) (g (b .count)), tt) (h, tt)))))
 
   -- its count, its rows and their actions
   pub record Kids (c : List ℕ × List C) : Type 0 where
@@ -332,7 +352,8 @@ module _ {A C : Type 0} (b : Broken) (m : Codec A C) (t : nest-test b ≡ true) 
   pub broken-columns : (c : List ℕ × List C) → breaks .Fits c → clean (breaks .acts c) ≡ true → (i : ℕ) → i < 65536 → Every Column (brokenRow b (i, c))
   unfolding breaks seen-as As-fits rows-of
   broken-columns c f e i l =
-      let h = row-columns (b .width) (broken-form b m) blank (nest-tests b m t .proper-so) (nest-tests b m t .below-so) (λ j h. refl) (λ j. omega arith) (c .0, (c .1, tt)) (f .0) e in
+      let h =
+      row-columns (b .width) (broken-form b m) blank (nest-tests b m t .proper-so) (nest-tests b m t .below-so) (λ j h. refl) (λ j. omega arith) (c .0, (c .1, tt)) (f .0) e in
       each-every Column (set (b .first) i (of (c .0))) 0 (b .width) (λ j. go j (eqb j (b .first)) (h j))
     where
       go : (j : ℕ) (x : Bool) → getD (c .0) j 0 < 65536 → pick x i (of (c .0) j) < 65536
@@ -367,13 +388,19 @@ module _ (x : Flat) (t : List ℕ) (i k : ℕ) (rs : List (List ℕ)) (e : each 
   stands = e ∙ sym (map-id rs)
 
   pub rows-again : Every (Good (flats x)) rs → each (λ i. flatMeans (x .columns) (x .layout) (at (x .columns) t i)) i k ≡ rs
-  rows-again h = each-as (Good (flats x)) (λ r. r) (λ i. row (x .columns) (at (x .columns) t i)) (λ i. flatMeans (x .columns) (x .layout) (at (x .columns) t i)) (λ r. r) (λ i r q h. flat-again x r (h .0) (at (x .columns) t i) q) i k rs stands h ∙ map-id rs
+  rows-again h =
+      each-as (Good (flats x)) (λ r. r) (λ i. row (x .columns) (at (x .columns) t i)) (λ i. flatMeans (x .columns) (x .layout) (at (x .columns) t i)) (λ r. r)
+      (λ i r q h. flat-again x r (h .0) (at (x .columns) t i) q) i k rs stands h
+      ∙ map-id rs
 
   pub rows-ready : Every (Good (flats x)) rs → clean (rows (λ i. flatActs (x .layout) (at (x .columns) t i)) i k) ≡ true
-  rows-ready h = each-clean (Good (flats x)) (λ r. r) (λ i. row (x .columns) (at (x .columns) t i)) (λ i. flatActs (x .layout) (at (x .columns) t i)) (λ i r q h. flat-ready x r (h .0) (h .1) (at (x .columns) t i) q) i k rs stands h
+  rows-ready h =
+      each-clean (Good (flats x)) (λ r. r) (λ i. row (x .columns) (at (x .columns) t i)) (λ i. flatActs (x .layout) (at (x .columns) t i))
+      (λ i r q h. flat-ready x r (h .0) (h .1) (at (x .columns) t i) q) i k rs stands h
 
 -- each list of rows, from its first row on
-pub kids-stand : {X : Type 0} (f : ℕ → List ℕ) (kids : X → List (List ℕ)) (xs : List X) (n : ℕ) → each f n (length (flatMap kids xs)) ≡ flatMap kids xs → Every (λ (q : ℕ × X). each f (q .0) (length (kids (q .1))) ≡ kids (q .1)) (firsts (λ x. length (kids x)) n xs)
+pub kids-stand : {X : Type 0} (f : ℕ → List ℕ) (kids : X → List (List ℕ)) (xs : List X) (n : ℕ) → each f n (length (flatMap kids xs)) ≡ flatMap kids xs
+    → Every (λ (q : ℕ × X). each f (q .0) (length (kids (q .1))) ≡ kids (q .1)) (firsts (λ x. length (kids x)) n xs)
 unfolding firsts flatMap
 kids-stand f kids [] n e = all-nil
 kids-stand f kids (x ∷ xs) n e = let (a, b) = each-split f (kids x) (flatMap kids xs) n e in all-cons a (kids-stand f kids xs (n + length (kids x)) b)
@@ -392,7 +419,8 @@ weighs (line css l) f g at bs (seen xs r n q t) = omega (arith, weighs l _ g _ r
 weighs (word k l) f g at bs t =
     let u = looked t in
     let v = looked (u .on) in
-    omega (arith, weighs l _ g _ (v .back) (v .on), u .long, v .long, ap length (u .joined) ∙ length-append (u .front) (u .back), ap length (v .joined) ∙ length-append (v .front) (v .back))
+    omega
+    (arith, weighs l _ g _ (v .back) (v .on), u .long, v .long, ap length (u .joined) ∙ length-append (u .front) (u .back), ap length (v .joined) ∙ length-append (v .front) (v .back))
 weighs (choose k is p q l) f g at bs t = let u = takes-split (pick (is (f k)) (reads p f) (reads q f)) (λ x. reads l x) t in omega (arith, weighs l (u .value) g _ (u .back) (u .second), ap length (u .joined) ∙ length-append (u .front) (u .back))
 weighs (follows c j tb x l) f g at bs t = weighs l _ g at bs t
 weighs (judged p l) f g at bs t =
@@ -406,7 +434,8 @@ pub flat-grows : (n : ℕ) (l : Layout) (at : ℕ) (r bs : List ℕ) → Takes (
 flat-grows n l at r bs t = let (g, e, u) = map-takes (reads l blank) (λ g. row n g) t in subst (Wide n) e (each-length g 0 n)
 
 -- a number of each element that its bytes bound
-pub listed-sum : {A : Type 0} (p : Prog A) (f : A → ℕ) → ((at : ℕ) (x : A) (bs : List ℕ) → Takes p at x bs → f x ≤ length bs) → {k at : ℕ} {l : List A} {bs : List ℕ} → Listed p k at l bs → sum f l ≤ length bs
+pub listed-sum : {A : Type 0} (p : Prog A) (f : A → ℕ) → ((at : ℕ) (x : A) (bs : List ℕ) → Takes p at x bs → f x ≤ length bs) → {k at : ℕ} {l : List A} {bs : List ℕ}
+    → Listed p k at l bs → sum f l ≤ length bs
 unfolding sum
 listed-sum p f h no-more = omega arith
 listed-sum p f h (one-more {at = at} {x = x} {front = front} {back = back} t r) = omega (arith, h at x front t, listed-sum p f h r, length-append front back)
@@ -484,18 +513,22 @@ module _ (nest : Nest) where
   good-kids x g = let k = broken-kids b (flats (nest .kid)) (nest .passes) x (g .0) (g .1) in good-list (flats (nest .kid)) (x .1) (k .fit) (k .sound)
 
   pub kids-wide : (xs : List Family) → Every (Good families) xs → Every (Wide n) (kids xs)
-  kids-wide xs h = every-flat (λ (x : Family). x .1) (Wide n) xs (every-as (Good families) (λ x. Every (Wide n) (x .1)) (λ x g. every-as (Good (flats (nest .kid))) (Wide n) (λ r k. flat-wide (nest .kid) r (k .0)) (good-kids x g)) h)
+  kids-wide xs h =
+      every-flat (λ (x : Family). x .1) (Wide n) xs
+      (every-as (Good families) (λ x. Every (Wide n) (x .1)) (λ x g. every-as (Good (flats (nest .kid))) (Wide n) (λ r k. flat-wide (nest .kid) r (k .0)) (good-kids x g)) h)
 
   pub kids-columns : (xs : List Family) → Every (Good families) xs → Every (Every Column) (kids xs)
   kids-columns xs h =
-      every-flat (λ (x : Family). x .1) (Every Column) xs (every-as (Good families) (λ x. Every (Every Column) (x .1)) (λ x g. every-as (Good (flats (nest .kid))) (Every Column) (λ r k. flat-columns (nest .kid) r (k .0) (k .1)) (good-kids x g)) h)
+      every-flat (λ (x : Family). x .1) (Every Column) xs
+      (every-as (Good families) (λ x. Every (Every Column) (x .1)) (λ x g. every-as (Good (flats (nest .kid))) (Every Column) (λ r k. flat-columns (nest .kid) r (k .0) (k .1)) (good-kids x g)) h)
 
   pub parents-columns : (xs : List Family) → Every (Good families) xs → length (kids xs) < 65536 → Every (Every Column) (parents b xs)
   parents-columns xs h few =
       let F : ℕ × Family → Type 0 = λ y. Good families (y .1) in
       let B : ℕ × Family → Type 0 = λ y. y .0 + size (y .1) ≤ 0 + sum size xs in
       let k : sum size xs < 65536 = omega (arith, few, flat-length (λ (x : Family). x .1) xs) in
-      every-map (brokenRow b) (Every Column) (firsts size 0 xs) (every-as (λ y. F y × B y) (λ y. Every Column (brokenRow b y)) (λ y g. broken-columns b (flats (nest .kid)) (nest .passes) (y .1) (g .0 .0) (g .0 .1) (y .0) (omega (arith, g .1, k)))
+      every-map (brokenRow b) (Every Column) (firsts size 0 xs)
+      (every-as (λ y. F y × B y) (λ y. Every Column (brokenRow b y)) (λ y g. broken-columns b (flats (nest .kid)) (nest .passes) (y .1) (g .0 .0) (g .0 .1) (y .0) (omega (arith, g .1, k)))
       (every-and F B (every-firsts size 0 (Good families) xs h) (firsts-below size 0 xs)))
 
   -- cols are the columns of row i, as writing reads them
@@ -517,7 +550,10 @@ module _ (nest : Nest) where
 
     -- they mean what was read
     pub families-mean : Every (Good families) xs → each (λ i. familyMeansOf b n l lower (cols i)) 0 (length xs) ≡ xs
-    families-mean h = each-as Standing (brokenRow b) (λ i. row (b .width) (cols i)) (λ i. familyMeansOf b n l lower (cols i)) (λ y. y .1) one 0 (length xs) (firsts size 0 xs) stand (standing h (kids-wide xs h)) ∙ firsts-back size 0 xs
+    families-mean h =
+        each-as Standing (brokenRow b) (λ i. row (b .width) (cols i)) (λ i. familyMeansOf b n l lower (cols i)) (λ y. y .1) one 0 (length xs) (firsts size 0 xs) stand
+        (standing h (kids-wide xs h))
+        ∙ firsts-back size 0 xs
       where
         one : (i : ℕ) (y : ℕ × Family) → row (b .width) (cols i) ≡ brokenRow b y → Standing y → familyMeansOf b n l lower (cols i) ≡ y .1
         one i y e h =
@@ -526,7 +562,9 @@ module _ (nest : Nest) where
             let k = broken-kids b m (nest .passes) (y .1) (h .0 .0 .0) (h .0 .0 .1) in
             let r = ranged (y .0) (y .1) g e (k .counted) in
             let a = broken-again b m (nest .passes) (y .1) (h .0 .0 .0) g (broken-on b m (nest .passes) (y .0) (y .1) g e) in
-            let c = (λ j. each (λ i. flatMeans n l (at n lower i)) (r .first j) (r .count j)) ∙ rows-again (nest .kid) lower (y .0) (size (y .1)) (y .1 .1) (h .1) (good-list m (y .1 .1) (k .fit) (k .sound)) in
+            let c =
+            (λ j. each (λ i. flatMeans n l (at n lower i)) (r .first j) (r .count j))
+            ∙ rows-again (nest .kid) lower (y .0) (size (y .1)) (y .1 .1) (h .1) (good-list m (y .1 .1) (k .fit) (k .sound)) in
             λ j. (a j, c j)
 
     -- and are written without a fault
@@ -534,7 +572,8 @@ module _ (nest : Nest) where
     families-sound h =
         let wide = kids-wide xs h in
         let room : sum size xs ≤ length lower / n = omega (arith, room-for n (kids xs) beneath (flat-positive (nest .kid) .0) wide, flat-length (λ (x : Family). x .1) xs) in
-        each-clean Standing (brokenRow b) (λ i. row (b .width) (cols i)) (λ i. familyActsOf b n l lower (cols i)) (λ i y e h. one room i y e h) 0 (length xs) (firsts size 0 xs) stand (standing h wide)
+        each-clean Standing (brokenRow b) (λ i. row (b .width) (cols i)) (λ i. familyActsOf b n l lower (cols i)) (λ i y e h. one room i y e h) 0 (length xs)
+        (firsts size 0 xs) stand (standing h wide)
       where
         one : sum size xs ≤ length lower / n → (i : ℕ) (y : ℕ × Family) → row (b .width) (cols i) ≡ brokenRow b y → Standing y → clean (familyActsOf b n l lower (cols i)) ≡ true
         one room i y e h =
@@ -543,8 +582,10 @@ module _ (nest : Nest) where
             let k = broken-kids b m (nest .passes) (y .1) (h .0 .0 .0) (h .0 .0 .1) in
             let r = ranged (y .0) (y .1) g e (k .counted) in
             let c = rows-ready (nest .kid) lower (y .0) (size (y .1)) (y .1 .1) (h .1) (good-list m (y .1 .1) (k .fit) (k .sound)) in
-            let c′ : clean (rows (λ i. flatActs l (at n lower i)) (g (b .first)) (g (b .count))) ≡ true = (λ j. clean (rows (λ i. flatActs l (at n lower i)) (r .first j) (r .count j))) ∙ c in
-            broken-ready b m (nest .passes) (y .1) (h .0 .0 .0) (h .0 .0 .1) g (broken-on b m (nest .passes) (y .0) (y .1) g e) (length lower / n) (λ i. flatActs l (at n lower i)) (omega (arith, h .0 .1, r .first, r .count, room)) c′
+            let c′ : clean (rows (λ i. flatActs l (at n lower i)) (g (b .first)) (g (b .count))) ≡ true =
+            (λ j. clean (rows (λ i. flatActs l (at n lower i)) (r .first j) (r .count j))) ∙ c in
+            broken-ready b m (nest .passes) (y .1) (h .0 .0 .0) (h .0 .0 .1) g (broken-on b m (nest .passes) (y .0) (y .1) g e) (length lower / n)
+            (λ i. flatActs l (at n lower i)) (omega (arith, h .0 .1, r .first, r .count, room)) c′
 
   -- stored as the rows of a table
   module _ (xs : List Family) (behind beneath : List ℕ) where
@@ -556,4 +597,5 @@ module _ (nest : Nest) where
     parents-room z = omega (arith, room-for (b .width) (parents b xs) behind z (parents-wide xs), parents-long xs)
 
     pub parents-found : each (λ i. row (b .width) (at (b .width) table i)) 0 (length xs) ≡ parents b xs
-    parents-found = subst (λ (m : ℕ). each (λ i. row (b .width) (at (b .width) table i)) 0 m ≡ parents b xs) (parents-long xs) (found (b .width) (parents b xs) (parents-wide xs) behind)
+    parents-found =
+        subst (λ (m : ℕ). each (λ i. row (b .width) (at (b .width) table i)) 0 m ≡ parents b xs) (parents-long xs) (found (b .width) (parents b xs) (parents-wide xs) behind)

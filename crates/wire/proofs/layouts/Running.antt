@@ -33,7 +33,8 @@ module _ (nest : Nest) (first-so : (n : ℕ) (x : Family) → getD (brokenRow (n
       (subst (RunsOn b (n + length (x .1)) (map (brokenRow b) (firsts (λ x. length (x .1)) (n + length (x .1)) xs))) k (run-on (n + length (x .1)) xs r)))
 
   -- in their table
-  pub runs-on : (xs : List Family) (behind : List ℕ) {count : ℕ} → count ≡ length xs → Every (Told b) xs → RunsOn b 0 (each (λ i. row (b .width) (at (b .width) (flatten (parents b xs) ++ behind) i)) 0 count) (length (kids xs))
+  pub runs-on : (xs : List Family) (behind : List ℕ) {count : ℕ} → count ≡ length xs → Every (Told b) xs
+      → RunsOn b 0 (each (λ i. row (b .width) (at (b .width) (flatten (parents b xs) ++ behind) i)) 0 count) (length (kids xs))
   runs-on xs behind n h =
       subst (λ (k : ℕ). RunsOn b 0 (each (λ i. row (b .width) (at (b .width) (flatten (parents b xs) ++ behind) i)) 0 k) (length (kids xs))) (sym n)
       (subst (λ (l : List (List ℕ)). RunsOn b 0 l (length (kids xs))) (sym (parents-found nest xs behind [])) (subst (RunsOn b 0 (parents b xs)) (zero-add (length (kids xs))) (run-on 0 xs h)))

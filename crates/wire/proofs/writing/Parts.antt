@@ -26,7 +26,8 @@ module _ (b : Bool) (front rest : List Act) where
 
   module _ {n : ℕ} {l : List ℕ} where
     pub part-begins : b ≡ true → Ready (when b (front ++ rest)) n l → Filling (when b (front ++ rest)) (when true front ++ rest) n l n l
-    part-begins t r = subst (λ (b : Bool). Filling (when b (front ++ rest)) (front ++ rest) n l n l) (sym t) (fill-start (subst (λ (b : Bool). Ready (when b (front ++ rest)) n l) t r))
+    part-begins t r =
+        subst (λ (b : Bool). Filling (when b (front ++ rest)) (front ++ rest) n l n l) (sym t) (fill-start (subst (λ (b : Bool). Ready (when b (front ++ rest)) n l) t r))
 
 -- it is not there
 pub part-absent : (b : Bool) (q : List Act) (k : ℕ) (p : Pen) → b ≡ false → Checked (when b q) k p p

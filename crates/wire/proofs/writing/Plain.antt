@@ -143,11 +143,14 @@ module _ (acts : List Act) (fss : List (List Field)) (e : acts ≡ lineActs fss)
 
   module _ {vs : List ℕ} (s : Spelt fss vs) where
     pub line-checked : {p r : Pen} → ChecksAll true vs p r → Checked acts (length fss) p r
-    line-checked {p} {r} w = subst (λ (q : List Act). Checked q (length fss) p r) (sym e) (more (length fss) (then (met F.Field p) (then (met F.Empty p) (all-checked s w))) (omega arith))
+    line-checked {p} {r} w =
+        subst (λ (q : List Act). Checked q (length fss) p r) (sym e) (more (length fss) (then (met F.Field p) (then (met F.Empty p) (all-checked s w))) (omega arith))
 
     module _ {n : ℕ} {l : List ℕ} (w : Ready acts n l) where
       line-left : Filling (lineActs fss) (map byte fss ++ []) n l n l
-      line-left = subst (λ (q : List Act). Filling (lineActs fss) q n l n l) (sym (append-nil (map byte fss))) (fill-demand (fill-demand (fill-start (subst (λ (q : List Act). Ready q n l) e w))))
+      line-left =
+          subst (λ (q : List Act). Filling (lineActs fss) q n l n l) (sym (append-nil (map byte fss)))
+          (fill-demand (fill-demand (fill-start (subst (λ (q : List Act). Ready q n l) e w))))
 
       pub line-ready : ReadyAll true vs n l
       line-ready = ready-part [] {there = true} s line-left

@@ -20,8 +20,10 @@ begun s at e h = record { same = ap (λ (b : Bool). run (sets b) s at) e; inside
 abbrev start-1 : tie.After-known-told → tie.Start
 start-1 c = c .before .before .before .before .before .before
 
-counted : (c : tie.After-known-told) → From (sets (start-1 c .args .absent)) (start-1 c .args .body .now) (start-1 c .args .at) (afterCount (c .before .a .given .0 .0)) (c .before .a .given .0 .1 .0)
-counted c = onward u8 _ (begun _ _ (c .before .before .before .before .if1 .left) (start-1 c .pre)) (c .before .before .before .byte-at .ensures .is) (ap byteOut (c .before .a .given .1))
+counted : (c : tie.After-known-told)
+    → From (sets (start-1 c .args .absent)) (start-1 c .args .body .now) (start-1 c .args .at) (afterCount (c .before .a .given .0 .0)) (c .before .a .given .0 .1 .0)
+counted c =
+    onward u8 _ (begun _ _ (c .before .before .before .before .if1 .left) (start-1 c .pre)) (c .before .before .before .byte-at .ensures .is) (ap byteOut (c .before .a .given .1))
 
 returns : tie.Need-returns
 unfolding sets run

@@ -12,7 +12,8 @@ use borrow.Author.Needs.{needs}
 use Rattle.base.proofs.writing.check_sets.Statement.{statement}
 use Rattle.base.proofs.writing.check_sets.Tie as tie
 
-counted : (c : tie.After-byte) → Checked (byte (field 8 (c .before .before .before .args .sets .indications .length) ∷ []) ∷ []) 1 (c .before .before .before .args .p) (c .byte .result)
+counted : (c : tie.After-byte)
+    → Checked (byte (field 8 (c .before .before .before .args .sets .indications .length) ∷ []) ∷ []) 1 (c .before .before .before .args .p) (c .byte .result)
 counted c = c .byte .ensures .of (field 8 _ ∷ []) (c .before .fits2 .ensures ∙ fit-one 8 _)
 
 fits-requires : tie.Need-fits-requires

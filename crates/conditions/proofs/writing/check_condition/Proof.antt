@@ -16,8 +16,11 @@ use borrow.Author.Needs.{needs}
 use Rattle.conditions.proofs.writing.check_condition.Statement.{statement}
 use Rattle.conditions.proofs.writing.check_condition.Tie as tie
 
-step-1 : (c : tie.After-check-all) → Checked (demand F.Field (flagsOf (conditionCols (c .before .before .before .before .before .before .args .c))) ∷ demand F.Empty true ∷ map byte (idBytes (conditionCols (c .before .before .before .before .before .before .args .c)))) 1 (At (c .before .before .before .before .before .before .args .n)) (c .check-all .result)
-step-1 c = then (rw (c .before .before .before .before .flags-hold .ensures) at (c .before .before .before .demand .ensures)) (then (met F.Empty _) (all-checked (more (c .before .before .two .ensures) none) (c .check-all .ensures)))
+step-1 : (c : tie.After-check-all)
+    → Checked (demand F.Field (flagsOf (conditionCols (c .before .before .before .before .before .before .args .c))) ∷ demand F.Empty true ∷ map byte (idBytes (conditionCols (c .before .before .before .before .before .before .args .c)))) 1 (At (c .before .before .before .before .before .before .args .n)) (c .check-all .result)
+step-1 c =
+    then (rw (c .before .before .before .before .flags-hold .ensures) at (c .before .before .before .demand .ensures))
+    (then (met F.Empty _) (all-checked (more (c .before .before .two .ensures) none) (c .check-all .ensures)))
 
 flags-hold-requires : tie.Need-flags-hold-requires
 flags-hold-requires c κs = search needs

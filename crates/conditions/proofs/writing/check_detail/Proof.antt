@@ -13,10 +13,12 @@ use borrow.Author.Needs.{needs}
 use Rattle.conditions.proofs.writing.check_detail.Statement.{statement}
 use Rattle.conditions.proofs.writing.check_detail.Tie as tie
 
-step-1 : (c : tie.After-check-all) → Checked (map byte (fieldsOf (detailCols (c .before .before .before .args .d)) (flagCells ∷ []))) 1 (c .before .before .before .args .p) (c .check-all .result)
+step-1 : (c : tie.After-check-all)
+    → Checked (map byte (fieldsOf (detailCols (c .before .before .before .args .d)) (flagCells ∷ []))) 1 (c .before .before .before .args .p) (c .check-all .result)
 step-1 c = all-checked (more (c .before .before .flags-of .ensures) none) (c .check-all .ensures)
 
-step-2 : (c : tie.After-check-all2) → Checked (when (eqb (c .before .before .before .before .before .before .before .args .d .gain .present) 1) (map byte (fieldsOf (detailCols (c .before .before .before .before .before .before .before .args .d)) gainCells))) 1 (c .before .before .before .before .check-all .result) (c .check-all2 .result)
+step-2 : (c : tie.After-check-all2)
+    → Checked (when (eqb (c .before .before .before .before .before .before .before .args .d .gain .present) 1) (map byte (fieldsOf (detailCols (c .before .before .before .before .before .before .before .args .d)) gainCells))) 1 (c .before .before .before .before .check-all .result) (c .check-all2 .result)
 step-2 c = all-checked (more (c .before .before .one .ensures) none) (c .check-all2 .ensures)
 
 flags-of-requires : tie.Need-flags-of-requires

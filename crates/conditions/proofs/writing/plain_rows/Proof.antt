@@ -11,7 +11,8 @@ use Rattle.conditions.proofs.writing.plain_rows.Statement.{statement}
 use Rattle.conditions.proofs.writing.plain_rows.Tie as tie
 
 abbrev Inv-loop : tie.InvT-loop
-Inv-loop conditions first count bytes₀ left₀ b₀ bytes left b = (left ≤ count) × (b ≡ (first + (count - left)) * 13) × Going (λ j. rowActs conditions (first + j)) 6 count (count - left) bytes
+Inv-loop conditions first count bytes₀ left₀ b₀ bytes left b =
+    (left ≤ count) × (b ≡ (first + (count - left)) * 13) × Going (λ j. rowActs conditions (first + j)) 6 count (count - left) bytes
 
 abbrev μ-loop : tie.MeasureT-loop
 μ-loop conditions first count bytes₀ left₀ b₀ bytes left b = left
@@ -38,7 +39,8 @@ returns c = search (odd-going, row-at)
 add-bytes : tie.Need-add-bytes Inv-loop μ-loop
 add-bytes c =
     let z = c .before .before .before in let l = c .if1 .left in
-    search (needs, turn-going (z .loop .left) (z .loop .inv .2) _ (row-at (z .before .before .args .conditions .now) (z .loop .b) _ (z .loop .inv .1)) (c .before .plain-bytes .ensures) (z .loop .inv .0) (c .before .before .loop-test .taken) (omega (arith, l)))
+    search
+    (needs, turn-going (z .loop .left) (z .loop .inv .2) _ (row-at (z .before .before .args .conditions .now) (z .loop .b) _ (z .loop .inv .1)) (c .before .plain-bytes .ensures) (z .loop .inv .0) (c .before .before .loop-test .taken) (omega (arith, l)))
 
 sub-left : tie.Need-sub-left Inv-loop μ-loop
 sub-left c =

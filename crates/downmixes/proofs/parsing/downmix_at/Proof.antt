@@ -33,7 +33,8 @@ part-requires-4 c κs = search needs
 returns : tie.Need-returns
 returns c =
     let z = c .before .before in
-    rw (c .part4 .ensures, c .before .part3 .ensures, z .part2 .ensures, z .before .part .ensures, z .before .before .wide2 .ensures, z .before .before .before .before .wide .ensures)
+    rw
+    (c .part4 .ensures, c .before .part3 .ensures, z .part2 .ensures, z .before .part .ensures, z .before .before .wide2 .ensures, z .before .before .before .before .wide .ensures)
 
 pub downmix-at-spec : {M : Type 1} → statement M
 downmix-at-spec =

@@ -20,21 +20,28 @@ cast-fill-instructions c = search needs
 
 fill-instructions-requires : tie.Need-fill-instructions-requires
 fill-instructions-requires c κs =
-    instructions-ask (c .before .before .before .before .before .before .before .before .before .before .before .pre .0) (c .before .before .before .before .before .before .before .before .before .before .before .pre .1) _ _ _ _ (c .before .before .before .before .before .before .before .before .before .before .before .pre .2) (ap (λ (i : Info). i .part) (c .before .before .before .before .before .info-at .ensures)) (c .before .before .before .rows-at .ensures)
+    instructions-ask (c .before .before .before .before .before .before .before .before .before .before .before .pre .0)
+    (c .before .before .before .before .before .before .before .before .before .before .before .pre .1) _ _ _ _
+    (c .before .before .before .before .before .before .before .before .before .before .before .pre .2)
+    (ap (λ (i : Info). i .part) (c .before .before .before .before .before .info-at .ensures)) (c .before .before .before .rows-at .ensures)
 
 cast-fill-entries : tie.Need-cast-fill-entries
 cast-fill-entries c = search needs
 
 fill-entries-requires : tie.Need-fill-entries-requires
 fill-entries-requires c κs =
-    entries-ask (c .before .before .before .before .before .before .before .before .before .before .before .before .before .before .before .before .before .before .pre .0) (c .before .before .before .before .before .before .before .before .before .before .before .before .before .before .before .before .before .before .pre .1) _ _ _ _ (c .before .before .before .before .before .before .before .before .before .before .before .before .before .before .before .before .before .before .pre .2) (ap (λ (i : Info). i .part) (c .before .before .before .before .before .before .before .before .before .before .before .before .info-at .ensures))
+    let z = c .before .before .before .before .before .before .before .before .before .before .before .before in
+    let y = z .before .before .before .before .before .before in
+    entries-ask (y .pre .0) (y .pre .1) _ _ _ _ (y .pre .2) (ap (λ (i : Info). i .part) (z .info-at .ensures))
 
 cast-fill-downmixes : tie.Need-cast-fill-downmixes
 cast-fill-downmixes c = search needs
 
 fill-downmixes-requires : tie.Need-fill-downmixes-requires
 fill-downmixes-requires c κs =
-    downmixes-ask (c .before .before .before .before .before .before .before .before .before .before .before .before .before .before .before .before .before .before .before .before .before .before .before .pre .0) (c .before .before .before .before .before .before .before .before .before .before .before .before .before .before .before .before .before .before .before .before .before .before .before .pre .1) _ _ _ _ (c .before .before .before .before .before .before .before .before .before .before .before .before .before .before .before .before .before .before .before .before .before .before .before .pre .2) (ap (λ (i : Info). i .part) (c .before .before .before .before .before .before .before .before .before .before .before .before .before .before .before .before .before .info-at .ensures))
+    let z = c .before .before .before .before .before .before .before .before .before .before .before .before .before .before .before .before .before in
+    let y = z .before .before .before .before .before .before in
+    downmixes-ask (y .pre .0) (y .pre .1) _ _ _ _ (y .pre .2) (ap (λ (i : Info). i .part) (z .info-at .ensures))
 
 same-length : tie.Need-same-length
 same-length c = search needs
@@ -50,7 +57,12 @@ same-length-4 c = search needs
 
 returns : tie.Need-returns
 returns c =
-    stored (c .before .before .before .before .before .before .before .before .before .before .before .before .before .before .before .before .before .before .before .before .before .before .before .before .before .before .pre .0) (c .before .before .before .before .before .before .before .before .before .before .before .before .before .before .before .before .before .before .before .before .before .before .before .before .before .before .pre .1) _ _ _ _ (ap (λ (i : Info). i .part) (c .before .before .before .before .before .before .before .before .before .before .before .before .before .before .before .before .before .before .before .before .info-at .ensures)) (c .before .before .before .before .before .before .before .before .before .before .before .before .before .before .before .before .before .before .rows-at .ensures) (c .before .before .before .before .before .before .before .before .before .before .before .before .before .before .before .before .before .before .before .before .before .before .before .before .before .before .pre .2) (c .before .before .before .before .before .before .before .before .before .before .before .before .before .before .fill-instructions .ensures) (c .before .before .before .before .before .before .before .fill-entries .ensures) (c .before .before .fill-downmixes .ensures)
+    let z = c .before .before .before .before .before .before .before in
+    let y = z .before .before .before .before .before .before .before in
+    let x = y .before .before .before .before in
+    let w = x .before .before .before .before .before .before .before .before in
+    stored (w .pre .0) (w .pre .1) _ _ _ _ (ap (λ (i : Info). i .part) (x .before .before .info-at .ensures)) (x .rows-at .ensures) (w .pre .2)
+    (y .fill-instructions .ensures) (z .fill-entries .ensures) (c .before .before .fill-downmixes .ensures)
 
 pub fill-spec : {M : Type 1} → statement M
 fill-spec =

@@ -20,11 +20,13 @@ short-requires c κs = search needs
 
 returns : tie.Need-returns
 returns c =
-    record { finds = head-shorts (c .before .before .before .before .before .args .body .now) (c .before .before .before .head-end .ensures) (ap endsOut (c .before .enum-told .given .1)) (c .short .ensures) }
+    let z = c .before .before .before .before .before in
+    record { finds = head-shorts (z .args .body .now) (c .before .before .before .head-end .ensures) (ap endsOut (c .before .enum-told .given .1)) (c .short .ensures) }
 
 walk-lists-requires : tie.Need-walk-lists-requires
 walk-lists-requires c κs =
-    info-read (begins (c .before .before .before .before .before .before .args .body .now) (c .before .before .before .before .head-end .ensures) (ap endsOut (c .before .before .h .given .1))) (c .if1 .taken)
+    let z = c .before .before .before .before in
+    info-read (begins (z .before .before .args .body .now) (z .head-end .ensures) (ap endsOut (c .before .before .h .given .1))) (c .if1 .taken)
 
 nowhere-requires : tie.Need-nowhere-requires
 nowhere-requires c κs = search needs
@@ -35,7 +37,8 @@ returns-2 c =
 
 returns-3 : tie.Need-returns-3
 returns-3 c =
-    record { finds = none-found (begins (c .before .before .before .before .before .before .before .args .body .now) (c .before .before .before .before .before .head-end .ensures) (ap endsOut (c .before .before .before .h .given .1))) (c .before .if1 .left) (c .nowhere .ensures) .found }
+    let z = c .before .before .before .before .before in
+    record { finds = none-found (begins (z .before .before .args .body .now) (z .head-end .ensures) (ap endsOut (c .before .before .before .h .given .1))) (c .before .if1 .left) (c .nowhere .ensures) .found }
 
 pub find-lists-spec : {M : Type 1} → statement M
 find-lists-spec =

@@ -23,7 +23,8 @@ returns c =
 
 shared-slice-read-wide : tie.Need-shared-slice-read-wide
 shared-slice-read-wide c =
-    let h = ones-past 1 (c .before .before .before .before .before .before .args .body .now) 0 (omega arith) (c .before .before .before .before .head .ensures) (ap endsOut (c .before .before .a .given .1)) .inside in omega arith
+    let z = c .before .before .before .before in
+    let h = ones-past 1 (z .before .before .args .body .now) 0 (omega arith) (z .head .ensures) (ap endsOut (c .before .before .a .given .1)) .inside in omega arith
 
 wide-requires : tie.Need-wide-requires
 wide-requires c κs = search needs
@@ -33,15 +34,24 @@ part-requires c κs = search needs
 
 head-requires-2 : tie.Need-head-requires-2
 head-requires-2 c κs =
-    let h = ones-past 1 (c .before .before .before .before .before .before .before .before .before .args .body .now) 0 (omega arith) (c .before .before .before .before .before .before .before .head .ensures) (ap endsOut (c .before .before .before .before .before .a .given .1)) in (omega (arith, h .is, h .inside), omega arith)
+    let z = c .before .before .before .before .before in
+    let y = z .before .before .before .before in
+    let h = ones-past 1 (y .args .body .now) 0 (omega arith) (z .before .before .head .ensures) (ap endsOut (z .a .given .1)) in (omega (arith, h .is, h .inside), omega arith)
 
 returns-2 : tie.Need-returns-2
 returns-2 c =
-    head-whole (c .before .before .before .before .before .before .before .before .before .before .args .body .now) (c .before .before .before .before .before .before .before .before .head .ensures) (flag-taken (c .before .before .before .before .before .before .before .before .before .before .args .body .now) (c .before .before .before .wide .ensures) (c .before .before .part .ensures) (c .before .if1 .taken)) (ap endsOut (c .before .before .before .before .before .before .a .given .1)) (c .head2 .ensures)
+    let z = c .before .before .before .before .before .before in
+    let y = z .before .before .before .before in
+    head-whole (y .args .body .now) (z .before .before .head .ensures)
+    (flag-taken (y .args .body .now) (c .before .before .before .wide .ensures) (c .before .before .part .ensures) (c .before .if1 .taken))
+    (ap endsOut (z .a .given .1)) (c .head2 .ensures)
 
 returns-3 : tie.Need-returns-3
 returns-3 c =
-    sym (ap endsOut (c .before .before .before .before .before .a .given .1)) ∙ head-alone (c .before .before .before .before .before .before .before .before .before .args .body .now) (c .before .before .before .before .before .before .before .head .ensures) (flag-left (c .before .before .before .before .before .before .before .before .before .args .body .now) (c .before .before .wide .ensures) (c .before .part .ensures) (c .if1 .left))
+    let z = c .before .before .before .before .before in
+    let y = z .before .before .before .before in
+    sym (ap endsOut (z .a .given .1)) ∙ head-alone (y .args .body .now) (z .before .before .head .ensures)
+    (flag-left (y .args .body .now) (c .before .before .wide .ensures) (c .before .part .ensures) (c .if1 .left))
 
 pub head-end-spec : {M : Type 1} → statement M
 head-end-spec =

@@ -16,7 +16,9 @@ part-requires c κs = search needs
 
 info-there-requires : tie.Need-info-there-requires
 info-there-requires c κs =
-    omega (arith, c .before .before .before .before .before .pre .1, rows-four (c .before .before .before .before .before .args .body .now) (flag-taken (c .before .before .before .before .before .args .body .now) (c .before .before .wide .ensures) (c .before .part .ensures) (c .if1 .taken)))
+    let z = c .before .before .before .before .before in
+    omega
+    (arith, z .pre .1, rows-four (z .args .body .now) (flag-taken (z .args .body .now) (c .before .before .wide .ensures) (c .before .part .ensures) (c .if1 .taken)))
 
 of-requires : tie.Need-of-requires
 of-requires c κs = search needs
@@ -26,11 +28,16 @@ absent-requires c κs = search needs
 
 returns : tie.Need-returns
 returns c =
-    info-of _ (flag-taken (c .before .before .before .before .before .before .before .args .body .now) (c .before .before .before .before .wide .ensures) (c .before .before .before .part .ensures) (c .before .before .if1 .taken)) (c .before .info-there .ensures) (c .of .ensures)
+    let z = c .before .before .before .before in
+    info-of _
+    (flag-taken (z .before .before .before .args .body .now) (z .wide .ensures) (c .before .before .before .part .ensures) (c .before .before .if1 .taken))
+    (c .before .info-there .ensures) (c .of .ensures)
 
 returns-2 : tie.Need-returns-2
 returns-2 c =
-    info-none _ (flag-left (c .before .before .before .before .before .before .args .body .now) (c .before .before .before .wide .ensures) (c .before .before .part .ensures) (c .before .if1 .left)) (c .absent .ensures)
+    let z = c .before .before .before .before .before .before in
+    info-none _ (flag-left (z .args .body .now) (c .before .before .before .wide .ensures) (c .before .before .part .ensures) (c .before .if1 .left))
+    (c .absent .ensures)
 
 pub info-at-spec : {M : Type 1} → statement M
 info-at-spec =

@@ -52,13 +52,15 @@ part-requires-6 c κs = search needs
 
 returns : tie.Need-returns
 returns c =
+    let z = c .before .before .before .before in
+    let y = z .before .before .before .before in
     λ i. record {
-      «reserved_drc» = (c .before .before .before .before .before .part .ensures ∙ ap (part 6 2) (c .before .before .before .before .before .before .before .before .before .before .wide .ensures)) i;
-      «reserved_loudness» = (c .before .before .before .before .part2 .ensures ∙ ap (part 6 2) (c .before .before .before .before .before .before .before .before .wide2 .ensures)) i;
-      «reserved_downmix» = (c .before .before .before .part3 .ensures ∙ ap (part 5 3) (c .before .before .before .before .before .before .wide3 .ensures)) i;
-      «drc_instructions» = (c .before .before .part4 .ensures ∙ ap (part 0 6) (c .before .before .before .before .before .before .before .before .before .before .wide .ensures)) i;
-      «loudness_infos» = (c .before .part5 .ensures ∙ ap (part 0 6) (c .before .before .before .before .before .before .before .before .wide2 .ensures)) i;
-      «downmix_definitions» = (c .part6 .ensures ∙ ap (part 0 5) (c .before .before .before .before .before .before .wide3 .ensures)) i;
+      «reserved_drc» = (z .before .part .ensures ∙ ap (part 6 2) (y .before .before .wide .ensures)) i;
+      «reserved_loudness» = (z .part2 .ensures ∙ ap (part 6 2) (y .wide2 .ensures)) i;
+      «reserved_downmix» = (c .before .before .before .part3 .ensures ∙ ap (part 5 3) (z .before .before .wide3 .ensures)) i;
+      «drc_instructions» = (c .before .before .part4 .ensures ∙ ap (part 0 6) (y .before .before .wide .ensures)) i;
+      «loudness_infos» = (c .before .part5 .ensures ∙ ap (part 0 6) (y .wide2 .ensures)) i;
+      «downmix_definitions» = (c .part6 .ensures ∙ ap (part 0 5) (z .before .before .wide3 .ensures)) i;
     }
 
 pub info-there-spec : {M : Type 1} → statement M

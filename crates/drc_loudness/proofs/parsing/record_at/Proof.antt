@@ -31,7 +31,9 @@ trailing-run-requires c κs =
 
 returns : tie.Need-returns
 returns c =
-    recorded (c .before .before .before .before .before .before .pre .0) (c .before .before .before .before .before .before .pre .1) (c .before .before .part .ensures ∙ ap (part 1 7) (c .before .before .before .wide .ensures)) (c .before .info-at .ensures) (c .trailing-run .ensures)
+    let z = c .before .before .before .before .before .before in
+    recorded (z .pre .0) (z .pre .1)
+    (c .before .before .part .ensures ∙ ap (part 1 7) (c .before .before .before .wide .ensures)) (c .before .info-at .ensures) (c .trailing-run .ensures)
 
 pub record-at-spec : {M : Type 1} → statement M
 record-at-spec =

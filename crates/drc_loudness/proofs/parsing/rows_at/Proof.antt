@@ -16,11 +16,14 @@ part-requires c κs = search needs
 
 returns : tie.Need-returns
 returns c =
-    sym (rows-four (c .before .before .before .before .before .args .body .now) (flag-taken (c .before .before .before .before .before .args .body .now) (c .before .before .wide .ensures) (c .before .part .ensures) (c .if1 .taken)))
+    let z = c .before .before .before .before .before in
+    sym
+    (rows-four (z .args .body .now) (flag-taken (z .args .body .now) (c .before .before .wide .ensures) (c .before .part .ensures) (c .if1 .taken)))
 
 returns-2 : tie.Need-returns-2
 returns-2 c =
-    sym (rows-one (c .before .before .before .before .before .args .body .now) (flag-left (c .before .before .before .before .before .args .body .now) (c .before .before .wide .ensures) (c .before .part .ensures) (c .if1 .left)))
+    let z = c .before .before .before .before .before in
+    sym (rows-one (z .args .body .now) (flag-left (z .args .body .now) (c .before .before .wide .ensures) (c .before .part .ensures) (c .if1 .left)))
 
 pub rows-at-spec : {M : Type 1} → statement M
 rows-at-spec =

@@ -17,7 +17,8 @@ cast-t5 c =
 
 returns : tie.Need-returns
 returns c =
-    counted (c .before .before .before .before .pre .0) (c .before .before .before .before .pre .1) (ap (λ (i : Info). i .part) (c .before .before .info-at .ensures)) refl refl refl refl refl
+    counted (c .before .before .before .before .pre .0) (c .before .before .before .before .pre .1)
+    (ap (λ (i : Info). i .part) (c .before .before .info-at .ensures)) refl refl refl refl refl
 
 pub sizes-at-spec : {M : Type 1} → statement M
 sizes-at-spec = tie.close (tie.spec info-at-requires cast-t5 returns)

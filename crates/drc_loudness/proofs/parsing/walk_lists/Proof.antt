@@ -29,14 +29,17 @@ short-requires c κs = search needs
 
 returns : tie.Need-returns
 returns c =
-    record { finds = instructions-cut _ (c .before .before .before .before .before .before .before .pre .1) (c .before .before .before .before .before .before .before .pre .0) (c .before .before .before .before .before .info-there .ensures) (c .before .before .before .measure-instructions .ensures) (c .before .enum-told .given .1) ∙ ap short (sym (c .short .ensures ∙ ap (λ r. shortOf (sumOut r)) (c .before .enum-told .given .1))) }
+    let z = c .before .before .before .before .before in
+    record { finds = instructions-cut _ (z .before .before .pre .1) (z .before .before .pre .0) (z .info-there .ensures) (c .before .before .before .measure-instructions .ensures) (c .before .enum-told .given .1) ∙ ap short (sym (c .short .ensures ∙ ap (λ r. shortOf (sumOut r)) (c .before .enum-told .given .1))) }
 
 cast-measure-entries : tie.Need-cast-measure-entries
 cast-measure-entries c = search needs
 
 measure-entries-requires : tie.Need-measure-entries-requires
 measure-entries-requires c κs =
-    (instructions-found _ (c .before .before .before .before .before .before .before .before .pre .1) (c .before .before .before .before .before .before .before .before .pre .0) (c .before .before .before .before .before .before .info-there .ensures) (c .before .before .before .before .measure-instructions .ensures) (c .before .before .s .given .1) .on .place .inside, rw (c .before .before .before .before .before .before .info-there .ensures) (there-few (c .before .before .before .before .before .before .before .before .args .body .now) .entries))
+    let z = c .before .before .before .before in
+    let y = z .before .before .before .before in
+    (instructions-found _ (y .pre .1) (y .pre .0) (z .before .before .info-there .ensures) (z .measure-instructions .ensures) (c .before .before .s .given .1) .on .place .inside, rw (z .before .before .info-there .ensures) (there-few (y .args .body .now) .entries))
 
 enum-known-e : tie.Need-enum-known-e
 enum-known-e c = search needs
@@ -49,14 +52,19 @@ short-requires-2 c κs = search needs
 
 returns-2 : tie.Need-returns-2
 returns-2 c =
-    record { finds = entries-cut (instructions-found _ (c .before .before .before .before .before .before .before .before .before .before .before .before .pre .1) (c .before .before .before .before .before .before .before .before .before .before .before .before .pre .0) (c .before .before .before .before .before .before .before .before .before .before .info-there .ensures) (c .before .before .before .before .before .before .before .before .measure-instructions .ensures) (c .before .before .before .before .before .before .s .given .1)) (c .before .before .before .before .before .before .before .before .before .before .info-there .ensures) (c .before .before .before .measure-entries .ensures) (ap endsOut (c .before .enum-told2 .given .1)) (c .short2 .ensures) }
+    let z = c .before .before .before .before .before .before in
+    let y = z .before .before .before .before in
+    record { finds = entries-cut (instructions-found _ (y .before .before .pre .1) (y .before .before .pre .0) (y .info-there .ensures) (z .before .before .measure-instructions .ensures) (z .s .given .1)) (y .info-there .ensures) (c .before .before .before .measure-entries .ensures) (ap endsOut (c .before .enum-told2 .given .1)) (c .short2 .ensures) }
 
 cast-measure-downmixes : tie.Need-cast-measure-downmixes
 cast-measure-downmixes c = search needs
 
 measure-downmixes-requires : tie.Need-measure-downmixes-requires
 measure-downmixes-requires c κs =
-    (entries-found (instructions-found _ (c .before .before .before .before .before .before .before .before .before .before .before .before .before .pre .1) (c .before .before .before .before .before .before .before .before .before .before .before .before .before .pre .0) (c .before .before .before .before .before .before .before .before .before .before .before .info-there .ensures) (c .before .before .before .before .before .before .before .before .before .measure-instructions .ensures) (c .before .before .before .before .before .before .before .s .given .1)) (c .before .before .before .before .before .before .before .before .before .before .before .info-there .ensures) (c .before .before .before .before .measure-entries .ensures) (ap endsOut (c .before .before .e .given .1)) .on .place .inside, rw (c .before .before .before .before .before .before .before .before .before .before .before .info-there .ensures) (there-few (c .before .before .before .before .before .before .before .before .before .before .before .before .before .args .body .now) .downmixes))
+    let z = c .before .before .before .before in
+    let y = z .before .before .before .before .before in
+    let x = y .before .before .before .before in
+    (entries-found (instructions-found _ (x .pre .1) (x .pre .0) (y .before .before .info-there .ensures) (y .measure-instructions .ensures) (z .before .before .before .s .given .1)) (y .before .before .info-there .ensures) (z .measure-entries .ensures) (ap endsOut (c .before .before .e .given .1)) .on .place .inside, rw (y .before .before .info-there .ensures) (there-few (x .args .body .now) .downmixes))
 
 enum-known-d : tie.Need-enum-known-d
 enum-known-d c = search needs
@@ -69,11 +77,17 @@ short-requires-3 c κs = search needs
 
 returns-3 : tie.Need-returns-3
 returns-3 c =
-    record { finds = downmixes-cut (entries-found (instructions-found _ (c .before .before .before .before .before .before .before .before .before .before .before .before .before .before .before .before .before .pre .1) (c .before .before .before .before .before .before .before .before .before .before .before .before .before .before .before .before .before .pre .0) (c .before .before .before .before .before .before .before .before .before .before .before .before .before .before .before .info-there .ensures) (c .before .before .before .before .before .before .before .before .before .before .before .before .before .measure-instructions .ensures) (c .before .before .before .before .before .before .before .before .before .before .before .s .given .1)) (c .before .before .before .before .before .before .before .before .before .before .before .before .before .before .before .info-there .ensures) (c .before .before .before .before .before .before .before .before .measure-entries .ensures) (ap endsOut (c .before .before .before .before .before .before .e .given .1))) (c .before .before .before .before .before .before .before .before .before .before .before .before .before .before .before .info-there .ensures) (c .before .before .before .measure-downmixes .ensures) (ap endsOut (c .before .enum-told3 .given .1)) (c .short3 .ensures) }
+    let z = c .before .before .before .before .before .before in
+    let y = z .before .before .before .before .before in
+    let x = y .before .before .before .before in
+    record { finds = downmixes-cut (entries-found (instructions-found _ (x .before .before .pre .1) (x .before .before .pre .0) (x .info-there .ensures) (y .before .before .measure-instructions .ensures) (y .s .given .1)) (x .info-there .ensures) (z .before .before .measure-entries .ensures) (ap endsOut (z .e .given .1))) (x .info-there .ensures) (c .before .before .before .measure-downmixes .ensures) (ap endsOut (c .before .enum-told3 .given .1)) (c .short3 .ensures) }
 
 returns-4 : tie.Need-returns-4
 returns-4 c =
-    record { finds = all-found (entries-found (instructions-found _ (c .before .before .before .before .before .before .before .before .before .before .before .before .before .before .before .before .before .pre .1) (c .before .before .before .before .before .before .before .before .before .before .before .before .before .before .before .before .before .pre .0) (c .before .before .before .before .before .before .before .before .before .before .before .before .before .before .before .info-there .ensures) (c .before .before .before .before .before .before .before .before .before .before .before .before .before .measure-instructions .ensures) (c .before .before .before .before .before .before .before .before .before .before .before .s .given .1)) (c .before .before .before .before .before .before .before .before .before .before .before .before .before .before .before .info-there .ensures) (c .before .before .before .before .before .before .before .before .measure-entries .ensures) (ap endsOut (c .before .before .before .before .before .before .e .given .1))) (c .before .before .before .before .before .before .before .before .before .before .before .before .before .before .before .info-there .ensures) (c .before .before .before .measure-downmixes .ensures) (ap endsOut (c .before .d .given .1)) }
+    let z = c .before .before .before .before .before .before in
+    let y = z .before .before .before .before .before in
+    let x = y .before .before .before .before in
+    record { finds = all-found (entries-found (instructions-found _ (x .before .before .pre .1) (x .before .before .pre .0) (x .info-there .ensures) (y .before .before .measure-instructions .ensures) (y .s .given .1)) (x .info-there .ensures) (z .before .before .measure-entries .ensures) (ap endsOut (z .e .given .1))) (x .info-there .ensures) (c .before .before .before .measure-downmixes .ensures) (ap endsOut (c .before .d .given .1)) }
 
 pub walk-lists-spec : {M : Type 1} → statement M
 walk-lists-spec =

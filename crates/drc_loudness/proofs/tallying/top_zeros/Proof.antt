@@ -51,11 +51,15 @@ add-result-3 c = search needs
 
 returns : tie.Need-returns
 returns c =
-    (top-with (c .before .before .before .before .before .before .before .before .before .before .before .before .before .args .body .now) (c .before .before .before .before .before .before .before .before .before .before .before .before .before .pre .1) (c .before .before .before .before .before .before .before .if1 .taken) (λ j. (c .before .before .before .before .before .before .before .before .idle-bits .ensures ∙ ap (zeros 7) (c .before .before .before .before .before .before .before .before .before .part .ensures ∙ ap (part 1 7) (c .before .before .before .before .before .before .before .before .before .before .wide .ensures))) j + ((c .before .before .before .before .idle-bits2 .ensures ∙ ap (zeros 2) (c .before .before .before .before .before .wide2 .ensures)) j + ((c .before .before .idle-bits3 .ensures ∙ ap (zeros 2) (c .before .before .before .wide3 .ensures)) j + (c .idle-bits4 .ensures ∙ ap (zeros 3) (c .before .wide4 .ensures)) j))), omega (arith, c .before .before .before .before .before .before .before .before .idle-bits .ensures, c .before .before .before .before .idle-bits2 .ensures, c .before .before .idle-bits3 .ensures, c .idle-bits4 .ensures))
+    let z = c .before .before .before .before in
+    let y = z .before .before .before .before in
+    let x = y .before .before .before .before .before in
+    (top-with (x .args .body .now) (x .pre .1) (z .before .before .before .if1 .taken) (λ j. (y .idle-bits .ensures ∙ ap (zeros 7) (y .before .part .ensures ∙ ap (part 1 7) (y .before .before .wide .ensures))) j + ((z .idle-bits2 .ensures ∙ ap (zeros 2) (z .before .wide2 .ensures)) j + ((c .before .before .idle-bits3 .ensures ∙ ap (zeros 2) (c .before .before .before .wide3 .ensures)) j + (c .idle-bits4 .ensures ∙ ap (zeros 3) (c .before .wide4 .ensures)) j))), omega (arith, y .idle-bits .ensures, z .idle-bits2 .ensures, c .before .before .idle-bits3 .ensures, c .idle-bits4 .ensures))
 
 returns-2 : tie.Need-returns-2
 returns-2 c =
-    (top-alone (c .before .before .before .before .before .before .args .body .now) (c .before .before .before .before .before .before .pre .1) (c .if1 .left) (c .before .idle-bits .ensures ∙ ap (zeros 7) (c .before .before .part .ensures ∙ ap (part 1 7) (c .before .before .before .wide .ensures))), omega (arith, c .before .idle-bits .ensures))
+    let z = c .before .before .before .before .before .before in
+    (top-alone (z .args .body .now) (z .pre .1) (c .if1 .left) (c .before .idle-bits .ensures ∙ ap (zeros 7) (c .before .before .part .ensures ∙ ap (part 1 7) (c .before .before .before .wide .ensures))), omega (arith, c .before .idle-bits .ensures))
 
 pub top-zeros-spec : {M : Type 1} → statement M
 top-zeros-spec =

@@ -28,7 +28,9 @@ cast-tally-instructions c = search needs
 
 tally-instructions-requires : tie.Need-tally-instructions-requires
 tally-instructions-requires c κs =
-    rw (c .before .rows-at .ensures, c .before .before .before .before .info-at .ensures) (c .before .before .before .before .before .before .pre .0 .head, ap isDone (c .before .before .before .before .before .before .pre .0 .instructions-read), info-few (c .before .before .before .before .before .before .args .body .now) .instructions)
+    let z = c .before .before .before .before in
+    rw (c .before .rows-at .ensures, z .info-at .ensures)
+    (z .before .before .pre .0 .head, ap isDone (z .before .before .pre .0 .instructions-read), info-few (z .before .before .args .body .now) .instructions)
 
 cast-is : tie.Need-cast-is
 cast-is c = search needs
@@ -38,7 +40,9 @@ cast-tally-entries c = search needs
 
 tally-entries-requires : tie.Need-tally-entries-requires
 tally-entries-requires c κs =
-    rw (c .before .before .before .before .before .before .info-at .ensures) (at-entries (c .before .before .before .before .before .before .before .before .pre .0), c .before .before .before .before .before .before .before .before .pre .1, ap isDone (c .before .before .before .before .before .before .before .before .pre .0 .entries-read), info-few (c .before .before .before .before .before .before .before .before .args .body .now) .entries)
+    let z = c .before .before .before .before .before .before in
+    rw (z .info-at .ensures)
+    (at-entries (z .before .before .pre .0), z .before .before .pre .1, ap isDone (z .before .before .pre .0 .entries-read), info-few (z .before .before .args .body .now) .entries)
 
 cast-ls : tie.Need-cast-ls
 cast-ls c = search needs
@@ -48,7 +52,9 @@ cast-tally-downmixes c = search needs
 
 tally-downmixes-requires : tie.Need-tally-downmixes-requires
 tally-downmixes-requires c κs =
-    rw (c .before .before .before .before .before .before .before .before .info-at .ensures) (at-downmixes (c .before .before .before .before .before .before .before .before .before .before .pre .0), ap isDone (c .before .before .before .before .before .before .before .before .before .before .pre .0 .downmixes-read), info-few (c .before .before .before .before .before .before .before .before .before .before .args .body .now) .downmixes)
+    let z = c .before .before .before .before .before .before .before .before in
+    rw (z .info-at .ensures)
+    (at-downmixes (z .before .before .pre .0), ap isDone (z .before .before .pre .0 .downmixes-read), info-few (z .before .before .args .body .now) .downmixes)
 
 cast-ds : tie.Need-cast-ds
 cast-ds c = search needs
@@ -64,7 +70,11 @@ add-result-3 c = search needs
 
 returns : tie.Need-returns
 returns c =
-    zeros-so (c .before .before .before .before .before .before .before .before .before .before .before .pre .0) (c .before .before .before .before .before .before .before .before .before .before .before .pre .1) (ap (λ (i : Info). i .part) (c .before .before .before .before .before .before .before .before .before .info-at .ensures)) (c .before .before .before .before .before .before .rows-at .ensures) refl (c .before .before .before .before .before .before .before .before .top-zeros .ensures .0) (c .before .before .before .before .tally-instructions .ensures) (c .before .before .tally-entries .ensures) (c .tally-downmixes .ensures)
+    let z = c .before .before .before .before in
+    let y = z .before .before .before .before in
+    zeros-so (y .before .before .before .pre .0) (y .before .before .before .pre .1) (ap (λ (i : Info). i .part) (y .before .info-at .ensures))
+    (z .before .before .rows-at .ensures) refl (y .top-zeros .ensures .0)
+    (z .tally-instructions .ensures) (c .before .before .tally-entries .ensures) (c .tally-downmixes .ensures)
 
 pub zero-bits-spec : {M : Type 1} → statement M
 zero-bits-spec =

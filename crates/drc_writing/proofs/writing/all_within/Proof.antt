@@ -24,7 +24,8 @@ has-rows-requires-3 c κs = search needs
 
 returns : tie.Need-returns
 returns c =
-    all-there _ _ _ _ (c .before .before .before .before .before .before .before .if1 .taken) (c .before .before .before .before .has-rows .ensures) (c .before .before .has-rows2 .ensures) (c .has-rows3 .ensures)
+    all-there _ _ _ _ (c .before .before .before .before .before .before .before .if1 .taken) (c .before .before .before .before .has-rows .ensures)
+    (c .before .before .has-rows2 .ensures) (c .has-rows3 .ensures)
 
 returns-2 : tie.Need-returns-2
 returns-2 c =

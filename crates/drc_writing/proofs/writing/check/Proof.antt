@@ -23,9 +23,11 @@ payload-run-requires c κs =
 returns : tie.Need-returns
 unfolding kind
 returns c =
-    let z = c .before .before .before .before .before .before .before .before .before .before in
+    let y = c .before .before .before .before .before .before .before .before .before .before in
     let e = sym (c .before .before .before .in-store .ensures) ∙ c .before .before .if1 .taken in
-    more 82989 (all-looked kind (drc-acts (z .args .m) (z .args .instructions .now ∷ z .args .additional .now ∷ z .args .loudness .now ∷ z .args .downmixes .now ∷ []) (z .args .store .now)) e (c .before .check-fields .ensures) (c .payload-run .ensures .0)) (omega (arith, c .payload-run .ensures .1))
+    more 82989
+    (all-looked kind (drc-acts (y .args .m) (y .args .instructions .now ∷ y .args .additional .now ∷ y .args .loudness .now ∷ y .args .downmixes .now ∷ []) (y .args .store .now)) e (c .before .check-fields .ensures) (c .payload-run .ensures .0))
+    (omega (arith, c .payload-run .ensures .1))
 
 returns-2 : tie.Need-returns-2
 unfolding kind

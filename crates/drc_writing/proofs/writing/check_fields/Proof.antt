@@ -23,12 +23,15 @@ check-all-requires c κs = search needs
 
 check-info-requires : tie.Need-check-info-requires
 check-info-requires c κs =
-    (sym (c .before .before .before .before .all-within .ensures) ∙ c .before .before .before .if1 .taken, omega (arith, all-checked (c .before .before .head-bytes .ensures) (c .check-all .ensures) .near))
+    let z = c .before .before .before .before in
+    (sym (z .all-within .ensures) ∙ c .before .before .before .if1 .taken, omega (arith, all-checked (c .before .before .head-bytes .ensures) (c .check-all .ensures) .near))
 
 returns : tie.Need-returns
 unfolding drcActs firstTable otherTables
 returns c =
-    rw (sym (c .before .before .before .before .before .all-within .ensures) ∙ c .before .before .before .before .if1 .taken) (passed _ 0 (passed _ 0 (passed _ 0 (more 17454 (then (all-checked (c .before .before .before .head-bytes .ensures) (c .before .check-all .ensures)) (c .check-info .ensures)) (omega arith)))))
+    let z = c .before .before .before .before in
+    rw (sym (z .before .all-within .ensures) ∙ z .if1 .taken)
+    (passed _ 0 (passed _ 0 (passed _ 0 (more 17454 (then (all-checked (c .before .before .before .head-bytes .ensures) (c .before .check-all .ensures)) (c .check-info .ensures)) (omega arith)))))
 
 returns-2 : tie.Need-returns-2
 unfolding drcActs firstTable otherTables

@@ -27,18 +27,24 @@ enum-told c = search needs
 returns : tie.Need-returns
 unfolding infoActs
 returns c =
-    part-stops _ _ _ 17453 (c .before .before .before .before .before .before .if1 .taken) (all-checked (c .before .before .before .before .count-bytes .ensures) (c .before .before .check-all .ensures)) (c .enum-told .given .1) (omega arith)
+    let z = c .before .before .before .before in
+    part-stops _ _ _ 17453 (z .before .before .if1 .taken)
+    (all-checked (z .count-bytes .ensures) (c .before .before .check-all .ensures)) (c .enum-told .given .1) (omega arith)
 
 check-lists-requires : tie.Need-check-lists-requires
 check-lists-requires c κs =
-    let w = all-checked (c .before .before .before .before .before .count-bytes .ensures) (c .before .before .before .check-all .ensures) in
+    let z = c .before .before .before .before .before in
+    let y = z .before .before .before .before .before .before .before .before in
+    let w = all-checked (z .count-bytes .ensures) (c .before .before .before .check-all .ensures) in
     let n = rw (c .before .p1 .given .1) at (w .near) in
-    (listed _ _ _ _ (c .before .before .before .before .before .before .before .if1 .taken) (c .before .before .before .before .before .before .before .before .before .before .before .before .before .pre .0) (passed-clean _ _ w (c .before .p1 .given .1)), omega (arith, n, c .before .before .before .before .before .before .before .before .before .before .before .before .before .pre .1))
+    (listed _ _ _ _ (z .before .before .if1 .taken) (y .pre .0) (passed-clean _ _ w (c .before .p1 .given .1)), omega (arith, n, y .pre .1))
 
 returns-2 : tie.Need-returns-2
 unfolding infoActs
 returns-2 c =
-    part-goes _ _ _ 17453 (c .before .before .before .before .before .before .before .before .if1 .taken) (all-checked (c .before .before .before .before .before .before .count-bytes .ensures) (c .before .before .before .before .check-all .ensures)) (c .before .before .p1 .given .1) (c .check-lists .ensures) (omega arith)
+    part-goes _ _ _ 17453 (c .before .before .before .before .before .before .before .before .if1 .taken)
+    (all-checked (c .before .before .before .before .before .before .count-bytes .ensures) (c .before .before .before .before .check-all .ensures))
+    (c .before .before .p1 .given .1) (c .check-lists .ensures) (omega arith)
 
 returns-3 : tie.Need-returns-3
 unfolding infoActs

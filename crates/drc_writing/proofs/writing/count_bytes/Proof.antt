@@ -24,7 +24,9 @@ two-requires-3 c κs = search needs
 
 returns : tie.Need-returns
 returns c =
-    more (rw (c .before .before .before .before .before .wide .ensures) at (c .before .before .before .before .two .ensures)) (more (rw (c .before .before .before .wide2 .ensures) at (c .before .before .two2 .ensures)) (more (rw (c .before .wide3 .ensures) at (c .two3 .ensures)) none))
+    let z = c .before .before .before .before in
+    more (rw (z .before .wide .ensures) at (z .two .ensures))
+    (more (rw (c .before .before .before .wide2 .ensures) at (c .before .before .two2 .ensures)) (more (rw (c .before .wide3 .ensures) at (c .two3 .ensures)) none))
 
 pub count-bytes-spec : {M : Type 1} → statement M
 count-bytes-spec =

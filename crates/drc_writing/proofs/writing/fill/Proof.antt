@@ -27,9 +27,10 @@ same-length c = search needs
 returns : tie.Need-returns
 unfolding kind
 returns c =
-    let d = c .before .before .before .before .before .before in
-    let z = d .before .before .before .before .before .before .before .before in
-    all-filled kind (drc-acts (z .args .m) (lent z) (z .args .store .now)) (z .pre) (d .fill-fields .kept .1 .1 .1 .1 .1 .1 .0) (d .fill-fields .ensures) (c .before .before .copy-payload .ensures)
+    let y = c .before .before .before .before .before .before in
+    let z = y .before .before .before .before .before .before .before .before in
+    all-filled kind (drc-acts (z .args .m) (lent z) (z .args .store .now)) (z .pre) (y .fill-fields .kept .1 .1 .1 .1 .1 .1 .0) (y .fill-fields .ensures)
+    (c .before .before .copy-payload .ensures)
 
 pub fill-spec : {M : Type 1} → statement M
 fill-spec = tie.close (tie.spec fill-fields-requires copy-payload-requires same-length returns)

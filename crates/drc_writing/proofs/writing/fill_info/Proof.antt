@@ -20,8 +20,13 @@ all c = infoActs (c .args .i) (lent c) (c .args .store .now)
 abbrev start : tie.After-fill-all → tie.Start
 start c = c .before .before .before .before .before .before .before .before .before .before .before .before
 
-behind : (c : tie.After-fill-all) → Filling (all (start c)) (listsActs (start c .args .i .part) (lent (start c)) (start c .args .store .now)) (start c .args .n) (start c .args .out .now) (c .fill-all .result) (c .fill-all .last .0)
-behind c = fill-part _ (c .before .before .count-bytes .ensures) (info-begins (start c .args .i) (lent (start c)) (start c .args .store .now) (c .before .before .before .before .before .if1 .taken) (start c .pre .1)) (c .fill-all .ensures)
+behind : (c : tie.After-fill-all)
+    → Filling (all (start c)) (listsActs (start c .args .i .part) (lent (start c)) (start c .args .store .now)) (start c .args .n) (start c .args .out .now)
+    (c .fill-all .result) (c .fill-all .last .0)
+behind c =
+    let z = c .before .before .before .before .before in
+    fill-part _ (c .before .before .count-bytes .ensures)
+    (info-begins (start c .args .i) (lent (start c)) (start c .args .store .now) (z .if1 .taken) (start c .pre .1)) (c .fill-all .ensures)
 
 count-bytes-requires : tie.Need-count-bytes-requires
 count-bytes-requires c κs = search needs
@@ -31,8 +36,9 @@ slice-aggregate-fill-all c = search needs
 
 fill-all-requires : tie.Need-fill-all-requires
 fill-all-requires c κs =
-    let z = c .before .before .before .before .before .before .before .before .before .before .before in
-    ready-part _ (c .before .count-bytes .ensures) (info-begins (z .args .i) (lent z) (z .args .store .now) (c .before .before .before .before .if1 .taken) (z .pre .1))
+    let y = c .before .before .before .before in
+    let x = y .before .before .before .before .before .before .before in
+    ready-part _ (c .before .count-bytes .ensures) (info-begins (x .args .i) (lent x) (x .args .store .now) (y .if1 .taken) (x .pre .1))
 
 fill-lists-requires : tie.Need-fill-lists-requires
 fill-lists-requires c κs =

@@ -41,13 +41,17 @@ begin c = fill-start (c .pre .1)
 abbrev start : tie.After-fill-instructions → tie.Start
 start c = c .before .before .before .before .before .before .before .before .before
 
-behind-instructions : (c : tie.After-fill-instructions) → Filling (all (start c)) (in-entries (start c) ++ in-downmixes (start c)) (start c .args .n) (start c .args .out .now) (c .fill-instructions .result) (c .fill-instructions .last .1 .1 .1 .0)
+behind-instructions : (c : tie.After-fill-instructions)
+    → Filling (all (start c)) (in-entries (start c) ++ in-downmixes (start c)) (start c .args .n) (start c .args .out .now) (c .fill-instructions .result)
+    (c .fill-instructions .last .1 .1 .1 .0)
 behind-instructions c = fill-turn (begin (start c)) refl (c .fill-instructions .kept .1 .1 .1 .0) (c .fill-instructions .ensures)
 
 abbrev back : tie.After-fill-entries → tie.After-fill-instructions
 back c = c .before .before .before .before .before
 
-behind-entries : (c : tie.After-fill-entries) → Filling (all (start (back c))) (in-downmixes (start (back c))) (start (back c) .args .n) (start (back c) .args .out .now) (c .fill-entries .result) (c .fill-entries .last .1 .1 .1 .0)
+behind-entries : (c : tie.After-fill-entries)
+    → Filling (all (start (back c))) (in-downmixes (start (back c))) (start (back c) .args .n) (start (back c) .args .out .now) (c .fill-entries .result)
+    (c .fill-entries .last .1 .1 .1 .0)
 behind-entries c = fill-turn (behind-instructions (back c)) refl (c .fill-entries .kept .1 .1 .1 .0) (c .fill-entries .ensures)
 
 -- ---- needs

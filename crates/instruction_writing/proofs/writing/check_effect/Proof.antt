@@ -10,10 +10,12 @@ use borrow.Author.Needs.{needs}
 use Rattle.instruction_writing.proofs.writing.check_effect.Statement.{statement}
 use Rattle.instruction_writing.proofs.writing.check_effect.Tie as tie
 
-step-1 : (c : tie.After-check-all) → Checked (map byte (effectFields (c .before .before .before .before .before .args .d .«drc_set_effect»))) 2 (c .before .before .before .before .before .args .p) (c .check-all .result)
+step-1 : (c : tie.After-check-all)
+    → Checked (map byte (effectFields (c .before .before .before .before .before .args .d .«drc_set_effect»))) 2 (c .before .before .before .before .before .args .p) (c .check-all .result)
 step-1 c = all-checked (c .before .before .effect-bytes .ensures) (c .check-all .ensures)
 
-step-2 : (c : tie.After-check-all2) → Checked (limiterPart (c .before .before .before .before .before .before .before .before .before .args .d .«limiter_peak_target»)) 1 (c .before .before .before .before .check-all .result) (c .check-all2 .result)
+step-2 : (c : tie.After-check-all2)
+    → Checked (limiterPart (c .before .before .before .before .before .before .before .before .before .args .d .«limiter_peak_target»)) 1 (c .before .before .before .before .check-all .result) (c .check-all2 .result)
 step-2 c = all-checked (c .before .before .limiter-bytes .ensures) (c .check-all2 .ensures)
 
 effect-bytes-requires : tie.Need-effect-bytes-requires

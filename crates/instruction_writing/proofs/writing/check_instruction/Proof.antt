@@ -26,7 +26,8 @@ check-effect-requires : tie.Need-check-effect-requires
 check-effect-requires c κs =
     let z = c .before .before .before .before in let h = front-behind (z .before .before .args .d) (z .before .before .args .additional .now)
     (z .check-front .ensures) (c .before .before .p .given .1) .few in
-    omega (arith, h, c .check-pairs .ensures .near, front-near (z .before .before .args .d) (z .before .before .args .additional .now) (z .check-front .ensures) (c .before .before .p .given .1))
+    omega
+    (arith, h, c .check-pairs .ensures .near, front-near (z .before .before .args .d) (z .before .before .args .additional .now) (z .check-front .ensures) (c .before .before .p .given .1))
 
 returns-2 : tie.Need-returns-2
 returns-2 c = search row-checked

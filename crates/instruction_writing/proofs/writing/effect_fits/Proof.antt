@@ -22,7 +22,8 @@ target-fits-requires-2 c κs = search needs
 
 returns : tie.Need-returns
 returns c =
-    fits-with (c .before .before .before .before .before .before .before .before .args .d) (omega arith) (c .target-fits .ensures) (c .before .before .before .before .if1 .taken) (c .before .fits-all .ensures .of _ (c .before .before .before .limiter-bytes .ensures))
+    fits-with (c .before .before .before .before .before .before .before .before .args .d) (omega arith) (c .target-fits .ensures)
+    (c .before .before .before .before .if1 .taken) (c .before .fits-all .ensures .of _ (c .before .before .before .limiter-bytes .ensures))
 
 returns-2 : tie.Need-returns-2
 returns-2 c =

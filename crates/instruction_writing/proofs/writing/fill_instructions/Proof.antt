@@ -13,7 +13,8 @@ use Rattle.instruction_writing.proofs.writing.fill_instructions.Stateme
 use Rattle.instruction_writing.proofs.writing.fill_instructions.Tie as tie
 
 abbrev Inv-loop : tie.InvT-loop
-Inv-loop instructions additional count out₀ n at₀ i₀ out at i = (i ≤ count) × Filling (rows (rowActs instructions additional) 0 count) (rows (rowActs instructions additional) i (count - i)) at₀ out₀ at out
+Inv-loop instructions additional count out₀ n at₀ i₀ out at i =
+    (i ≤ count) × Filling (rows (rowActs instructions additional) 0 count) (rows (rowActs instructions additional) i (count - i)) at₀ out₀ at out
 
 abbrev μ-loop : tie.MeasureT-loop
 μ-loop instructions additional count out₀ n at₀ i₀ out at i = count - i

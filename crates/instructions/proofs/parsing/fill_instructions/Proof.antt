@@ -10,7 +10,8 @@ use Rattle.instructions.proofs.parsing.fill_instructions.Statement.{sta
 use Rattle.instructions.proofs.parsing.fill_instructions.Tie as tie
 
 abbrev Inv-loop : tie.InvT-loop
-Inv-loop body at count table₀ additional₀ pos₀ left₀ to₀ first₀ table ids pos left to first = Families instruction 2 additional body at count table₀ additional₀ table ids pos left to first
+Inv-loop body at count table₀ additional₀ pos₀ left₀ to₀ first₀ table ids pos left to first =
+    Families instruction 2 additional body at count table₀ additional₀ table ids pos left to first
 
 abbrev μ-loop : tie.MeasureT-loop
 μ-loop body at count table₀ additional₀ pos₀ left₀ to₀ first₀ table ids pos left to first = left

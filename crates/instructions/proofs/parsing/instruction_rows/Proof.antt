@@ -9,7 +9,8 @@ use Rattle.instructions.proofs.parsing.instruction_rows.Statement.{stat
 use Rattle.instructions.proofs.parsing.instruction_rows.Tie as tie
 
 -- behind the settings
-after-1 : (c : tie.After-known-told) → Behind (c .before .before .before .before .before .args .body .now) (c .before .before .before .before .before .args .at) (c .before .a .given .0 .0)
+after-1 : (c : tie.After-known-told)
+    → Behind (c .before .before .before .before .before .args .body .now) (c .before .before .before .before .before .args .at) (c .before .a .given .0 .0)
 after-1 c = behind _ _ (c .before .before .before .before .before .pre) (c .before .before .before .settings-end .ensures) (ap endsOut (c .before .a .given .1))
 
 settings-end-requires : tie.Need-settings-end-requires

@@ -14,10 +14,14 @@ abbrev start : tie.After-id-bytes → tie.Start
 start c = c .before .before .before .before .before .before .before .before .before
 
 ids : (c : tie.After-id-bytes) → c .id-bytes .result ≡ idsAt (start c .args .body .now) (start c .args .at)
-ids c = c .id-bytes .ensures .0 ∙ λ i. idBytes (c .before .before .before .before .before .before .before .id-types .ensures i) ((c .before .part .ensures ∙ ap (part 0 2) (c .before .before .wide .ensures)) i)
+ids c =
+    c .id-bytes .ensures .0
+    ∙ λ i. idBytes (c .before .before .before .before .before .before .before .id-types .ensures i)
+    ((c .before .part .ensures ∙ ap (part 0 2) (c .before .before .wide .ensures)) i)
 
 -- all of it stands in the body
-there : (c : tie.Start) → c .args .at + 1 + idsAt (c .args .body .now) (c .args .at) + 1 + getD (c .args .body .now) (c .args .at + 1 + idsAt (c .args .body .now) (c .args .at)) 0 ≤ length (c .args .body .now)
+there : (c : tie.Start)
+    → c .args .at + 1 + idsAt (c .args .body .now) (c .args .at) + 1 + getD (c .args .body .now) (c .args .at + 1 + idsAt (c .args .body .now) (c .args .at)) 0 ≤ length (c .args .body .now)
 there c = entry-there _ _ (c .pre .0) (c .pre .2)
 
 id-types-requires : tie.Need-id-types-requires

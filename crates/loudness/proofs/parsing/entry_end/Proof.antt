@@ -15,15 +15,22 @@ abbrev start : tie.After-id-bytes → tie.Start
 start c = c .before .before .before .before .before .before .before .before .before .before .before
 
 -- behind the type byte
-typed : (c : tie.After-known-told) → (c .before .a .given .0 .0 ≡ c .before .before .before .before .before .args .at + 1) × (c .before .a .given .0 .0 ≤ length (c .before .before .before .before .before .args .body .now))
+typed : (c : tie.After-known-told)
+    → (c .before .a .given .0 .0 ≡ c .before .before .before .before .before .args .at + 1) × (c .before .a .given .0 .0 ≤ length (c .before .before .before .before .before .args .body .now))
 typed c = type-got _ _ (c .before .before .before .head .ensures) (c .before .before .before .before .before .pre) (ap endsOut (c .before .a .given .1))
 
 ids : (c : tie.After-id-bytes) → c .id-bytes .result ≡ idsAt (start c .args .body .now) (start c .args .at)
-ids c = c .id-bytes .ensures .0 ∙ λ i. idBytes (c .before .before .before .before .before .id-types .ensures i) ((c .before .part .ensures ∙ ap (part 0 2) (c .before .before .wide .ensures)) i)
+ids c =
+    c .id-bytes .ensures .0
+    ∙ λ i. idBytes (c .before .before .before .before .before .id-types .ensures i) ((c .before .part .ensures ∙ ap (part 0 2) (c .before .before .wide .ensures)) i)
 
 -- behind the length
-behind : (c : tie.After-known-told2) → (c .before .before .before .before .before .before .before .before .before .before .before .a .given .0 .0 + c .before .before .before .before .id-bytes .result + 1 ≡ c .before .b .given .0 .0) × (c .before .b .given .0 .0 ≤ length (start (c .before .before .before .before) .args .body .now))
-behind c = size-got _ _ (c .before .before .before .before .before .before .before .before .before .before .before .before .before .head .ensures) (ap endsOut (c .before .before .before .before .before .before .before .before .before .before .before .a .given .1)) (ids (c .before .before .before .before)) (c .before .before .before .head2 .ensures) (start (c .before .before .before .before) .pre) (ap endsOut (c .before .b .given .1))
+behind : (c : tie.After-known-told2)
+    → (c .before .before .before .before .before .before .before .before .before .before .before .a .given .0 .0 + c .before .before .before .before .id-bytes .result + 1 ≡ c .before .b .given .0 .0) × (c .before .b .given .0 .0 ≤ length (start (c .before .before .before .before) .args .body .now))
+behind c =
+    size-got _ _ (c .before .before .before .before .before .before .before .before .before .before .before .before .before .head .ensures)
+    (ap endsOut (c .before .before .before .before .before .before .before .before .before .before .before .a .given .1)) (ids (c .before .before .before .before))
+    (c .before .before .before .head2 .ensures) (start (c .before .before .before .before) .pre) (ap endsOut (c .before .b .given .1))
 
 head-requires : tie.Need-head-requires
 head-requires c κs = search needs

@@ -23,7 +23,8 @@ check-entry-requires c κs = search needs
 returns : tie.Need-returns
 returns c =
     let z = c .before .before .before .before in
-    search (plain-odd, rw (row-acts (z .before .before .before .args .entries .now) (z .before .before .before .args .store .now) (z .plain-rows .result .rows) (c .before .of-columns .ensures)) at (c .check-entry .ensures))
+    search
+    (plain-odd, rw (row-acts (z .before .before .before .args .entries .now) (z .before .before .before .args .store .now) (z .plain-rows .result .rows) (c .before .of-columns .ensures)) at (c .check-entry .ensures))
 
 returns-2 : tie.Need-returns-2
 returns-2 c =

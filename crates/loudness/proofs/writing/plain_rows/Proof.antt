@@ -16,13 +16,18 @@ abbrev μ-loop : tie.MeasureT-loop
 μ-loop entries store count bytes₀ i₀ bytes i = count - i
 
 -- what the quick test says of a row
-quick : (c : tie.After-plain-bytes Inv-loop μ-loop) → Quick (rowActs (c .before .before .before .before .before .before .args .entries .now) (c .before .before .before .before .before .before .args .store .now) (c .before .before .before .loop .i)) 258 (c .plain-bytes .result)
-quick c = rw (row-acts (c .before .before .before .before .before .before .args .entries .now) (c .before .before .before .before .before .before .args .store .now) (c .before .before .before .loop .i) (c .before .of-columns .ensures)) at (c .plain-bytes .ensures)
+quick : (c : tie.After-plain-bytes Inv-loop μ-loop)
+    → Quick (rowActs (c .before .before .before .before .before .before .args .entries .now) (c .before .before .before .before .before .before .args .store .now) (c .before .before .before .loop .i)) 258 (c .plain-bytes .result)
+quick c =
+    rw
+    (row-acts (c .before .before .before .before .before .before .args .entries .now) (c .before .before .before .before .before .before .args .store .now) (c .before .before .before .loop .i) (c .before .of-columns .ensures)) at
+    (c .plain-bytes .ensures)
 
 abbrev start : tie.Else1 Inv-loop μ-loop → tie.Start Inv-loop μ-loop
 start c = c .before .before .before .before .before .before .before
 
-turn : (c : tie.Else1 Inv-loop μ-loop) → Going (rowActs (start c .args .entries .now) (start c .args .store .now)) 258 (start c .args .count) (c .before .before .before .before .loop .i + 1) (c .before .before .before .before .loop .bytes + c .before .plain-bytes .result)
+turn : (c : tie.Else1 Inv-loop μ-loop)
+    → Going (rowActs (start c .args .entries .now) (start c .args .store .now)) 258 (start c .args .count) (c .before .before .before .before .loop .i + 1) (c .before .before .before .before .loop .bytes + c .before .plain-bytes .result)
 turn c = let l = c .if1 .left in going-turn (c .before .before .before .before .loop .inv) (quick (c .before)) (c .before .before .before .loop-test .taken) (omega (arith, l))
 
 loop-holds : tie.Need-loop-holds Inv-loop μ-loop

@@ -24,7 +24,8 @@ refusal-code-requires c κs = search needs
 
 returns : tie.Need-returns
 returns c =
-    measures-sized kind (rw (c .before .before .m .given .1) at (c .before .before .before .before .measure .ensures)) (omega arith) refl (c .code .ensures)
+    let z = c .before .before .before .before in
+    measures-sized kind (rw (c .before .before .m .given .1) at (z .measure .ensures)) (omega arith) refl (c .code .ensures)
 
 returns-2 : tie.Need-returns-2
 returns-2 c =

@@ -30,7 +30,9 @@ refusal-code-requires c κs = search needs
 
 returns : tie.Need-returns
 returns c =
-    reads-neither kind _ topRow (headless _ (c .before .before .before .before .head-end .ensures) (ap endsOut (c .before .before .enum-told .given .1))) (c .refusal-code .ensures ∙ ap (λ (x : Short). refusedCode (refusal (R.Short x))) (c .before .short .ensures))
+    let z = c .before .before .before .before in
+    reads-neither kind _ topRow (headless _ (z .head-end .ensures) (ap endsOut (c .before .before .enum-told .given .1)))
+    (c .refusal-code .ensures ∙ ap (λ (x : Short). refusedCode (refusal (R.Short x))) (c .before .short .ensures))
 
 unread-requires : tie.Need-unread-requires
 unread-requires c κs = search needs
@@ -41,14 +43,17 @@ returns-2 c =
 
 opened-behind-requires : tie.Need-opened-behind-requires
 opened-behind-requires c κs =
-    begins (c .before .before .before .before .before .before .before .before .before .before .before .before .before .before .before .args .body .now) (c .before .before .before .before .before .before .before .before .head-end .ensures) (ap endsOut (c .before .before .before .before .before .before .a .given .1))
+    let z = c .before .before .before .before .before .before in
+    let y = z .before .before .before .before .before .before .before .before .before in
+    begins (y .args .body .now) (z .before .before .head-end .ensures) (ap endsOut (z .a .given .1))
 
 enum-known-o : tie.Need-enum-known-o
 enum-known-o c = search needs
 
 record-at-requires : tie.Need-record-at-requires
 record-at-requires c κs =
-    ((rw (c .before .o .given .1) at (c .before .before .before .before .before .before .before .before .before .before .before .opened-behind .ensures) .gives) .found, (rw (c .before .o .given .1) at (c .before .before .before .before .before .before .before .before .before .before .before .opened-behind .ensures) .gives) .few)
+    let z = c .before .before .before .before .before .before .before .before .before .before .before in
+    ((rw (c .before .o .given .1) at (z .opened-behind .ensures) .gives) .found, (rw (c .before .o .given .1) at (z .opened-behind .ensures) .gives) .few)
 
 columns-requires : tie.Need-columns-requires
 columns-requires c κs = search needs
@@ -58,7 +63,8 @@ slice-aggregate-put-row c = search needs
 
 put-row-requires : tie.Need-put-row-requires
 put-row-requires c κs =
-    rw (c .before .before .columns .ensures) (c .before .before .before .before .before .before .before .before .before .before .before .before .before .before .before .before .before .before .before .before .if1 .left)
+    let z = c .before .before .before .before .before .before .before .before .before .before .before .before .before .before .before .before .before .before .before .before in
+    rw (c .before .before .columns .ensures) (z .if1 .left)
 
 enum-known-o-2 : tie.Need-enum-known-o-2
 enum-known-o-2 c = search needs
@@ -83,7 +89,12 @@ same-length-5 c = search needs
 
 returns-3 : tie.Need-returns-3
 returns-3 c =
-    reads-done kind _ topRow (c .before .before .before .before .before .before .before .before .before .before .before .before .before .before .before .before .before .before .before .before .before .before .before .if1 .left) ((rw (c .before .before .before .before .before .before .before .before .o .given .1) at (c .before .before .before .before .before .before .before .before .before .before .before .before .before .before .before .before .before .before .opened-behind .ensures) .gives) .reads (c .before .before .before .before .before .before .record-at .ensures)) refl (rw (c .before .before .before .before .before .columns .ensures) at (c .before .before .put-row .ensures))
+    let z = c .before .before .before .before .before in
+    let y = z .before .before .before .before .before .before .before .before .before .before .before .before .before in
+    let x = y .before .before .before .before .before in
+    reads-done kind _ topRow (x .if1 .left)
+    ((rw (z .before .before .before .o .given .1) at (y .opened-behind .ensures) .gives) .reads (z .before .record-at .ensures)) refl
+    (rw (z .columns .ensures) at (c .before .before .put-row .ensures))
 
 same-length-6 : tie.Need-same-length-6
 same-length-6 c = search needs
@@ -99,7 +110,10 @@ same-length-9 c = search needs
 
 returns-4 : tie.Need-returns-4
 returns-4 c =
-    reads-refused kind _ topRow (c .before .before .before .before .before .before .before .before .before .before .before .before .before .before .before .before .before .if1 .left) (rw (c .before .before .o2 .given .1) at (c .before .before .before .before .before .before .before .before .before .before .before .before .opened-behind .ensures) .gives) (c .refusal-code2 .ensures)
+    let z = c .before .before .before .before .before .before .before .before .before .before .before .before in
+    let y = z .before .before .before .before .before in
+    reads-refused kind _ topRow (y .if1 .left) (rw (c .before .before .o2 .given .1) at (z .opened-behind .ensures) .gives)
+    (c .refusal-code2 .ensures)
 
 pub mpegh-drc-loudness-read-spec : {M : Type 1} → statement M
 mpegh-drc-loudness-read-spec =

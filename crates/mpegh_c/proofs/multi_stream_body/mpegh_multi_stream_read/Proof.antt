@@ -43,14 +43,18 @@ same-length-2 c = search needs
 
 returns-2 : tie.Need-returns-2
 returns-2 c =
-    reads-done kind _ topRow (c .before .before .before .before .before .before .before .before .before .before .before .before .before .if1 .left) (rw (c .before .before .before .before .before .before .before .r .given .1) at (c .before .before .before .before .before .before .before .before .before .before .before .read .ensures)) refl (rw (c .before .before .before .before .before .columns .ensures) at (c .before .before .put-row .ensures))
+    let z = c .before .before .before .before .before in
+    let y = z .before .before .before .before .before .before in
+    reads-done kind _ topRow (y .before .before .if1 .left) (rw (z .before .before .r .given .1) at (y .read .ensures)) refl
+    (rw (z .columns .ensures) at (c .before .before .put-row .ensures))
 
 same-length-3 : tie.Need-same-length-3
 same-length-3 c = search needs
 
 returns-3 : tie.Need-returns-3
 returns-3 c =
-    reads-refused kind _ topRow (c .before .before .before .before .before .before .before .before .if1 .left) (rw (c .before .before .r2 .given .1) at (c .before .before .before .before .before .before .read .ensures)) (c .refusal-code .ensures)
+    reads-refused kind _ topRow (c .before .before .before .before .before .before .before .before .if1 .left)
+    (rw (c .before .before .r2 .given .1) at (c .before .before .before .before .before .before .read .ensures)) (c .refusal-code .ensures)
 
 pub mpegh-multi-stream-read-spec : {M : Type 1} → statement M
 mpegh-multi-stream-read-spec =

@@ -30,7 +30,8 @@ refusal-code-requires c κs = search needs
 
 returns : tie.Need-returns
 returns c =
-    reads-neither kind _ topRow (headless _ (c .before .before .before .before .head .ensures) (ap endsOut (c .before .before .enum-told2 .given .1))) (c .refusal-code .ensures ∙ ap (λ (x : Short). refusedCode (refusal (R.Short x))) (c .before .short .ensures))
+    reads-neither kind _ topRow (headless _ (c .before .before .before .before .head .ensures) (ap endsOut (c .before .before .enum-told2 .given .1)))
+    (c .refusal-code .ensures ∙ ap (λ (x : Short). refusedCode (refusal (R.Short x))) (c .before .short .ensures))
 
 unread-requires : tie.Need-unread-requires
 unread-requires c κs = search needs
@@ -47,7 +48,8 @@ enum-known-o c = search needs
 
 record-at-requires : tie.Need-record-at-requires
 record-at-requires c κs =
-    ((rw (c .before .o .given .1) at (c .before .before .before .before .before .before .before .before .before .before .before .before .before .opened .ensures) .gives) .found, (rw (c .before .o .given .1) at (c .before .before .before .before .before .before .before .before .before .before .before .before .before .opened .ensures) .gives) .few)
+    let z = c .before .before .before .before .before .before .before .before .before .before .before .before .before in
+    ((rw (c .before .o .given .1) at (z .opened .ensures) .gives) .found, (rw (c .before .o .given .1) at (z .opened .ensures) .gives) .few)
 
 columns-requires : tie.Need-columns-requires
 columns-requires c κs = search needs
@@ -57,7 +59,9 @@ slice-aggregate-put-row c = search needs
 
 put-row-requires : tie.Need-put-row-requires
 put-row-requires c κs =
-    rw (c .before .before .columns .ensures) (c .before .before .before .before .before .before .before .before .before .before .before .before .before .before .before .before .before .before .before .before .before .before .before .if1 .left)
+    let z =
+    c .before .before .before .before .before .before .before .before .before .before .before .before .before .before .before .before .before .before .before .before .before .before .before in
+    rw (c .before .before .columns .ensures) (z .if1 .left)
 
 enum-known-o-2 : tie.Need-enum-known-o-2
 enum-known-o-2 c = search needs
@@ -86,7 +90,12 @@ same-length-6 c = search needs
 
 returns-3 : tie.Need-returns-3
 returns-3 c =
-    reads-done kind _ topRow (c .before .before .before .before .before .before .before .before .before .before .before .before .before .before .before .before .before .before .before .before .before .before .before .before .before .before .if1 .left) ((rw (c .before .before .before .before .before .before .before .before .o .given .1) at (c .before .before .before .before .before .before .before .before .before .before .before .before .before .before .before .before .before .before .before .before .opened .ensures) .gives) .reads (c .before .before .before .before .before .before .record-at .ensures)) refl (rw (c .before .before .before .before .before .columns .ensures) at (c .before .before .put-row .ensures))
+    let z = c .before .before .before .before .before in
+    let y = z .before .before .before .before .before .before .before .before .before .before .before .before .before .before .before in
+    let x = y .before .before .before .before .before .before in
+    reads-done kind _ topRow (x .if1 .left)
+    ((rw (z .before .before .before .o .given .1) at (y .opened .ensures) .gives) .reads (z .before .record-at .ensures)) refl
+    (rw (z .columns .ensures) at (c .before .before .put-row .ensures))
 
 same-length-7 : tie.Need-same-length-7
 same-length-7 c = search needs
@@ -105,7 +114,9 @@ same-length-11 c = search needs
 
 returns-4 : tie.Need-returns-4
 returns-4 c =
-    reads-refused kind _ topRow (c .before .before .before .before .before .before .before .before .before .before .before .before .before .before .before .before .before .before .before .before .if1 .left) (rw (c .before .before .o2 .given .1) at (c .before .before .before .before .before .before .before .before .before .before .before .before .before .before .opened .ensures) .gives) (c .refusal-code2 .ensures)
+    let z = c .before .before .before .before .before .before .before .before .before .before .before .before .before .before in
+    let y = z .before .before .before .before .before .before in
+    reads-refused kind _ topRow (y .if1 .left) (rw (c .before .before .o2 .given .1) at (z .opened .ensures) .gives) (c .refusal-code2 .ensures)
 
 pub mpegh-scene-read-spec : {M : Type 1} → statement M
 mpegh-scene-read-spec =

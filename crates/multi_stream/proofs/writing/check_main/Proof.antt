@@ -40,7 +40,9 @@ check-groups-requires c κs =
 returns-2 : tie.Need-returns-2
 unfolding mainActs
 returns-2 c =
-    part-goes _ _ _ 131074 (c .before .before .before .before .before .before .before .before .if1 .taken) (all-checked (c .before .before .before .before .before .before .main-bytes .ensures) (c .before .before .before .before .check-all .ensures)) (c .before .before .p1 .given .1) (c .check-groups .ensures) (omega arith)
+    part-goes _ _ _ 131074 (c .before .before .before .before .before .before .before .before .if1 .taken)
+    (all-checked (c .before .before .before .before .before .before .main-bytes .ensures) (c .before .before .before .before .check-all .ensures))
+    (c .before .before .p1 .given .1) (c .check-groups .ensures) (omega arith)
 
 returns-3 : tie.Need-returns-3
 unfolding mainActs

@@ -17,7 +17,8 @@ abbrev in-groups : tie.Start → List Act
 in-groups c = rows (rowActs (c .args .groups .now)) 0 (c .args .main .part .groups)
 
 begin : (c : tie.Start) → c .args .main .present ≡ true
-    → Filling (mainActs (c .args .main) (c .args .groups .now)) (when true (map byte (mainFields (c .args .main .part))) ++ in-groups c) (c .args .n) (c .args .out .now) (c .args .n) (c .args .out .now)
+    → Filling (mainActs (c .args .main) (c .args .groups .now)) (when true (map byte (mainFields (c .args .main .part))) ++ in-groups c) (c .args .n) (c .args .out .now)
+    (c .args .n) (c .args .out .now)
 unfolding mainActs
 begin c t = part-begins (c .args .main .present) (map byte (mainFields (c .args .main .part))) (in-groups c) t (c .pre .1)
 
@@ -27,7 +28,8 @@ start c = c .before .before .before .before .before .before .before .before
 taken : (c : tie.After-fill-all) → start c .args .main .present ≡ true
 taken c = c .before .before .before .before .before .if1 .taken
 
-behind : (c : tie.After-fill-all) → Filling (mainActs (start c .args .main) (start c .args .groups .now)) (in-groups (start c)) (start c .args .n) (start c .args .out .now) (c .fill-all .result) (c .fill-all .last .0)
+behind : (c : tie.After-fill-all)
+    → Filling (mainActs (start c .args .main) (start c .args .groups .now)) (in-groups (start c)) (start c .args .n) (start c .args .out .now) (c .fill-all .result) (c .fill-all .last .0)
 behind c = fill-part _ (c .before .before .main-bytes .ensures) (begin (start c) (taken c)) (c .fill-all .ensures)
 
 main-bytes-requires : tie.Need-main-bytes-requires

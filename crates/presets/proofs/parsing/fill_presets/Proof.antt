@@ -10,7 +10,8 @@ use Rattle.presets.proofs.parsing.fill_presets.Statement.{statement}
 use Rattle.presets.proofs.parsing.fill_presets.Tie as tie
 
 abbrev Inv-loop : tie.InvT-loop
-Inv-loop body at count presets₀ conditions₀ pos₀ left₀ to₀ first₀ presets conditions pos left to first = Families preset 13 condition body at count presets₀ conditions₀ presets conditions pos left to first
+Inv-loop body at count presets₀ conditions₀ pos₀ left₀ to₀ first₀ presets conditions pos left to first =
+    Families preset 13 condition body at count presets₀ conditions₀ presets conditions pos left to first
 
 abbrev μ-loop : tie.MeasureT-loop
 μ-loop body at count presets₀ conditions₀ pos₀ left₀ to₀ first₀ presets conditions pos left to first = left

@@ -7,7 +7,8 @@ use borrow.Author.Needs.{needs}
 use Rattle.presets.proofs.parsing.preset_rows.Statement.{statement}
 use Rattle.presets.proofs.parsing.preset_rows.Tie as tie
 
-after-1 : (c : tie.After-known-told) → Three (c .before .before .before .before .before .args .body .now) (c .before .before .before .before .before .args .at) (c .before .a .given .0 .0)
+after-1 : (c : tie.After-known-told)
+    → Three (c .before .before .before .before .before .args .body .now) (c .before .before .before .before .before .args .at) (c .before .a .given .0 .0)
 after-1 c = three _ _ (c .before .before .before .before .before .pre) (c .before .before .before .head .ensures) (ap endsOut (c .before .a .given .1))
 
 head-requires : tie.Need-head-requires

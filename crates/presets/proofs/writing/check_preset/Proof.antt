@@ -17,8 +17,11 @@ use Rattle.presets.proofs.writing.check_preset.Tie as tie
 abbrev start : tie.After-check-all → tie.Start
 start c = c .before .before .before .before .before .before .before .before .before
 
-step-1 : (c : tie.After-check-all) → Checked (frontActs preset (length (start c .args .conditions .now) / 13) (presetCols (start c .args .p))) 3 (At (start c .args .n)) (c .check-all .result)
-step-1 c = rw front-acts (then (rw (c .before .before .before .before .before .before .in-table .ensures) at (c .before .before .before .before .before .demand .ensures)) (then (met F.Field _) (then (c .before .before .before .demand2 .ensures) (all-checked (c .before .before .head-bytes .ensures) (c .check-all .ensures)))))
+step-1 : (c : tie.After-check-all)
+    → Checked (frontActs preset (length (start c .args .conditions .now) / 13) (presetCols (start c .args .p))) 3 (At (start c .args .n)) (c .check-all .result)
+step-1 c =
+    rw front-acts
+    (then (rw (c .before .before .before .before .before .before .in-table .ensures) at (c .before .before .before .before .before .demand .ensures)) (then (met F.Field _) (then (c .before .before .before .demand2 .ensures) (all-checked (c .before .before .head-bytes .ensures) (c .check-all .ensures)))))
 
 in-table-requires : tie.Need-in-table-requires
 in-table-requires c κs = search needs

@@ -20,7 +20,8 @@ use Rattle.presets.proofs.writing.fill_preset.Tie as tie
 abbrev start : tie.After-fill-all → tie.Start
 start c = c .before .before .before .before .before .before
 
-step-1 : (c : tie.After-fill-all) → Filling (presetActs (start c .args .p) (start c .args .conditions .now)) (rows (rowActs (start c .args .conditions .now)) (start c .args .p .conditions .first) (start c .args .p .conditions .count) ++ []) (start c .args .n) (start c .args .out .now) (c .fill-all .result) (c .fill-all .last .0)
+step-1 : (c : tie.After-fill-all)
+    → Filling (presetActs (start c .args .p) (start c .args .conditions .now)) (rows (rowActs (start c .args .conditions .now)) (start c .args .p .conditions .first) (start c .args .p .conditions .count) ++ []) (start c .args .n) (start c .args .out .now) (c .fill-all .result) (c .fill-all .last .0)
 step-1 c = fill-part _ (c .before .before .head-bytes .ensures) (filling (start c .args .conditions .now) (presetCols (start c .args .p)) (start c .pre)) (c .fill-all .ensures)
 
 head-bytes-requires : tie.Need-head-bytes-requires

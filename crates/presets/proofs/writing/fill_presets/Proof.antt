@@ -12,7 +12,8 @@ use Rattle.presets.proofs.writing.fill_presets.Statement.{statement}
 use Rattle.presets.proofs.writing.fill_presets.Tie as tie
 
 abbrev Inv-loop : tie.InvT-loop
-Inv-loop presets conditions count out₀ n at₀ left₀ b₀ out at left b = (left ≤ count) × (b ≡ (0 + (count - left)) * 7) × Left (familyActs preset 13 condition presets conditions) 0 count left n out₀ at out
+Inv-loop presets conditions count out₀ n at₀ left₀ b₀ out at left b =
+    (left ≤ count) × (b ≡ (0 + (count - left)) * 7) × Left (familyActs preset 13 condition presets conditions) 0 count left n out₀ at out
 
 abbrev μ-loop : tie.MeasureT-loop
 μ-loop presets conditions count out₀ n at₀ left₀ b₀ out at left b = left

@@ -8,7 +8,8 @@ use borrow.Author.Needs.{needs}
 use Rattle.presets.proofs.writing.plain_bytes.Statement.{statement}
 use Rattle.presets.proofs.writing.plain_bytes.Tie as tie
 
-tested : (c : tie.After-fits-all) → (c .before .before .before .before .in-table .result && (leb 1 (c .before .before .before .before .before .before .before .args .p .conditions .count) && c .fits-all .result)) ≡ test (c .before .before .before .before .before .before .before .args .conditions .now) (presetCols (c .before .before .before .before .before .before .before .args .p))
+tested : (c : tie.After-fits-all)
+    → (c .before .before .before .before .in-table .result && (leb 1 (c .before .before .before .before .before .before .before .args .p .conditions .count) && c .fits-all .result)) ≡ test (c .before .before .before .before .before .before .before .args .conditions .now) (presetCols (c .before .before .before .before .before .before .before .args .p))
 tested c = λ i. c .before .before .before .before .in-table .ensures i && (leb 1 (c .before .before .before .before .before .before .before .args .p .conditions .count) && c .fits-all .ensures .of _ (c .before .before .head-bytes .ensures) i)
 
 in-table-requires : tie.Need-in-table-requires

@@ -13,7 +13,8 @@ use Rattle.presets.proofs.writing.plain_presets.Statement.{statement}
 use Rattle.presets.proofs.writing.plain_presets.Tie as tie
 
 abbrev Inv-loop : tie.InvT-loop
-Inv-loop presets conditions count bytes₀ left₀ b₀ bytes left b = (left ≤ count) × (b ≡ (count - left) * 7) × Going (familyActs preset 13 condition presets conditions) 99 count (count - left) bytes
+Inv-loop presets conditions count bytes₀ left₀ b₀ bytes left b =
+    (left ≤ count) × (b ≡ (count - left) * 7) × Going (familyActs preset 13 condition presets conditions) 99 count (count - left) bytes
 
 abbrev μ-loop : tie.MeasureT-loop
 μ-loop presets conditions count bytes₀ left₀ b₀ bytes left b = left
@@ -41,7 +42,8 @@ returns c =
 add-bytes : tie.Need-add-bytes Inv-loop μ-loop
 add-bytes c =
     let z = c .before .before .before .before in let l = c .if1 .left in
-    search (needs, turn-going (z .loop .left) (z .loop .inv .2) _ (row-at (z .before .before .before .args .presets .now) (z .before .before .before .args .conditions .now) (z .loop .b) _ (z .loop .inv .1)) (rw (c .before .before .of-columns .ensures) at (c .before .plain-bytes .ensures)) (z .loop .inv .0) (c .before .before .before .loop-test .taken) (omega (arith, l)))
+    search
+    (needs, turn-going (z .loop .left) (z .loop .inv .2) _ (row-at (z .before .before .before .args .presets .now) (z .before .before .before .args .conditions .now) (z .loop .b) _ (z .loop .inv .1)) (rw (c .before .before .of-columns .ensures) at (c .before .plain-bytes .ensures)) (z .loop .inv .0) (c .before .before .before .loop-test .taken) (omega (arith, l)))
 
 sub-left : tie.Need-sub-left Inv-loop μ-loop
 sub-left c =

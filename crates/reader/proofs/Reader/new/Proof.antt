@@ -82,13 +82,15 @@ module _ {M : Type 1} (𝓤 : URA M) (H : Heap 𝓤) (A : Atoms 𝓤) (W : Given
       let wt = shr-slice-lawful 𝓤 H A W (named 0) κ u8 .typed s (v ∷ []) is .0 in
       qed W (raw Entry ∷ []) ∵ enter ! C Λ code.function (v ∷ []) _ $
       alloc1 ! (λ l₀. alloc1 ! (λ l₁. alloc0 ! $ params1 ! $ pass1 ! (init ! 0 refl wt) $ pass0 ! $
-      assigns ! (agg ! (and-then ! (load ! (from ! (stop !)) (look ! 0 refl)) (and-then ! (lit ! tt) (no-more !)))) (from ! (stop !)) (init ! 2 refl (tt, (wt .1, (record { fits = lit< tt }, tt)))) $
+      assigns ! (agg ! (and-then ! (load ! (from ! (stop !)) (look ! 0 refl)) (and-then ! (lit ! tt) (no-more !)))) (from ! (stop !))
+      (init ! 2 refl (tt, (wt .1, (record { fits = lit< tt }, tt)))) $
       returns ! (look ! 2 refl) $ forget ! 0 refl $ forget ! 2 refl $ move ! (2 ∷ 3 ∷ []) $ free1 ! $ free1 ! $ free0 ! $ by ! (exits _ (lit< tt) (omega arith))))
 
 pub new-spec : {M : Type 1} → stated.statement M
 unfolding code.routine
 new-spec 𝓤 H 𝓜 𝓖 𝓡 =
     let W = givenOf 𝓤 H 𝓜 𝓖 in
-    ends 𝓤 H 𝓜 𝓖 𝓡 new.ended stayed (new.clauses 𝓤 H (𝓖 .A) (𝓜 .mem) (𝓡 .run)) code.env (goes-none-slice 𝓤 H (𝓖 .A) W 1 (0 ∷ []) tt (plain (λ _. u8)) yes, tt) #reader·new code.function (code.unfolded 𝓤 H 𝓜 𝓡)
+    ends 𝓤 H 𝓜 𝓖 𝓡 new.ended stayed (new.clauses 𝓤 H (𝓖 .A) (𝓜 .mem) (𝓡 .run)) code.env
+    (goes-none-slice 𝓤 H (𝓖 .A) W 1 (0 ∷ []) tt (plain (λ _. u8)) yes, tt) #reader·new code.function (code.unfolded 𝓤 H 𝓜 𝓡)
     (λ κs. (slice-vals, tt)) (λ κs. (shr-slice-tells (named 0) (κs .0) u8, tt))
     (λ fm κs qs bounds a g are. via 𝓤 _ (fst∗ 𝓤 _ (emp 𝓤)) (walk 𝓤 H (𝓖 .A) W (𝓜 .mem) (𝓡 .run) _ _ (κs .0) (qs .0) (a .0) (are .0)))

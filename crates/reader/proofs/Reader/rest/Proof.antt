@@ -63,27 +63,35 @@ module _ {M : Type 1} (𝓤 : URA M) (H : Heap 𝓤) (A : Atoms 𝓤) (W : Given
         alloc1 ! (λ l₀. alloc1 ! (λ l₁. alloc1 ! (λ l₂. alloc1 ! (λ l₃. alloc1 ! (λ l₄. alloc0 ! $ params1 ! $ pass1 ! (init ! 6 refl (tt, tt)) $ pass0 ! $
         move ! (11 ∷ 10 ∷ []) $ opens-reader ! tt ℓ d (λ wt.
         -- [the cell; what is open; 'a's token; what the others own; _4; …; _3; …; _2; …; _1; …; room for _0; …]
-        assigns ! (of-opd ! (load ! (from ! (hop ! (look ! 10 refl) (fld ! refl (stop !)))) (look-in ! 0 (sub ! 0 refl (whole !))))) (from ! (stop !)) (init ! 6 refl (tt, wt .1 .0)) $
-        assigns ! (of-opd ! (load ! (from ! (hop ! (look ! 10 refl) (fld ! refl (stop !)))) (look-in ! 0 (sub ! 1 refl (whole !))))) (from ! (stop !)) (init ! 4 refl (tt, wt .1 .1 .0)) $
+        assigns ! (of-opd ! (load ! (from ! (hop ! (look ! 10 refl) (fld ! refl (stop !)))) (look-in ! 0 (sub ! 0 refl (whole !))))) (from ! (stop !))
+        (init ! 6 refl (tt, wt .1 .0)) $
+        assigns ! (of-opd ! (load ! (from ! (hop ! (look ! 10 refl) (fld ! refl (stop !)))) (look-in ! 0 (sub ! 1 refl (whole !))))) (from ! (stop !))
+        (init ! 4 refl (tt, wt .1 .1 .0)) $
         move ! (1 ∷ 2 ∷ []) $ use2 W (raw (From .pre to) ⊛ Open 𝓤 ℓ d) (asks 𝓤 H A W ℓ d (wt .1 .1 .0 .fits) ftrue (id⊢ 𝓤 _)) $ split ! $
-        calls ! fm rest-from.ended (rest-from.clauses 𝓤 H A mem run) known to (λ r ws. now r ≡ drop (d .pos) (now (d .body))) (λ r ws. id⊢ 𝓤 _) (λ r. sliceVal (r .ptr) (length (r .now))) (shr-slice-tells (named 0) (ℓ .κ′) u8)
+        calls ! fm rest-from.ended (rest-from.clauses 𝓤 H A mem run) known to (λ r ws. now r ≡ drop (d .pos) (now (d .body))) (λ r ws. id⊢ 𝓤 _)
+        (λ r. sliceVal (r .ptr) (length (r .now))) (shr-slice-tells (named 0) (ℓ .κ′) u8)
         (and-then ! (load ! (from ! (stop !)) (look ! 6 refl)) (and-then ! (load ! (from ! (stop !)) (look ! 4 refl)) (no-more !))) (λ r ws e is. skip ! $
         -- [the rest; 'a's token; what is open; the cell; what the others own; _4; …; _3; …; room for _2; …; _1; …; room for _0; …]
         land ! (from ! (stop !)) (init ! 9 refl (shr-slice-lawful 𝓤 H A W erased (ℓ .κ′) u8 .typed r _ is .0)) $
-        assigns ! (of-opd ! (load ! (from ! (hop ! (look ! 11 refl) (fld ! refl (fld ! refl (stop !))))) (look-in ! 3 (sub ! 1 refl (sub ! 0 refl (whole !)))))) (from ! (stop !)) (store ! 5 refl (tt, wt .1 .0 .1 .0)) $
-        assigns ! (of-opd ! (load ! (from ! (stop !)) (look ! 5 refl))) (from ! (hop ! (look ! 11 refl) (fld ! refl (stop !)))) (store-in ! 3 (sub ! 1 refl (whole !)) (tt, wt .1 .0 .1 .0)) $
+        assigns ! (of-opd ! (load ! (from ! (hop ! (look ! 11 refl) (fld ! refl (fld ! refl (stop !))))) (look-in ! 3 (sub ! 1 refl (sub ! 0 refl (whole !))))))
+        (from ! (stop !)) (store ! 5 refl (tt, wt .1 .0 .1 .0)) $
+        assigns ! (of-opd ! (load ! (from ! (stop !)) (look ! 5 refl))) (from ! (hop ! (look ! 11 refl) (fld ! refl (stop !))))
+        (store-in ! 3 (sub ! 1 refl (whole !)) (tt, wt .1 .0 .1 .0)) $
         assigns ! (of-opd ! (load ! (from ! (stop !)) (look ! 9 refl))) (from ! (stop !)) (init ! 13 refl (shr-slice-lawful 𝓤 H A W (named 1) (ℓ .κ′) u8 .typed r _ is .0)) $
         move ! (3 ∷ 2 ∷ 1 ∷ 4 ∷ []) $ closes-reader ! tt ℓ d (length (now (d .body))) (wt .1 .0 .1 .0 .fits) $
         -- [self; the tokens; the rest; _4; …; _3; …; _2; …; _1; …; _0; …]
         returns ! (look ! 11 refl) $ forget ! 3 refl $ forget ! 5 refl $ forget ! 7 refl $ forget ! 9 refl $ forget ! 11 refl $
         move ! (11 ∷ 12 ∷ []) $ free1 ! $ move ! (9 ∷ 10 ∷ []) $ free1 ! $ move ! (7 ∷ 8 ∷ []) $ free1 ! $ move ! (5 ∷ 6 ∷ []) $ free1 ! $ move ! (3 ∷ 4 ∷ []) $ free1 ! $ free0 ! $ move ! (2 ∷ 1 ∷ 0 ∷ []) $
-        by ! (leaves 𝓤 H A W rest.ended stayed (rest.clauses 𝓤 H A mem run) at _ r (moved d (length (now (d .body))), tt) (tt, tt) (id⊢ 𝓤 _) (record { is = e; same = refl; moved = refl })))))))))
+        by !
+        (leaves 𝓤 H A W rest.ended stayed (rest.clauses 𝓤 H A mem run) at _ r (moved d (length (now (d .body))), tt) (tt, tt) (id⊢ 𝓤 _) (record { is = e; same = refl; moved = refl })))))))))
 
 pub rest-spec : {M : Type 1} → stated.statement M
 unfolding code.routine
 rest-spec 𝓤 H 𝓜 𝓖 𝓡 =
     let W = givenOf 𝓤 H 𝓜 𝓖 in
-    ends 𝓤 H 𝓜 𝓖 𝓡 rest.ended stayed (rest.clauses 𝓤 H (𝓖 .A) (𝓜 .mem) (𝓡 .run)) code.env (goes-ref 𝓤 H (𝓖 .A) W 2 0 tt behind, tt) #reader·rest code.function (code.unfolded 𝓤 H 𝓜 𝓡)
-    (λ κs. (ptr-vals, tt)) (λ κs. (mut-tells (named 0) (κs .0) (row (κs .1 .0)), tt)) (λ fm κs qs bounds a g are. via 𝓤 _ (fst∗ 𝓤 _ (emp 𝓤)) (walk 𝓤 H (𝓖 .A) W (𝓜 .mem) (𝓡 .run) _ _ fm
+    ends 𝓤 H 𝓜 𝓖 𝓡 rest.ended stayed (rest.clauses 𝓤 H (𝓖 .A) (𝓜 .mem) (𝓡 .run)) code.env (goes-ref 𝓤 H (𝓖 .A) W 2 0 tt behind, tt) #reader·rest code.function
+    (code.unfolded 𝓤 H 𝓜 𝓡)
+    (λ κs. (ptr-vals, tt)) (λ κs. (mut-tells (named 0) (κs .0) (row (κs .1 .0)), tt))
+    (λ fm κs qs bounds a g are. via 𝓤 _ (fst∗ 𝓤 _ (emp 𝓤)) (walk 𝓤 H (𝓖 .A) W (𝓜 .mem) (𝓡 .run) _ _ fm
     (cited 𝓤 H _ 𝓜 𝓡 code.env #reader·rest-from rest-from-def.routine code.calls-reader·reads·rest-from (rest-from-thm.met 𝓤 H 𝓜 𝓖 𝓡))
     (passed κs qs (a .0)) bounds (a .0 .now)))

@@ -18,21 +18,28 @@ part-requires c κs = search needs
 
 fill-groups-section-requires : tie.Need-fill-groups-section-requires
 fill-groups-section-requires c κs =
-    groups-ask (c .before .before .before .before .before .before .before .before .before .before .pre .0) (c .before .before .before .before .before .before .before .before .before .before .pre .1) _ _ _ _ _ (c .before .before .before .before .before .before .before .before .before .before .pre .2) (c .before .part .ensures ∙ ap (part 7 1) (c .before .before .wide .ensures))
+    groups-ask (c .before .before .before .before .before .before .before .before .before .before .pre .0)
+    (c .before .before .before .before .before .before .before .before .before .before .pre .1) _ _ _ _ _
+    (c .before .before .before .before .before .before .before .before .before .before .pre .2)
+    (c .before .part .ensures ∙ ap (part 7 1) (c .before .before .wide .ensures))
 
 part-requires-2 : tie.Need-part-requires-2
 part-requires-2 c κs = search needs
 
 fill-switch-groups-section-requires : tie.Need-fill-switch-groups-section-requires
 fill-switch-groups-section-requires c κs =
-    switches-ask (c .before .before .before .before .before .before .before .before .before .before .before .before .before .before .before .before .pre .0) (c .before .before .before .before .before .before .before .before .before .before .before .before .before .before .before .before .pre .1) _ _ _ _ _ (c .before .before .before .before .before .before .before .before .before .before .before .before .before .before .before .before .pre .2) (c .before .before .part2 .ensures ∙ ap (part 6 1) (c .before .before .before .before .before .before .before .before .wide .ensures))
+    let z = c .before .before .before .before .before .before .before .before in
+    let y = z .before .before .before .before .before .before .before .before in
+    switches-ask (y .pre .0) (y .pre .1) _ _ _ _ _ (y .pre .2) (c .before .before .part2 .ensures ∙ ap (part 6 1) (z .wide .ensures))
 
 part-requires-3 : tie.Need-part-requires-3
 part-requires-3 c κs = search needs
 
 fill-presets-section-requires : tie.Need-fill-presets-section-requires
 fill-presets-section-requires c κs =
-    presets-ask (c .before .before .before .before .before .before .before .before .before .before .before .before .before .before .before .before .before .before .before .before .before .before .before .before .pre .0) (c .before .before .before .before .before .before .before .before .before .before .before .before .before .before .before .before .before .before .before .before .before .before .before .before .pre .1) _ _ _ _ _ (c .before .before .before .before .before .before .before .before .before .before .before .before .before .before .before .before .before .before .before .before .before .before .before .before .pre .2) (c .before .before .part3 .ensures ∙ ap (part 5 1) (c .before .before .before .before .before .before .before .before .before .before .before .before .before .before .before .before .wide .ensures))
+    let z = c .before .before .before .before .before .before .before .before .before .before .before .before .before .before .before .before in
+    let y = z .before .before .before .before .before .before .before .before in
+    presets-ask (y .pre .0) (y .pre .1) _ _ _ _ _ (y .pre .2) (c .before .before .part3 .ensures ∙ ap (part 5 1) (z .wide .ensures))
 
 same-length : tie.Need-same-length
 same-length c = search needs
@@ -51,7 +58,13 @@ same-length-5 c = search needs
 
 returns : tie.Need-returns
 returns c =
-    stored (c .before .before .before .before .before .before .before .before .before .before .before .before .before .before .before .before .before .before .before .before .before .before .before .before .before .before .before .before .before .pre .0) (c .before .before .before .before .before .before .before .before .before .before .before .before .before .before .before .before .before .before .before .before .before .before .before .before .before .before .before .before .before .pre .1) _ _ _ _ _ (flags-so (c .before .before .before .before .before .before .before .before .before .before .before .before .before .before .before .before .before .before .before .before .before .wide .ensures) (c .before .before .before .before .before .before .before .before .before .before .before .before .before .before .before .before .before .before .before .before .part .ensures) (c .before .before .before .before .before .before .before .before .before .before .before .before .before .before .before .part2 .ensures) (c .before .before .before .before .before .before .before .part3 .ensures)) (c .before .before .before .before .before .before .before .before .before .before .before .before .before .before .before .before .before .before .before .before .before .before .before .before .before .before .before .before .before .pre .2) (c .before .before .before .before .before .before .before .before .before .before .before .before .before .before .before .before .before .before .fill-groups-section .ensures) (c .before .before .before .before .before .before .before .before .before .before .before .before .fill-switch-groups-section .ensures) (c .before .before .before .before .fill-presets-section .ensures)
+    let z = c .before .before .before .before in
+    let y = z .before .before .before .before .before .before .before .before in
+    let x = y .before .before .before .before .before .before in
+    let w = x .before .before .before .before .before .before .before .before .before .before .before in
+    stored (w .pre .0) (w .pre .1) _ _ _ _ _
+    (flags-so (x .before .before .before .wide .ensures) (x .before .before .part .ensures) (y .before .before .before .part2 .ensures) (z .before .before .before .part3 .ensures))
+    (w .pre .2) (x .fill-groups-section .ensures) (y .fill-switch-groups-section .ensures) (z .fill-presets-section .ensures)
 
 pub fill-spec : {M : Type 1} → statement M
 fill-spec =

@@ -14,14 +14,16 @@ cast-fill-groups c = search needs
 
 fill-groups-requires : tie.Need-fill-groups-requires
 fill-groups-requires c κs =
-    rw (c .before .rows-at .ensures, c .before .before .count-at .ensures .0) (c .before .before .before .before .before .pre .0, c .before .before .before .before .before .pre .1, c .before .before .before .before .before .pre .2)
+    let z = c .before .before .before .before .before in
+    rw (c .before .rows-at .ensures, c .before .before .count-at .ensures .0) (z .pre .0, z .pre .1, z .pre .2)
 
 same-length : tie.Need-same-length
 same-length c = search needs
 
 returns : tie.Need-returns
 returns c =
-    rw (← c .before .before .before .before .rows-at .ensures, ← c .before .before .before .before .before .count-at .ensures .0) (c .before .before .fill-groups .ensures)
+    let z = c .before .before .before .before in
+    rw (← z .rows-at .ensures, ← z .before .count-at .ensures .0) (c .before .before .fill-groups .ensures)
 
 pub fill-groups-section-spec : {M : Type 1} → statement M
 fill-groups-section-spec =

@@ -14,7 +14,8 @@ cast-fill-presets c = search needs
 
 fill-presets-requires : tie.Need-fill-presets-requires
 fill-presets-requires c κs =
-    rw (c .before .before .rows-at .ensures, c .before .before .before .count-at .ensures .0) (c .before .before .before .before .before .before .before .pre .0, c .before .before .before .before .before .before .before .pre .1)
+    rw (c .before .before .rows-at .ensures, c .before .before .before .count-at .ensures .0)
+    (c .before .before .before .before .before .before .before .pre .0, c .before .before .before .before .before .before .before .pre .1)
 
 same-length : tie.Need-same-length
 same-length c = search needs
@@ -24,7 +25,9 @@ same-length-2 c = search needs
 
 returns : tie.Need-returns
 returns c =
-    rw (← c .before .before .before .before .before .before .before .rows-at .ensures, ← c .before .before .before .before .before .before .before .before .count-at .ensures .0) (c .before .before .before .before .fill-presets .ensures)
+    let z = c .before .before .before .before in
+    let y = z .before .before .before .before in
+    rw (← z .before .before .before .rows-at .ensures, ← y .count-at .ensures .0) (z .fill-presets .ensures)
 
 pub fill-presets-section-spec : {M : Type 1} → statement M
 fill-presets-section-spec =

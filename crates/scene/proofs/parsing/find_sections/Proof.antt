@@ -27,7 +27,9 @@ groups c =
 abbrev back-2 : tie.After-switch-groups-rows → tie.After-known-told2
 back-2 c = c .before .before
 
-switches : (c : tie.After-known-told3) → InSwitches (start (back-1 (back-2 (c .before .before .before) .before .before .before)) .args .body .now) (back-2 (c .before .before .before) .before .g .given .0 .0) (c .before .s .given .0 .0) (c .before .s .given .0 .1 .0)
+switches : (c : tie.After-known-told3)
+    → InSwitches (start (back-1 (back-2 (c .before .before .before) .before .before .before)) .args .body .now)
+    (back-2 (c .before .before .before) .before .g .given .0 .0) (c .before .s .given .0 .0) (c .before .s .given .0 .1 .0)
 switches c =
     let d = c .before .before .before in
     let b = back-2 d .before .before .before in

@@ -29,14 +29,16 @@ returns c =
 
 shared-slice-read-wide : tie.Need-shared-slice-read-wide
 shared-slice-read-wide c =
-    let h = ones-past 2 _ 0 (omega arith) (c .before .before .before .before .head .ensures) (ap endsOut (c .before .before .a .given .1)) .inside in omega arith
+    let z = c .before .before .before .before in
+    let h = ones-past 2 _ 0 (omega arith) (z .head .ensures) (ap endsOut (c .before .before .a .given .1)) .inside in omega arith
 
 wide-requires : tie.Need-wide-requires
 wide-requires c κs = search needs
 
 returns-2 : tie.Need-returns-2
 returns-2 c =
-    record { sees = none-so (ones-past 2 _ 0 (omega arith) (c .before .before .before .before .before .before .head .ensures) (ap endsOut (c .before .before .before .before .a .given .1))) (c .before .wide .ensures) (c .if1 .taken) }
+    let z = c .before .before .before .before in
+    record { sees = none-so (ones-past 2 _ 0 (omega arith) (z .before .before .head .ensures) (ap endsOut (z .a .given .1))) (c .before .wide .ensures) (c .if1 .taken) }
 
 part-requires : tie.Need-part-requires
 part-requires c κs = search needs
@@ -49,7 +51,9 @@ part-requires-3 c κs = search needs
 
 first-section-requires : tie.Need-first-section-requires
 first-section-requires c κs =
-    let i = ones-past 2 _ 0 (omega arith) (c .before .before .before .before .before .before .before .before .before .head .ensures) (ap endsOut (c .before .before .before .before .before .before .before .a .given .1)) .inside in (i, flags-so (c .before .before .before .before .wide .ensures) (c .before .before .part .ensures) (c .before .part2 .ensures) (c .part3 .ensures), omega (arith, c .before .before .before .before .wide .ensures, c .before .before .before .if1 .left), omega (arith, c .before .before .before .before .before .shared-slice-known2 .given 0))
+    let z = c .before .before .before .before in
+    let y = z .before .before .before .before .before in
+    let i = ones-past 2 _ 0 (omega arith) (y .head .ensures) (ap endsOut (z .before .before .before .a .given .1)) .inside in (i, flags-so (z .wide .ensures) (c .before .before .part .ensures) (c .before .part2 .ensures) (c .part3 .ensures), omega (arith, z .wide .ensures, c .before .before .before .if1 .left), omega (arith, z .before .shared-slice-known2 .given 0))
 
 returns-3 : tie.Need-returns-3
 returns-3 c = search needs

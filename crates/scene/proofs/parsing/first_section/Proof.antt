@@ -21,11 +21,13 @@ short-requires c κs = search needs
 
 returns : tie.Need-returns
 returns c =
-    record { sees = cut-so _ (c .before .before .before .before .before .pre .0) (c .before .before .before .head .ensures) (c .before .before .before .before .before .pre .2) (c .before .before .before .before .before .pre .3) (ap endsOut (c .before .enum-told2 .given .1)) (c .short .ensures) }
+    let z = c .before .before .before .before .before in
+    record { sees = cut-so _ (z .pre .0) (c .before .before .before .head .ensures) (z .pre .2) (z .pre .3) (ap endsOut (c .before .enum-told2 .given .1)) (c .short .ensures) }
 
 count-at-requires : tie.Need-count-at-requires
 count-at-requires c κs =
-    (omega (arith, first-there _ (c .before .before .before .before .pre .0) (c .before .before .head .ensures) (ap endsOut (c .enum-told .given .1)), rows-at-near (c .before .before .before .before .args .g) 2), omega arith)
+    let z = c .before .before .before .before in
+    (omega (arith, first-there _ (z .pre .0) (c .before .before .head .ensures) (ap endsOut (c .enum-told .given .1)), rows-at-near (z .args .g) 2), omega arith)
 
 returns-2 : tie.Need-returns-2
 returns-2 c = search needs

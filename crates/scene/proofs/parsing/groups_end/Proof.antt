@@ -13,7 +13,9 @@ abbrev start : tie.After-known-told → tie.Start
 start c = c .before .before .before .before .before .before
 
 began : (c : tie.After-known-told) → Begun (start c .args .body .now) (start c .args .flag) (start c .args .at) (c .before .a .given .0 .0)
-began c = begins _ _ _ (start c .pre) (c .before .before .before .before .size .ensures) (c .before .before .before .head .ensures) (ap endsOut (c .before .a .given .1))
+began c =
+    let z = c .before .before .before .before in
+    begins _ _ _ (start c .pre) (z .size .ensures) (c .before .before .before .head .ensures) (ap endsOut (c .before .a .given .1))
 
 size-requires : tie.Need-size-requires
 size-requires c κs = search needs

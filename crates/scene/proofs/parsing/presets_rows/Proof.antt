@@ -14,7 +14,9 @@ abbrev start : tie.After-known-told → tie.Start
 start c = c .before .before .before .before .before .before
 
 began : (c : tie.After-known-told) → Begun (start c .args .body .now) (start c .args .flag) (start c .args .at) (c .before .a .given .0 .0)
-began c = begins _ _ _ (start c .pre) (c .before .before .before .before .size .ensures) (c .before .before .before .head .ensures) (ap endsOut (c .before .a .given .1))
+began c =
+    let z = c .before .before .before .before in
+    begins _ _ _ (start c .pre) (z .size .ensures) (c .before .before .before .head .ensures) (ap endsOut (c .before .a .given .1))
 
 size-requires : tie.Need-size-requires
 size-requires c κs = search needs
@@ -32,7 +34,10 @@ short-requires : tie.Need-short-requires
 short-requires c κs = search needs
 
 returns : tie.Need-returns
-returns c = section-cut-sum presets 3 5 7 _ _ _ (λ l. length (kids l)) (c .before .before .before .before .size .ensures) (c .before .before .before .head .ensures) (ap endsOut (c .before .enum-told .given .1)) (c .short .ensures)
+returns c =
+    let z = c .before .before .before .before in
+    section-cut-sum presets 3 5 7 _ _ _ (λ l. length (kids l)) (z .size .ensures) (c .before .before .before .head .ensures)
+    (ap endsOut (c .before .enum-told .given .1)) (c .short .ensures)
 
 count-at-requires : tie.Need-count-at-requires
 count-at-requires c κs = (began c .there-is, omega arith)
@@ -44,7 +49,9 @@ measure-presets-requires : tie.Need-measure-presets-requires
 measure-presets-requires c κs = (began (c .before) .inside, c .count-at .ensures .1)
 
 returns-2 : tie.Need-returns-2
-returns-2 c = section-sum presets 3 5 7 _ _ _ (λ l. length (kids l)) (began (c .before .before)) (c .before .count-at .ensures .0) (omega (arith, c .before .count-at .ensures .1)) (c .measure-presets .ensures)
+returns-2 c =
+    section-sum presets 3 5 7 _ _ _ (λ l. length (kids l)) (began (c .before .before)) (c .before .count-at .ensures .0) (omega (arith, c .before .count-at .ensures .1))
+    (c .measure-presets .ensures)
 
 pub presets-rows-spec : {M : Type 1} → statement M
 presets-rows-spec =

@@ -42,44 +42,68 @@ cast-t14 c = search needs
 
 section-at-requires : tie.Need-section-at-requires
 section-at-requires c κs =
-    (groups-there (c .before .before .before .before .before .before .before .before .before .before .pre .0) (c .before .before .before .before .before .before .part .ensures ∙ ap (part 7 1) (c .before .before .before .before .before .before .before .wide .ensures)), omega arith)
+    let z = c .before .before .before .before .before .before in
+    let y = z .before .before .before .before in
+    (groups-there (y .pre .0) (z .part .ensures ∙ ap (part 7 1) (z .before .wide .ensures)), omega arith)
 
 reserved-at-requires : tie.Need-reserved-at-requires
 reserved-at-requires c κs =
-    (switches-there (c .before .before .before .before .before .before .before .before .before .before .before .pre .0) (c .before .before .before .before .before .before .part2 .ensures ∙ ap (part 6 1) (c .before .before .before .before .before .before .before .before .wide .ensures)), omega arith, omega arith, omega arith)
+    let z = c .before .before .before .before .before .before in
+    let y = z .before .before .before .before .before in
+    (switches-there (y .pre .0) (z .part2 .ensures ∙ ap (part 6 1) (z .before .before .wide .ensures)), omega arith, omega arith, omega arith)
 
 cast-t17 : tie.Need-cast-t17
 cast-t17 c = search needs
 
 section-at-requires-2 : tie.Need-section-at-requires-2
 section-at-requires-2 c κs =
-    (switches-there (c .before .before .before .before .before .before .before .before .before .before .before .before .pre .0) (c .before .before .before .before .before .before .before .part2 .ensures ∙ ap (part 6 1) (c .before .before .before .before .before .before .before .before .before .wide .ensures)), omega arith)
+    let z = c .before .before .before .before .before .before .before in
+    let y = z .before .before .before .before .before in
+    (switches-there (y .pre .0) (z .part2 .ensures ∙ ap (part 6 1) (z .before .before .wide .ensures)), omega arith)
 
 reserved-at-requires-2 : tie.Need-reserved-at-requires-2
 reserved-at-requires-2 c κs =
-    (presets-there (c .before .before .before .before .before .before .before .before .before .before .before .before .before .pre .0) (c .before .before .before .before .before .before .before .part3 .ensures ∙ ap (part 5 1) (c .before .before .before .before .before .before .before .before .before .before .wide .ensures)), omega arith, omega arith, omega arith)
+    let z = c .before .before .before .before .before .before .before in
+    let y = z .before .before .before .before .before .before in
+    (presets-there (y .pre .0) (z .part3 .ensures ∙ ap (part 5 1) (z .before .before .before .wide .ensures)), omega arith, omega arith, omega arith)
 
 cast-t20 : tie.Need-cast-t20
 cast-t20 c = search needs
 
 section-at-requires-3 : tie.Need-section-at-requires-3
 section-at-requires-3 c κs =
-    (presets-there (c .before .before .before .before .before .before .before .before .before .before .before .before .before .before .pre .0) (c .before .before .before .before .before .before .before .before .part3 .ensures ∙ ap (part 5 1) (c .before .before .before .before .before .before .before .before .before .before .before .wide .ensures)), omega arith)
+    let z = c .before .before .before .before .before .before .before .before in
+    let y = z .before .before .before .before .before .before in
+    (presets-there (y .pre .0) (z .part3 .ensures ∙ ap (part 5 1) (z .before .before .before .wide .ensures)), omega arith)
 
 reserved-at-requires-3 : tie.Need-reserved-at-requires-3
 reserved-at-requires-3 c κs =
-    (groups-there (c .before .before .before .before .before .before .before .before .before .before .before .before .before .before .before .pre .0) (c .before .before .before .before .before .before .before .before .before .before .before .part .ensures ∙ ap (part 7 1) (c .before .before .before .before .before .before .before .before .before .before .before .before .wide .ensures)), omega arith, omega arith, omega arith)
+    let z = c .before .before .before .before .before .before .before .before .before .before .before in
+    let y = z .before .before .before .before in
+    (groups-there (y .pre .0) (z .part .ensures ∙ ap (part 7 1) (z .before .wide .ensures)), omega arith, omega arith, omega arith)
 
 cast-t23 : tie.Need-cast-t23
 cast-t23 c = search needs
 
 trailing-run-requires : tie.Need-trailing-run-requires
 trailing-run-requires c κs =
-    (at-end (c .before .before .before .before .before .before .before .before .before .before .before .before .before .before .before .before .pre .0), c .before .before .before .before .before .before .before .before .before .before .before .before .before .before .before .before .pre .1)
+    let z = c .before .before .before .before .before .before .before .before .before .before .before .before .before .before .before .before in
+    (at-end (z .pre .0), z .pre .1)
 
 returns : tie.Need-returns
 returns c =
-    recorded (c .before .before .before .before .before .before .before .before .before .before .before .before .before .before .before .before .before .pre .0) (c .before .before .before .before .before .before .before .before .before .before .before .before .before .before .before .before .before .pre .1) (flags-so (c .before .before .before .before .before .before .before .before .before .before .before .before .before .before .wide .ensures) (c .before .before .before .before .before .before .before .before .before .before .before .before .before .part .ensures) (c .before .before .before .before .before .before .before .before .before .before .before .before .part2 .ensures) (c .before .before .before .before .before .before .before .before .before .before .before .part3 .ensures)) (c .before .before .before .before .before .before .before .before .before .before .part4 .ensures ∙ ap (part 0 5) (c .before .before .before .before .before .before .before .before .before .before .before .before .before .before .wide .ensures)) (c .before .before .before .before .before .before .before .part5 .ensures ∙ ap (part 0 8) (c .before .before .before .before .before .before .before .before .wide2 .ensures)) (c .before .before .before .before .before .before .section-at .ensures) (c .before .before .before .before .before .reserved-at .ensures .0) (c .before .before .before .before .section-at2 .ensures) (c .before .before .before .reserved-at2 .ensures .0) (c .before .before .section-at3 .ensures) (c .before .reserved-at3 .ensures .0) (c .trailing-run .ensures)
+    let z = c .before .before .before .before in
+    let y = z .before .before .before .before in
+    let x = y .before .before .before .before in
+    let w = x .before .before .before .before .before in
+    recorded (w .pre .0)
+    (w .pre .1)
+    (flags-so (x .before .before .wide .ensures) (x .before .part .ensures) (x .part2 .ensures) (y .before .before .before .part3 .ensures))
+    (y .before .before .part4 .ensures ∙ ap (part 0 5) (x .before .before .wide .ensures))
+    (z .before .before .before .part5 .ensures ∙ ap (part 0 8) (y .wide2 .ensures))
+    (z .before .before .section-at .ensures) (z .before .reserved-at .ensures .0)
+    (z .section-at2 .ensures) (c .before .before .before .reserved-at2 .ensures .0) (c .before .before .section-at3 .ensures)
+    (c .before .reserved-at3 .ensures .0) (c .trailing-run .ensures)
 
 pub record-at-spec : {M : Type 1} → statement M
 record-at-spec =

@@ -16,7 +16,8 @@ part-requires c κs = search needs
 
 returns : tie.Need-returns
 returns c =
-    reserved-there _ _ _ _ _ (c .before .before .before .before .before .args .ones) (c .before .before .before .if1 .taken) (c .before .wide .ensures) (c .part .ensures) (c .before .before .before .before .before .pre .2)
+    let z = c .before .before .before .before .before in
+    reserved-there _ _ _ _ _ (z .args .ones) (c .before .before .before .if1 .taken) (c .before .wide .ensures) (c .part .ensures) (z .pre .2)
 
 returns-2 : tie.Need-returns-2
 returns-2 c =

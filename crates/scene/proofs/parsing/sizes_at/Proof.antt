@@ -25,7 +25,8 @@ part-requires-2 c κs = search needs
 
 count-at-requires-2 : tie.Need-count-at-requires-2
 count-at-requires-2 c κs =
-    (switches-there (c .before .before .before .before .before .before .pre .0) (c .part2 .ensures ∙ ap (part 6 1) (c .before .before .before .wide .ensures)), omega arith)
+    let z = c .before .before .before .before .before .before in
+    (switches-there (z .pre .0) (c .part2 .ensures ∙ ap (part 6 1) (c .before .before .before .wide .ensures)), omega arith)
 
 cast-t10 : tie.Need-cast-t10
 cast-t10 c = search needs
@@ -35,14 +36,19 @@ part-requires-3 c κs = search needs
 
 count-at-requires-3 : tie.Need-count-at-requires-3
 count-at-requires-3 c κs =
-    (presets-there (c .before .before .before .before .before .before .before .before .before .pre .0) (c .part3 .ensures ∙ ap (part 5 1) (c .before .before .before .before .before .before .wide .ensures)), omega arith)
+    let z = c .before .before .before .before .before .before in
+    (presets-there (z .before .before .before .pre .0) (c .part3 .ensures ∙ ap (part 5 1) (z .wide .ensures)), omega arith)
 
 cast-t13 : tie.Need-cast-t13
 cast-t13 c = search needs
 
 returns : tie.Need-returns
 returns c =
-    counted (c .before .before .before .before .before .before .before .before .before .before .before .pre .0) (c .before .before .before .before .before .before .before .before .before .before .before .pre .1) (flags-so (c .before .before .before .before .before .before .before .before .wide .ensures) (c .before .before .before .before .before .before .before .part .ensures) (c .before .before .before .before .before .part2 .ensures) (c .before .before .part3 .ensures)) (c .before .before .before .before .before .before .count-at .ensures .0) (c .before .before .before .before .count-at2 .ensures .0) refl (c .before .count-at3 .ensures .0) refl refl
+    let z = c .before .before .before .before in
+    let y = z .before .before .before .before in
+    counted (y .before .before .before .pre .0) (y .before .before .before .pre .1)
+    (flags-so (y .wide .ensures) (z .before .before .before .part .ensures) (z .before .part2 .ensures) (c .before .before .part3 .ensures))
+    (z .before .before .count-at .ensures .0) (z .count-at2 .ensures .0) refl (c .before .count-at3 .ensures .0) refl refl
 
 pub sizes-at-spec : {M : Type 1} → statement M
 sizes-at-spec =

@@ -22,7 +22,8 @@ rows-at-requires c κs = search needs
 
 tally-groups-requires : tie.Need-tally-groups-requires
 tally-groups-requires c κs =
-    rw (c .rows-at .ensures, c .before .count-at .ensures .0) (c .before .before .before .before .pre .0, c .before .before .before .before .pre .1, omega (arith, c .before .count-at .ensures .1))
+    rw (c .rows-at .ensures, c .before .count-at .ensures .0)
+    (c .before .before .before .before .pre .0, c .before .before .before .before .pre .1, omega (arith, c .before .count-at .ensures .1))
 
 cast-result : tie.Need-cast-result
 cast-result c = search needs

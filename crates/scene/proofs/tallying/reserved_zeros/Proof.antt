@@ -19,7 +19,8 @@ idle-bits-requires c κs = search needs
 
 returns : tie.Need-returns
 returns c =
-    zeros-there _ _ _ _ _ (c .before .before .before .before .if1 .taken) (c .before .before .wide .ensures) (c .before .part .ensures) (c .idle-bits .ensures)
+    let z = c .before .before .before .before in
+    zeros-there _ _ _ _ _ (z .if1 .taken) (c .before .before .wide .ensures) (c .before .part .ensures) (c .idle-bits .ensures)
 
 returns-2 : tie.Need-returns-2
 returns-2 c =

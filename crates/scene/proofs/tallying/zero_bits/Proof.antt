@@ -29,14 +29,16 @@ part-requires-2 c κs = search needs
 
 groups-zeros-requires : tie.Need-groups-zeros-requires
 groups-zeros-requires c κs =
-    let e = c .part2 .ensures ∙ ap (part 7 1) (c .before .before .before .wide .ensures) in let w = groups-stand (c .before .before .before .before .before .before .pre .0) in rw e (w .there-is, ap isDone (w .reads), omega arith)
+    let z = c .before .before .before .before .before .before in
+    let e = c .part2 .ensures ∙ ap (part 7 1) (c .before .before .before .wide .ensures) in let w = groups-stand (z .pre .0) in rw e (w .there-is, ap isDone (w .reads), omega arith)
 
 part-requires-3 : tie.Need-part-requires-3
 part-requires-3 c κs = search needs
 
 switch-groups-zeros-requires : tie.Need-switch-groups-zeros-requires
 switch-groups-zeros-requires c κs =
-    let e = c .part3 .ensures ∙ ap (part 6 1) (c .before .before .before .before .before .wide .ensures) in let w = switches-stand (c .before .before .before .before .before .before .before .before .pre .0) in rw e (w .there-is, ap isDone (w .reads), omega (arith, at-switches (c .before .before .before .before .before .before .before .before .pre .0), c .before .before .before .before .before .before .before .before .pre .1))
+    let z = c .before .before .before .before .before in
+    let e = c .part3 .ensures ∙ ap (part 6 1) (z .wide .ensures) in let w = switches-stand (z .before .before .before .pre .0) in rw e (w .there-is, ap isDone (w .reads), omega (arith, at-switches (z .before .before .before .pre .0), z .before .before .before .pre .1))
 
 add-result : tie.Need-add-result
 add-result c = search needs
@@ -46,7 +48,8 @@ part-requires-4 c κs = search needs
 
 presets-zeros-requires : tie.Need-presets-zeros-requires
 presets-zeros-requires c κs =
-    let e = c .part4 .ensures ∙ ap (part 5 1) (c .before .before .before .before .before .before .before .wide .ensures) in let w = presets-stand (c .before .before .before .before .before .before .before .before .before .before .pre .0) in rw e (w .there-is, ap isDone (w .reads), omega (arith, at-presets (c .before .before .before .before .before .before .before .before .before .before .pre .0), c .before .before .before .before .before .before .before .before .before .before .pre .1))
+    let z = c .before .before .before .before .before .before .before in
+    let e = c .part4 .ensures ∙ ap (part 5 1) (z .wide .ensures) in let w = presets-stand (z .before .before .before .pre .0) in rw e (w .there-is, ap isDone (w .reads), omega (arith, at-presets (z .before .before .before .pre .0), z .before .before .before .pre .1))
 
 add-result-2 : tie.Need-add-result-2
 add-result-2 c = search needs
@@ -56,7 +59,12 @@ add-result-3 c = search needs
 
 returns : tie.Need-returns
 returns c =
-    zeros-so (c .before .before .before .before .before .before .before .before .before .before .before .pre .0) (c .before .before .before .before .before .before .before .before .before .before .before .pre .1) (flags-so (c .before .before .before .before .before .before .before .before .wide .ensures) (c .before .before .before .before .before .part2 .ensures) (c .before .before .before .part3 .ensures) (c .before .part4 .ensures)) refl (c .before .before .before .before .before .before .idle-bits .ensures ∙ ap (zeros 5) (c .before .before .before .before .before .before .before .part .ensures ∙ ap (part 0 5) (c .before .before .before .before .before .before .before .before .wide .ensures))) (c .before .before .before .before .groups-zeros .ensures .0) (c .before .before .switch-groups-zeros .ensures .0) (c .presets-zeros .ensures .0)
+    let z = c .before .before .before .before in
+    let y = z .before .before .before .before in
+    zeros-so (y .before .before .before .pre .0) (y .before .before .before .pre .1)
+    (flags-so (y .wide .ensures) (z .before .part2 .ensures) (c .before .before .before .part3 .ensures) (c .before .part4 .ensures)) refl
+    (z .before .before .idle-bits .ensures ∙ ap (zeros 5) (z .before .before .before .part .ensures ∙ ap (part 0 5) (y .wide .ensures)))
+    (z .groups-zeros .ensures .0) (c .before .before .switch-groups-zeros .ensures .0) (c .presets-zeros .ensures .0)
 
 pub zero-bits-spec : {M : Type 1} → statement M
 zero-bits-spec =

@@ -31,15 +31,18 @@ position c = c .before .before .before .before
 abbrev gain : tie.After-fill-language-arg → tie.After-fill-gain-arg
 gain c = c .before .before .before .before
 
-room : (c : tie.After-part3) → start c .args .at + (3 + (fives (c .before .before .part .result) + (twos (c .before .part2 .result) + threes (c .part3 .result)))) ≤ length (start c .args .body .now)
+room : (c : tie.After-part3)
+    → start c .args .at + (3 + (fives (c .before .before .part .result) + (twos (c .before .part2 .result) + threes (c .part3 .result)))) ≤ length (start c .args .body .now)
 room c = group-room (whole (start c)) (c .before .before .before .before .before .wide2 .ensures) (c .before .before .part .ensures) (c .before .part2 .ensures) (c .part3 .ensures)
 
 head-so : (c : tie.After-fill-position-arg) → c .before .before .before .before .before .head-row .result
-    ≡ headOf (getD (start (flags c) .args .body .now) (start (flags c) .args .at) 0) (flags c .before .before .before .before .before .wide2 .result) (getD (start (flags c) .args .body .now) (start (flags c) .args .at + 2) 0)
+    ≡ headOf (getD (start (flags c) .args .body .now) (start (flags c) .args .at) 0) (flags c .before .before .before .before .before .wide2 .result)
+    (getD (start (flags c) .args .body .now) (start (flags c) .args .at + 2) 0)
 head-so c =
     let f = flags c in
     c .before .before .before .before .before .head-row .ensures
-    ∙ λ i. headOf (f .before .before .before .before .before .before .before .wide .ensures i) (f .before .before .before .before .before .wide2 .result) (f .before .before .before .wide3 .ensures i)
+    ∙ λ i. headOf (f .before .before .before .before .before .before .before .wide .ensures i) (f .before .before .before .before .before .wide2 .result)
+    (f .before .before .before .wide3 .ensures i)
 
 shared-slice-read-wide : tie.Need-shared-slice-read-wide
 shared-slice-read-wide c = omega (arith, head (c .before .before .before))

@@ -30,7 +30,8 @@ flags c = c .before .before
 abbrev placed : tie.After-part10 → tie.After-size2
 placed c = c .before .before .before .before .before .before .before
 
-room : (c : tie.After-part3) → start c .args .at + (3 + (fives (c .before .before .part .result) + (twos (c .before .part2 .result) + threes (c .part3 .result)))) ≤ length (start c .args .body .now)
+room : (c : tie.After-part3)
+    → start c .args .at + (3 + (fives (c .before .before .part .result) + (twos (c .before .part2 .result) + threes (c .part3 .result)))) ≤ length (start c .args .body .now)
 room c = group-room (whole (start c)) (c .before .before .before .before .before .wide2 .ensures) (c .before .before .part .ensures) (c .before .part2 .ensures) (c .part3 .ensures)
 
 -- the seven fields of the three bytes
@@ -46,7 +47,8 @@ body c = start (flags (placed c)) .args .body .now
 abbrev begins : tie.After-part10 → ℕ
 begins c = start (flags (placed c)) .args .at
 
-fields-so : (c : tie.After-part10) → fields c ≡ headOf (getD (body c) (begins c) 0) (flags (placed c) .before .before .before .before .before .wide2 .result) (getD (body c) (begins c + 2) 0)
+fields-so : (c : tie.After-part10)
+    → fields c ≡ headOf (getD (body c) (begins c) 0) (flags (placed c) .before .before .before .before .before .wide2 .result) (getD (body c) (begins c + 2) 0)
 fields-so c =
     let x = flags (placed c) .before .before .before .before .before .before .before .wide .ensures in
     let z = flags (placed c) .before .before .before .wide3 .ensures in

@@ -26,7 +26,9 @@ flags-of c = c .before .before .before .before .before .wide .ensures
 
 -- behind the single bytes
 after-2 : (c : tie.After-known-told2) → Singly (start (first c) .args .body .now) (start (first c) .args .at) (c .before .b .given .0 .0)
-after-2 c = singly _ (after-1 (first c)) (flags-of c) (c .before .before .before .before .singles .ensures .0) (c .before .before .before .head2 .ensures) (ap endsOut (c .before .b .given .1))
+after-2 c =
+    singly _ (after-1 (first c)) (flags-of c) (c .before .before .before .before .singles .ensures .0) (c .before .before .before .head2 .ensures)
+    (ap endsOut (c .before .b .given .1))
 
 head-requires : tie.Need-head-requires
 head-requires c κs = search needs

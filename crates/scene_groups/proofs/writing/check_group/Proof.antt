@@ -50,10 +50,12 @@ step-1 c =
     let d = rw (c .before .before .before .before .flags-hold .ensures, same c) at (c .before .before .before .demand .ensures) in
     then d (then (met F.Empty _) (all-checked (c .before .before .head-bytes .ensures) (c .check-all .ensures)))
 
-step-2 : (c : tie.After-check-all2) → Checked (when (eqb (group c .position .present) 1) (map byte (positionFields (group c .position)))) 5 (second c .check-all .result) (c .check-all2 .result)
+step-2 : (c : tie.After-check-all2)
+    → Checked (when (eqb (group c .position .present) 1) (map byte (positionFields (group c .position)))) 5 (second c .check-all .result) (c .check-all2 .result)
 step-2 c = let e = same (second c) in all-checked (rw e at (c .before .before .position-bytes .ensures)) (rw e at (c .check-all2 .ensures))
 
-step-3 : (c : tie.After-check-all3) → Checked (when (eqb (group (third c) .gain .present) 1) (map byte (gainFields (group (third c) .gain)))) 2 (third c .check-all2 .result) (c .check-all3 .result)
+step-3 : (c : tie.After-check-all3)
+    → Checked (when (eqb (group (third c) .gain .present) 1) (map byte (gainFields (group (third c) .gain)))) 2 (third c .check-all2 .result) (c .check-all3 .result)
 step-3 c = let e = same (second (third c)) in all-checked (rw e at (c .before .before .gain-bytes .ensures)) (rw e at (c .check-all3 .ensures))
 
 abbrev language : tie.After-check-all4 → ContentLanguage

@@ -11,7 +11,8 @@ use Rattle.scene_groups.proofs.writing.fill_language.Tie as tie
 there : (c : tie.Then1) → languageOf (c .before .before .before .before .args .groups .now) (c .before .before .before .before .args .b) .present ≡ 1
 there c = sym (c .before .column .ensures) ∙ c .if1 .taken
 
-spelt : (c : tie.After-language-bytes) → Spelt (languageFields (languageOf (c .before .before .before .before .before .before .args .groups .now) (c .before .before .before .before .before .before .args .b))) (c .language-bytes .result)
+spelt : (c : tie.After-language-bytes)
+    → Spelt (languageFields (languageOf (c .before .before .before .before .before .before .args .groups .now) (c .before .before .before .before .before .before .args .b))) (c .language-bytes .result)
 spelt c = rw (c .before .of-columns .ensures) at (c .language-bytes .ensures)
 
 column-requires : tie.Need-column-requires

@@ -14,7 +14,9 @@ start c = c .before .before .before .before .before .before .before .before .bef
 
 -- a row has at most ten bytes behind the first three
 most : (c : tie.After-size3) → c .before .before .before .before .size .result + (c .before .before .size2 .result + c .size3 .result) ≤ 10
-most c = omega (arith, part-most (c .before .before .before .before .before .column .result) 5 (c .before .before .before .before .size .ensures), part-most (c .before .before .before .column2 .result) 2 (c .before .before .size2 .ensures), part-most (c .before .column3 .result) 3 (c .size3 .ensures))
+most c =
+    omega
+    (arith, part-most (c .before .before .before .before .before .column .result) 5 (c .before .before .before .before .size .ensures), part-most (c .before .before .before .column2 .result) 2 (c .before .before .size2 .ensures), part-most (c .before .column3 .result) 3 (c .size3 .ensures))
 
 plain-requires : tie.Need-plain-requires
 plain-requires c κs = search needs

@@ -16,7 +16,8 @@ abbrev μ-loop : tie.MeasureT-loop
 μ-loop groups count bytes₀ i₀ bytes i = count - i
 
 -- what the quick test says of a row
-quick : (c : tie.After-plain-bytes Inv-loop μ-loop) → Quick (rowActs (c .before .before .before .before .args .groups .now) (c .before .before .loop .i)) 13 (c .plain-bytes .result)
+quick : (c : tie.After-plain-bytes Inv-loop μ-loop)
+    → Quick (rowActs (c .before .before .before .before .args .groups .now) (c .before .before .loop .i)) 13 (c .plain-bytes .result)
 quick c = rw row-acts at (c .plain-bytes .ensures)
 
 abbrev start : tie.Else1 Inv-loop μ-loop → tie.Start Inv-loop μ-loop

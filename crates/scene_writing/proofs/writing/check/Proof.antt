@@ -23,9 +23,11 @@ payload-run-requires c κs =
 returns : tie.Need-returns
 unfolding kind
 returns c =
-    let z = c .before .before .before .before .before .before .before .before .before .before .before in
+    let y = c .before .before .before .before .before .before .before .before .before .before .before in
     let e = sym (c .before .before .before .in-store .ensures) ∙ c .before .before .if1 .taken in
-    more 71345 (all-looked kind (scene-acts (z .args .m) (z .args .groups .now ∷ z .args .switch-groups .now ∷ z .args .members .now ∷ z .args .presets .now ∷ z .args .conditions .now ∷ []) (z .args .store .now)) e (c .before .check-fields .ensures) (c .payload-run .ensures .0)) (omega (arith, c .payload-run .ensures .1))
+    more 71345
+    (all-looked kind (scene-acts (y .args .m) (y .args .groups .now ∷ y .args .switch-groups .now ∷ y .args .members .now ∷ y .args .presets .now ∷ y .args .conditions .now ∷ []) (y .args .store .now)) e (c .before .check-fields .ensures) (c .payload-run .ensures .0))
+    (omega (arith, c .payload-run .ensures .1))
 
 returns-2 : tie.Need-returns-2
 unfolding kind

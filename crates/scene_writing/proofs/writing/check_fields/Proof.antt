@@ -24,20 +24,28 @@ check-all-requires c κs = search needs
 
 check-groups-section-requires : tie.Need-check-groups-section-requires
 check-groups-section-requires c κs =
-    (insides (c .before .before .before .before .before .before .before .before .before .before .args .m) _ _ _ (sym (c .before .before .before .before .all-within .ensures) ∙ c .before .before .before .if1 .taken) .groups, omega (arith, all-checked (c .before .before .head-bytes .ensures) (c .check-all .ensures) .near))
+    let z = c .before .before .before .before in
+    let y = z .before .before .before .before .before .before in
+    (insides (y .args .m) _ _ _ (sym (z .all-within .ensures) ∙ c .before .before .before .if1 .taken) .groups, omega (arith, all-checked (c .before .before .head-bytes .ensures) (c .check-all .ensures) .near))
 
 check-switch-groups-section-requires : tie.Need-check-switch-groups-section-requires
 check-switch-groups-section-requires c κs =
-    (insides (c .before .before .before .before .before .before .before .before .before .before .before .args .m) _ _ _ (sym (c .before .before .before .before .before .all-within .ensures) ∙ c .before .before .before .before .if1 .taken) .switches, omega (arith, all-checked (c .before .before .before .head-bytes .ensures) (c .before .check-all .ensures) .near, c .check-groups-section .ensures .near))
+    let z = c .before .before .before .before in
+    let y = z .before .before .before .before .before .before .before in
+    (insides (y .args .m) _ _ _ (sym (z .before .all-within .ensures) ∙ z .if1 .taken) .switches, omega (arith, all-checked (c .before .before .before .head-bytes .ensures) (c .before .check-all .ensures) .near, c .check-groups-section .ensures .near))
 
 check-presets-section-requires : tie.Need-check-presets-section-requires
 check-presets-section-requires c κs =
-    (insides (c .before .before .before .before .before .before .before .before .before .before .before .before .args .m) _ _ _ (sym (c .before .before .before .before .before .before .all-within .ensures) ∙ c .before .before .before .before .before .if1 .taken) .presets, omega (arith, all-checked (c .before .before .before .before .head-bytes .ensures) (c .before .before .check-all .ensures) .near, c .before .check-groups-section .ensures .near, c .check-switch-groups-section .ensures .near))
+    let z = c .before .before .before .before in
+    let y = z .before .before .before .before .before .before .before .before in
+    (insides (y .args .m) _ _ _ (sym (z .before .before .all-within .ensures) ∙ z .before .if1 .taken) .presets, omega (arith, all-checked (z .head-bytes .ensures) (c .before .before .check-all .ensures) .near, c .before .check-groups-section .ensures .near, c .check-switch-groups-section .ensures .near))
 
 returns : tie.Need-returns
 unfolding sceneActs firstTable otherTables
 returns c =
-    rw (sym (c .before .before .before .before .before .before .before .all-within .ensures) ∙ c .before .before .before .before .before .before .if1 .taken) (passed _ 0 (passed _ 0 (passed _ 0 (more 5810 (then (all-checked (c .before .before .before .before .before .head-bytes .ensures) (c .before .before .before .check-all .ensures)) (then (c .before .before .check-groups-section .ensures) (then (c .before .check-switch-groups-section .ensures) (c .check-presets-section .ensures)))) (omega arith)))))
+    let z = c .before .before .before .before .before in
+    rw (sym (z .before .before .all-within .ensures) ∙ z .before .if1 .taken)
+    (passed _ 0 (passed _ 0 (passed _ 0 (more 5810 (then (all-checked (z .head-bytes .ensures) (c .before .before .before .check-all .ensures)) (then (c .before .before .check-groups-section .ensures) (then (c .before .check-switch-groups-section .ensures) (c .check-presets-section .ensures)))) (omega arith)))))
 
 returns-2 : tie.Need-returns-2
 unfolding sceneActs firstTable otherTables

@@ -26,19 +26,25 @@ enum-told c = search needs
 returns : tie.Need-returns
 unfolding sectionActs
 returns c =
-    part-stops _ _ _ 1652 (c .before .before .before .before .before .if1 .taken) (all-checked (c .before .before .before .before .count-byte .ensures) (c .before .before .check-all .ensures)) (c .enum-told .given .1) (omega arith)
+    let z = c .before .before .before .before in
+    part-stops _ _ _ 1652 (z .before .if1 .taken)
+    (all-checked (z .count-byte .ensures) (c .before .before .check-all .ensures)) (c .enum-told .given .1) (omega arith)
 
 cast-check-groups : tie.Need-cast-check-groups
 cast-check-groups c = search needs
 
 check-groups-requires : tie.Need-check-groups-requires
 check-groups-requires c κs =
-    let w = all-checked (c .before .before .before .before .before .count-byte .ensures) (c .before .before .before .check-all .ensures) in let n = rw (c .before .p1 .given .1) at (w .near) in (rows-there _ _ 27 _ (omega arith) (c .before .before .before .before .before .before .before .before .before .pre .0) (c .before .before .before .before .before .before .if1 .taken), omega (arith, c .before .before .before .before .before .before .before .before .before .good), omega (arith, n, c .before .before .before .before .before .before .before .before .before .pre .1))
+    let z = c .before .before .before .before .before in
+    let y = z .before .before .before .before in
+    let w = all-checked (z .count-byte .ensures) (c .before .before .before .check-all .ensures) in let n = rw (c .before .p1 .given .1) at (w .near) in (rows-there _ _ 27 _ (omega arith) (y .pre .0) (z .before .if1 .taken), omega (arith, y .good), omega (arith, n, y .pre .1))
 
 returns-2 : tie.Need-returns-2
 unfolding sectionActs
 returns-2 c =
-    let w = all-checked (c .before .before .before .before .before .before .count-byte .ensures) (c .before .before .before .before .check-all .ensures) in part-goes _ _ _ 1652 (c .before .before .before .before .before .before .before .if1 .taken) w (c .before .before .p1 .given .1) (c .check-groups .ensures) (omega (arith, count-fits 1 7 _ (c .before .before .before .before .before .before .before .before .before .before .args .m .groups) w (c .before .before .p1 .given .1)))
+    let z = c .before .before .before .before in
+    let y = z .before .before .before .before .before .before in
+    let w = all-checked (z .before .before .count-byte .ensures) (z .check-all .ensures) in part-goes _ _ _ 1652 (z .before .before .before .if1 .taken) w (c .before .before .p1 .given .1) (c .check-groups .ensures) (omega (arith, count-fits 1 7 _ (y .args .m .groups) w (c .before .before .p1 .given .1)))
 
 returns-3 : tie.Need-returns-3
 unfolding sectionActs

@@ -35,7 +35,8 @@ inside : (c : tie.Start) → Inside (c .args .m) (c .args .groups .now) (c .args
 unfolding sceneActs firstTable otherTables
 inside c = insides (c .args .m) _ _ _ (demanded (c .pre))
 
-begin : (c : tie.Start) → Filling (all c) (when true (map byte (headBytes (c .args .m))) ++ (in-groups c ++ (in-switches c ++ in-presets c))) 0 (c .args .out .now) 0 (c .args .out .now)
+begin : (c : tie.Start)
+    → Filling (all c) (when true (map byte (headBytes (c .args .m))) ++ (in-groups c ++ (in-switches c ++ in-presets c))) 0 (c .args .out .now) 0 (c .args .out .now)
 unfolding sceneActs firstTable otherTables
 begin c = fill-demand (fill-demand (fill-demand (fill-start (c .pre))))
 
@@ -44,19 +45,25 @@ begin c = fill-demand (fill-demand (fill-demand (fill-start (c .pre))))
 abbrev start-1 : tie.After-fill-all → tie.Start
 start-1 c = c .before .before .before .before .before .before .before .before .before .before
 
-behind-head : (c : tie.After-fill-all) → Filling (all (start-1 c)) (in-groups (start-1 c) ++ (in-switches (start-1 c) ++ in-presets (start-1 c))) 0 (start-1 c .args .out .now) (c .fill-all .result) (c .fill-all .last .0)
+behind-head : (c : tie.After-fill-all)
+    → Filling (all (start-1 c)) (in-groups (start-1 c) ++ (in-switches (start-1 c) ++ in-presets (start-1 c))) 0 (start-1 c .args .out .now) (c .fill-all .result)
+    (c .fill-all .last .0)
 behind-head c = fill-part _ (c .before .before .head-bytes .ensures) (begin (start-1 c)) (c .fill-all .ensures)
 
 abbrev back-2 : tie.After-fill-groups-section → tie.After-fill-all
 back-2 c = c .before .before .before .before
 
-behind-groups : (c : tie.After-fill-groups-section) → Filling (all (start-1 (back-2 c))) (in-switches (start-1 (back-2 c)) ++ in-presets (start-1 (back-2 c))) 0 (start-1 (back-2 c) .args .out .now) (c .fill-groups-section .result) (c .fill-groups-section .last .1 .1 .0)
+behind-groups : (c : tie.After-fill-groups-section)
+    → Filling (all (start-1 (back-2 c))) (in-switches (start-1 (back-2 c)) ++ in-presets (start-1 (back-2 c))) 0 (start-1 (back-2 c) .args .out .now)
+    (c .fill-groups-section .result) (c .fill-groups-section .last .1 .1 .0)
 behind-groups c = fill-turn (behind-head (back-2 c)) refl (c .fill-groups-section .kept .1 .1 .0) (c .fill-groups-section .ensures)
 
 abbrev back-3 : tie.After-fill-switch-groups-section → tie.After-fill-groups-section
 back-3 c = c .before .before .before .before
 
-behind-switches : (c : tie.After-fill-switch-groups-section) → Filling (all (start-1 (back-2 (back-3 c)))) (in-presets (start-1 (back-2 (back-3 c)))) 0 (start-1 (back-2 (back-3 c)) .args .out .now) (c .fill-switch-groups-section .result) (c .fill-switch-groups-section .last .1 .1 .1 .0)
+behind-switches : (c : tie.After-fill-switch-groups-section)
+    → Filling (all (start-1 (back-2 (back-3 c)))) (in-presets (start-1 (back-2 (back-3 c)))) 0 (start-1 (back-2 (back-3 c)) .args .out .now)
+    (c .fill-switch-groups-section .result) (c .fill-switch-groups-section .last .1 .1 .1 .0)
 behind-switches c = fill-turn (behind-groups (back-3 c)) refl (c .fill-switch-groups-section .kept .1 .1 .1 .0) (c .fill-switch-groups-section .ensures)
 
 -- ---- needs

@@ -21,8 +21,12 @@ start c = c .before .before .before .before .before .before .before .before .bef
 abbrev row : tie.Start → ℕ → List Act
 row c = familyActs preset 13 condition (c .args .presets .now) (c .args .conditions .now)
 
-behind : (c : tie.After-fill-all) → Filling (presetsActs (start c .args .m) (row (start c))) (rows (row (start c)) 0 (start c .args .m .presets .count)) (start c .args .n) (start c .args .out .now) (c .fill-all .result) (c .fill-all .last .0)
-behind c = fill-part _ (c .before .before .count-byte .ensures) (section-begins _ _ _ (c .before .before .before .before .if1 .taken) (start c .pre .1)) (c .fill-all .ensures)
+behind : (c : tie.After-fill-all)
+    → Filling (presetsActs (start c .args .m) (row (start c))) (rows (row (start c)) 0 (start c .args .m .presets .count)) (start c .args .n) (start c .args .out .now)
+    (c .fill-all .result) (c .fill-all .last .0)
+behind c =
+    let z = c .before .before .before .before in
+    fill-part _ (c .before .before .count-byte .ensures) (section-begins _ _ _ (z .if1 .taken) (start c .pre .1)) (c .fill-all .ensures)
 
 count-byte-requires : tie.Need-count-byte-requires
 count-byte-requires c κs = search needs
@@ -31,16 +35,19 @@ slice-aggregate-fill-all : tie.Need-slice-aggregate-fill-all
 slice-aggregate-fill-all c = search needs
 
 fill-all-requires : tie.Need-fill-all-requires
-fill-all-requires c κs = ready-part _ (c .before .count-byte .ensures) (section-begins _ _ _ (c .before .before .before .if1 .taken) (c .before .before .before .before .before .before .before .before .pre .1))
+fill-all-requires c κs =
+    ready-part _ (c .before .count-byte .ensures)
+    (section-begins _ _ _ (c .before .before .before .if1 .taken) (c .before .before .before .before .before .before .before .before .pre .1))
 
 cast-fill-presets : tie.Need-cast-fill-presets
 cast-fill-presets c = search needs
 
 fill-presets-requires : tie.Need-fill-presets-requires
 fill-presets-requires c κs =
+    let y = c .before .before .before .before .before .before .before in
     let w = behind (c .before .before .before) in
     let z = start (c .before .before .before) in
-    (rows-there _ _ 7 _ (omega arith) (z .pre .0) (c .before .before .before .before .before .before .before .if1 .taken), omega (arith, z .good), w .ready)
+    (rows-there _ _ 7 _ (omega arith) (z .pre .0) (y .if1 .taken), omega (arith, z .good), w .ready)
 
 same-length : tie.Need-same-length
 same-length c = search needs

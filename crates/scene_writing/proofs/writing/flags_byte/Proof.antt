@@ -38,7 +38,10 @@ spelt-requires c κs = search needs
 returns : tie.Need-returns
 unfolding total widths
 returns c =
-    rw (← c .before .before .before .before .before .before .before .before .flag .ensures, ← c .before .before .before .before .before .before .flag2 .ensures, ← c .before .before .before .before .flag3 .ensures, ← c .before .before .wide .ensures) (c .spelt .ensures .of _ (omega arith) (c .before .field4 .ensures .of _ (omega arith) (c .before .before .before .field3 .ensures .of _ (omega arith) (c .before .before .before .before .before .field2 .ensures .of _ (omega arith) (c .before .before .before .before .before .before .before .field .ensures .of _ (omega arith) (c .before .before .before .before .before .before .before .before .before .none .ensures))))))
+    let z = c .before .before .before .before in
+    let y = z .before .before .before .before in
+    rw (← y .flag .ensures, ← z .before .before .flag2 .ensures, ← z .flag3 .ensures, ← c .before .before .wide .ensures)
+    (c .spelt .ensures .of _ (omega arith) (c .before .field4 .ensures .of _ (omega arith) (c .before .before .before .field3 .ensures .of _ (omega arith) (z .before .field2 .ensures .of _ (omega arith) (z .before .before .before .field .ensures .of _ (omega arith) (y .before .none .ensures))))))
 
 pub flags-byte-spec : {M : Type 1} → statement M
 flags-byte-spec =

@@ -39,7 +39,8 @@ head-requires c κs = (after-1 (c .before .before) .inside, omega arith)
 returns-2 : tie.Need-returns-2
 returns-2 c =
     let d = c .before .before .before in
-    group-outside _ _ (d .before .before .before .byte-at .ensures .is) (start d .pre) (ap byteOut (d .before .a .given .1)) (c .before .before .part .ensures) (c .before .if1 .taken) (c .head .ensures)
+    group-outside _ _ (d .before .before .before .byte-at .ensures .is) (start d .pre) (ap byteOut (d .before .a .given .1)) (c .before .before .part .ensures)
+    (c .before .if1 .taken) (c .head .ensures)
 
 returns-3 : tie.Need-returns-3
 returns-3 c =

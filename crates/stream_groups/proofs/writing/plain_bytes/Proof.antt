@@ -78,7 +78,8 @@ two-requires c κs = search needs
 returns-3 : tie.Need-returns-3
 returns-3 c =
     let p = paired (c .before) in
-    plain-located (cols (start p)) (p .pair .ensures) (small p) (c .before .before .before .before .if3 .taken) (c .before .two .ensures) (p .before .before .before .if1 .left) (c .if4 .taken)
+    plain-located (cols (start p)) (p .pair .ensures) (small p) (c .before .before .before .before .if3 .taken) (c .before .two .ensures)
+    (p .before .before .before .if1 .left) (c .if4 .taken)
 
 returns-4 : tie.Need-returns-4
 returns-4 c =

@@ -10,7 +10,8 @@ use Rattle.switch_groups.proofs.parsing.fill_switch_groups.Statement.{s
 use Rattle.switch_groups.proofs.parsing.fill_switch_groups.Tie as tie
 
 abbrev Inv-loop : tie.InvT-loop
-Inv-loop body at count switch-groups₀ members₀ pos₀ left₀ to₀ first₀ switch-groups members pos left to first = Families switchGroup 2 member body at count switch-groups₀ members₀ switch-groups members pos left to first
+Inv-loop body at count switch-groups₀ members₀ pos₀ left₀ to₀ first₀ switch-groups members pos left to first =
+    Families switchGroup 2 member body at count switch-groups₀ members₀ switch-groups members pos left to first
 
 abbrev μ-loop : tie.MeasureT-loop
 μ-loop body at count switch-groups₀ members₀ pos₀ left₀ to₀ first₀ switch-groups members pos left to first = left

@@ -27,7 +27,8 @@ part-requires-7 c κs = search needs
 returns : tie.Need-returns
 returns c =
     let z = c .before .before .before in
-    rw (c .part7 .ensures, c .before .part6 .ensures, c .before .before .part5 .ensures, z .part4 .ensures, z .before .part3 .ensures, z .before .before .part2 .ensures, z .before .before .before .part .ensures)
+    rw
+    (c .part7 .ensures, c .before .part6 .ensures, c .before .before .part5 .ensures, z .part4 .ensures, z .before .part3 .ensures, z .before .before .part2 .ensures, z .before .before .before .part .ensures)
 
 pub switch-group-from-spec : {M : Type 1} → statement M
 switch-group-from-spec =

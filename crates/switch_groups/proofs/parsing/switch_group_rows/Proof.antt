@@ -8,7 +8,8 @@ use Rattle.switch_groups.proofs.parsing.switch_group_rows.Statement.{st
 use Rattle.switch_groups.proofs.parsing.switch_group_rows.Tie as tie
 
 -- behind the two bytes
-after-1 : (c : tie.After-known-told) → Two (c .before .before .before .before .before .args .body .now) (c .before .before .before .before .before .args .at) (c .before .a .given .0 .0)
+after-1 : (c : tie.After-known-told)
+    → Two (c .before .before .before .before .before .args .body .now) (c .before .before .before .before .before .args .at) (c .before .a .given .0 .0)
 after-1 c = two _ _ (c .before .before .before .before .before .pre) (c .before .before .before .head .ensures) (ap endsOut (c .before .a .given .1))
 
 head-requires : tie.Need-head-requires

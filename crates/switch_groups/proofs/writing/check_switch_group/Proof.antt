@@ -17,10 +17,13 @@ abbrev start : tie.After-check-all → tie.Start
 start c = c .before .before .before .before .before .before .before .before .before .before .before
 
 -- before the members
-before-all : (c : tie.After-check-all) → Checked (frontActs switchGroup (length (start c .args .members .now) / 2) (switchGroupCols (start c .args .g))) 2 (At (start c .args .n)) (c .check-all .result)
+before-all : (c : tie.After-check-all)
+    → Checked (frontActs switchGroup (length (start c .args .members .now) / 2) (switchGroupCols (start c .args .g))) 2 (At (start c .args .n)) (c .check-all .result)
 before-all c =
-    front (start c .args .members .now) (start c .args .g) (c .before .before .before .before .before .before .before .before .before .in-table .ensures) (λ i. c .before .before .before .before .before .before .before .is-flag .ensures i && c .before .before .before .before .before .before .is-flag2 .ensures i)
-    (c .before .before .before .before .before .before .before .before .demand .ensures) (c .before .before .before .before .before .demand2 .ensures) (c .before .before .before .demand3 .ensures) (c .before .before .head-bytes .ensures) (c .check-all .ensures)
+    front (start c .args .members .now) (start c .args .g) (c .before .before .before .before .before .before .before .before .before .in-table .ensures)
+    (λ i. c .before .before .before .before .before .before .before .is-flag .ensures i && c .before .before .before .before .before .before .is-flag2 .ensures i)
+    (c .before .before .before .before .before .before .before .before .demand .ensures) (c .before .before .before .before .before .demand2 .ensures)
+    (c .before .before .before .demand3 .ensures) (c .before .before .head-bytes .ensures) (c .check-all .ensures)
 
 in-table-requires : tie.Need-in-table-requires
 in-table-requires c κs = search needs
@@ -57,7 +60,9 @@ enum-told c = search needs
 
 returns : tie.Need-returns
 returns c =
-    front-stopped (c .before .before .before .before .before .before .before .before .before .before .before .before .before .args .members .now) (c .before .before .before .before .before .before .before .before .before .before .before .before .before .args .g) (before-all (c .before .before)) (c .enum-told .given .1)
+    front-stopped (c .before .before .before .before .before .before .before .before .before .before .before .before .before .args .members .now)
+    (c .before .before .before .before .before .before .before .before .before .before .before .before .before .args .g) (before-all (c .before .before))
+    (c .enum-told .given .1)
 
 check-pairs-requires : tie.Need-check-pairs-requires
 check-pairs-requires c κs =
@@ -75,7 +80,11 @@ check-all-requires-2 c κs =
 
 returns-2 : tie.Need-returns-2
 returns-2 c =
-    row-checked (c .before .before .before .before .before .before .before .before .before .before .before .before .before .before .before .before .before .before .args .members .now) (c .before .before .before .before .before .before .before .before .before .before .before .before .before .before .before .before .before .before .args .g) (before-all (c .before .before .before .before .before .before .before)) (c .before .before .before .before .before .p3 .given .1) (c .before .before .before .check-pairs .ensures) (c .before .before .default-bytes .ensures) (c .check-all2 .ensures)
+    row-checked
+    (c .before .before .before .before .before .before .before .before .before .before .before .before .before .before .before .before .before .before .args .members .now)
+    (c .before .before .before .before .before .before .before .before .before .before .before .before .before .before .before .before .before .before .args .g)
+    (before-all (c .before .before .before .before .before .before .before)) (c .before .before .before .before .before .p3 .given .1)
+    (c .before .before .before .check-pairs .ensures) (c .before .before .default-bytes .ensures) (c .check-all2 .ensures)
 
 pub check-switch-group-spec : {M : Type 1} → statement M
 check-switch-group-spec =

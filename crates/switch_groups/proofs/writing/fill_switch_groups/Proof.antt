@@ -13,7 +13,8 @@ use Rattle.switch_groups.proofs.writing.fill_switch_groups.Statement.{s
 use Rattle.switch_groups.proofs.writing.fill_switch_groups.Tie as tie
 
 abbrev Inv-loop : tie.InvT-loop
-Inv-loop switch-groups members count out₀ n at₀ i₀ out at i = (i ≤ count) × Filling (rows (familyActs switchGroup 2 member switch-groups members) 0 count) (rows (familyActs switchGroup 2 member switch-groups members) i (count - i)) at₀ out₀ at out
+Inv-loop switch-groups members count out₀ n at₀ i₀ out at i =
+    (i ≤ count) × Filling (rows (familyActs switchGroup 2 member switch-groups members) 0 count) (rows (familyActs switchGroup 2 member switch-groups members) i (count - i)) at₀ out₀ at out
 
 abbrev μ-loop : tie.MeasureT-loop
 μ-loop switch-groups members count out₀ n at₀ i₀ out at i = count - i

@@ -10,7 +10,8 @@ use borrow.Author.Needs.{needs}
 use Rattle.target_loudness.proofs.parsing.target_end.Statement.{statement}
 use Rattle.target_loudness.proofs.parsing.target_end.Tie as tie
 
-after-1 : (c : tie.After-known-told) → Behind (c .before .before .before .before .before .before .args .body .now) (c .before .before .before .before .before .before .args .at) (c .before .a .given .0 .0)
+after-1 : (c : tie.After-known-told)
+    → Behind (c .before .before .before .before .before .before .args .body .now) (c .before .before .before .before .before .before .args .at) (c .before .a .given .0 .0)
 after-1 c = behind-one _ _ (c .before .before .before .before .before .before .pre .0) (c .before .before .before .head .ensures) (ap endsOut (c .before .a .given .1))
 
 head-requires : tie.Need-head-requires

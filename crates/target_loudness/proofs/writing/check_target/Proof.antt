@@ -12,10 +12,12 @@ use borrow.Author.Needs.{needs}
 use Rattle.target_loudness.proofs.writing.check_target.Statement.{statement}
 use Rattle.target_loudness.proofs.writing.check_target.Tie as tie
 
-step-1 : (c : tie.After-check-all) → Checked (map byte (fieldsOf (targetCols (c .before .before .before .before .before .args .t)) upperCells)) 1 (c .before .before .before .before .before .args .p) (c .check-all .result)
+step-1 : (c : tie.After-check-all)
+    → Checked (map byte (fieldsOf (targetCols (c .before .before .before .before .before .args .t)) upperCells)) 1 (c .before .before .before .before .before .args .p) (c .check-all .result)
 step-1 c = all-checked (c .before .before .upper-bytes .ensures) (c .check-all .ensures)
 
-step-2 : (c : tie.After-check-all2) → Checked (when (eqb (c .before .before .before .before .before .before .before .before .before .args .t .lower .present) 1) (map byte (fieldsOf (targetCols (c .before .before .before .before .before .before .before .before .before .args .t)) lowerCells))) 1 (c .before .before .before .before .check-all .result) (c .check-all2 .result)
+step-2 : (c : tie.After-check-all2)
+    → Checked (when (eqb (c .before .before .before .before .before .before .before .before .before .args .t .lower .present) 1) (map byte (fieldsOf (targetCols (c .before .before .before .before .before .before .before .before .before .args .t)) lowerCells))) 1 (c .before .before .before .before .check-all .result) (c .check-all2 .result)
 step-2 c = all-checked (c .before .before .lower-bytes .ensures) (c .check-all2 .ensures)
 
 upper-bytes-requires : tie.Need-upper-bytes-requires

@@ -25,14 +25,22 @@ row-after-requires-2 c κs = search needs
 
 fill-list-requires-3 : tie.Need-fill-list-requires-3
 fill-list-requires-3 c κs =
-    (presets-ask _ _ _ _ (c .before .before .before .before .before .before .before .before .before .before .before .before .before .before .before .before .pre) (c .before .before .before .before .before .before .before .before .before .before .before .fill-list .ensures) (c .before .before .before .before .before .before .row-after .ensures) (c .before .before .before .before .before .fill-list2 .ensures) (c .row-after2 .ensures), omega arith)
+    let z = c .before .before .before .before .before in
+    let y = z .before .before .before .before .before .before in
+    let x = y .before .before .before .before .before in
+    (presets-ask _ _ _ _ (x .pre) (y .fill-list .ensures) (z .before .row-after .ensures) (z .fill-list2 .ensures) (c .row-after2 .ensures), omega arith)
 
 same-length : tie.Need-same-length
 same-length c = search needs
 
 returns : tie.Need-returns
 returns c =
-    language-filled _ _ _ _ (c .before .before .before .before .before .before .before .before .before .before .before .before .before .before .before .before .before .before .before .before .pre) (c .before .before .before .before .before .before .before .before .before .before .before .before .before .before .before .fill-list .ensures) (c .before .before .before .before .before .before .before .before .before .before .row-after .ensures) (c .before .before .before .before .before .before .before .before .before .fill-list2 .ensures) (c .before .before .before .before .row-after2 .ensures) (c .before .before .before .fill-list3 .ensures) (c .before .before .before .before .before .before .before .before .before .before .before .before .before .before .before .before .before .letters-at .ensures)
+    let z = c .before .before .before .before in
+    let y = z .before .before .before .before .before in
+    let x = y .before .before .before .before .before .before in
+    let w = x .before .before .before .before .before in
+    language-filled _ _ _ _ (w .pre) (x .fill-list .ensures) (y .before .row-after .ensures) (y .fill-list2 .ensures) (z .row-after2 .ensures)
+    (c .before .before .before .fill-list3 .ensures) (x .before .before .letters-at .ensures)
 
 pub fill-language-spec : {M : Type 1} → statement M
 fill-language-spec =

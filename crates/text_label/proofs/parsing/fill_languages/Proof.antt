@@ -31,7 +31,9 @@ slice-aggregate-put-row c =
 
 put-row-requires : tie.Need-put-row-requires Inv-loop μ-loop
 put-row-requires c κs =
-    let i = c .before .before .before .before .before .before .before .before .loop .inv in omega (arith, i .place, i .long-outer, c .before .before .before .before .before .before .before .loop-test .taken, c .before .before .before .before .before .before .before .before .before .before .before .before .pre .1)
+    let z = c .before .before .before .before .before .before .before in
+    let y = z .before .before .before .before .before in
+    let i = z .before .loop .inv in omega (arith, i .place, i .long-outer, z .loop-test .taken, y .pre .1)
 
 row-after-requires : tie.Need-row-after-requires Inv-loop μ-loop
 row-after-requires c κs =
@@ -43,7 +45,9 @@ sub-left c =
 
 add-to : tie.Need-add-to Inv-loop μ-loop
 add-to c =
-    let i = c .before .before .before .before .before .before .before .before .before .before .before .before .loop .inv in omega (arith, i .place, c .before .before .before .before .before .before .before .before .before .before .before .loop-test .taken, c .before .before .before .before .before .before .before .before .before .before .before .before .before .before .before .before .pre .1, (c .before .before .before .before .before .before .before .before .before .before .before .before .before .before .before .before .good))
+    let z = c .before .before .before .before .before .before .before .before .before .before .before in
+    let y = z .before .before .before .before .before in
+    let i = z .before .loop .inv in omega (arith, i .place, z .loop-test .taken, y .pre .1, (y .good))
 
 loop-less : tie.Need-loop-less Inv-loop μ-loop
 loop-less c =
@@ -51,7 +55,10 @@ loop-less c =
 
 loop-again : tie.Need-loop-again Inv-loop μ-loop
 loop-again c =
-    languages-turn (c .before .before .before .before .before .before .before .before .before .before .before .before .loop .inv) (c .before .before .before .before .before .before .before .before .before .before .before .loop-test .taken) (c .before .before .before .before .before .before .before .before .before .fill-language .ensures) (c .row-after .ensures) (c .before .before .before .before .before .before .columns .ensures) (c .before .before .before .put-row .ensures)
+    languages-turn (c .before .before .before .before .before .before .before .before .before .before .before .before .loop .inv)
+    (c .before .before .before .before .before .before .before .before .before .before .before .loop-test .taken)
+    (c .before .before .before .before .before .before .before .before .before .fill-language .ensures) (c .row-after .ensures)
+    (c .before .before .before .before .before .before .columns .ensures) (c .before .before .before .put-row .ensures)
 
 same-length : tie.Need-same-length Inv-loop μ-loop
 same-length c =

@@ -59,11 +59,16 @@ returns-4 c = search presets-lack
 
 add-t15 : tie.Need-add-t15
 add-t15 c =
-    omega (arith, sum-small (c .before .before .before .before .before .before .before .list-rows2 .ensures) (c .before .before .before .before .before .s .given .1), sum-small (c .before .before .before .list-rows3 .ensures) (c .before .p .given .1))
+    let z = c .before .before .before .before .before in
+    omega
+    (arith, sum-small (z .before .before .list-rows2 .ensures) (z .s .given .1), sum-small (c .before .before .before .list-rows3 .ensures) (c .before .p .given .1))
 
 add-t16 : tie.Need-add-t16
 add-t16 c =
-    omega (arith, sum-small (c .before .before .before .before .before .before .before .before .before .before .before .list-rows .ensures) (c .before .before .before .before .before .before .before .before .before .g .given .1), sum-small (c .before .before .before .before .before .before .before .list-rows2 .ensures) (c .before .before .before .before .before .s .given .1), sum-small (c .before .before .before .list-rows3 .ensures) (c .before .p .given .1))
+    let z = c .before .before .before .before .before in
+    let y = z .before .before .before .before in
+    omega
+    (arith, sum-small (y .before .before .list-rows .ensures) (y .g .given .1), sum-small (z .before .before .list-rows2 .ensures) (z .s .given .1), sum-small (c .before .before .before .list-rows3 .ensures) (c .before .p .given .1))
 
 returns-5 : tie.Need-returns-5
 returns-5 c = search language-counted

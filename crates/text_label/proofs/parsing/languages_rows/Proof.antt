@@ -31,11 +31,15 @@ enum-told c =
 
 returns : tie.Need-returns Inv-loop μ-loop
 returns c =
-    summed-as entries-summed (sum-cut language sizeOf 381 _ _ _ (c .before .before .before .before .loop .inv) (c .before .before .before .loop-test .taken) (c .before .before .language-rows .ensures) (c .enum-told .given .1))
+    let z = c .before .before .before .before in
+    summed-as entries-summed
+    (sum-cut language sizeOf 381 _ _ _ (z .loop .inv) (c .before .before .before .loop-test .taken) (c .before .before .language-rows .ensures) (c .enum-told .given .1))
 
 add-rows : tie.Need-add-rows Inv-loop μ-loop
 add-rows c =
-    omega (arith, sum-small (c .before .before .before .language-rows .ensures) (c .before .a .given .1), c .before .before .before .before .before .loop .inv .small, c .before .before .before .before .before .before .before .pre .1)
+    let z = c .before .before .before .before .before in
+    omega
+    (arith, sum-small (c .before .before .before .language-rows .ensures) (c .before .a .given .1), z .loop .inv .small, z .before .before .pre .1)
 
 sub-left : tie.Need-sub-left Inv-loop μ-loop
 sub-left c =
@@ -47,7 +51,8 @@ loop-less c =
 
 loop-again : tie.Need-loop-again Inv-loop μ-loop
 loop-again c =
-    sum-turn language sizeOf 381 _ _ _ (c .before .before .before .before .before .loop .inv) (c .before .before .before .before .loop-test .taken) (c .before .before .before .language-rows .ensures) (c .before .a .given .1)
+    sum-turn language sizeOf 381 _ _ _ (c .before .before .before .before .before .loop .inv) (c .before .before .before .before .loop-test .taken)
+    (c .before .before .before .language-rows .ensures) (c .before .a .given .1)
 
 returns-2 : tie.Need-returns-2 Inv-loop μ-loop
 returns-2 c =

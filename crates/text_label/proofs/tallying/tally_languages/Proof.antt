@@ -22,7 +22,8 @@ tally-language-requires c κs = let w = c .before .before .before .pre in (c .be
 
 add-zeros : tie.Need-add-zeros Inv-loop μ-loop
 add-zeros c =
-    omega (arith, c .before .before .before .loop .inv .small, c .before .tally-language .ensures .1, c .before .before .loop-test .taken, c .before .before .before .before .before .pre .3)
+    let z = c .before .before .before .before .before in
+    omega (arith, c .before .before .before .loop .inv .small, c .before .tally-language .ensures .1, c .before .before .loop-test .taken, z .pre .3)
 
 sub-left : tie.Need-sub-left Inv-loop μ-loop
 sub-left c = search needs

@@ -24,9 +24,11 @@ run-requires c κs = search needs
 returns : tie.Need-returns
 unfolding kind
 returns c =
-    let z = c .before .before .before .before .before .before .before .before in
+    let y = c .before .before .before .before .before .before .before .before in
     let e = sym (c .before .before .before .in-store .ensures) ∙ c .before .before .if1 .taken in
-    more 794222 (all-looked kind (acts-are (z .args .m) (z .args .languages .now) (z .args .entries .now) (z .args .store .now)) e (c .before .check-fields .ensures) (c .run .ensures)) (omega arith)
+    more 794222
+    (all-looked kind (acts-are (y .args .m) (y .args .languages .now) (y .args .entries .now) (y .args .store .now)) e (c .before .check-fields .ensures) (c .run .ensures))
+    (omega arith)
 
 returns-2 : tie.Need-returns-2
 unfolding kind

@@ -33,19 +33,26 @@ enum-told c = search needs
 returns : tie.Need-returns
 unfolding textLabelActs
 returns c =
-    rw (sym (c .before .before .before .before .before .before .has-rows .ensures) ∙ c .before .before .before .before .before .if1 .taken) (passed _ 0 (passed _ 0 (passed _ 0 (more 728687 (then (all-checked (c .before .before .before .before .head-bytes .ensures) (c .before .before .check-all .ensures)) (stopped _ 0 (c .enum-told .given .1))) (omega arith)))))
+    let z = c .before .before .before .before in
+    rw (sym (z .before .before .has-rows .ensures) ∙ z .before .if1 .taken)
+    (passed _ 0 (passed _ 0 (passed _ 0 (more 728687 (then (all-checked (z .head-bytes .ensures) (c .before .before .check-all .ensures)) (stopped _ 0 (c .enum-told .given .1))) (omega arith)))))
 
 cast-check-languages : tie.Need-cast-check-languages
 cast-check-languages c = search needs
 
 check-languages-requires : tie.Need-check-languages-requires
 check-languages-requires c κs =
-    let w = all-checked (c .before .before .before .before .before .head-bytes .ensures) (c .before .before .before .check-all .ensures) in let n = rw (c .before .p .given .1) at (w .near) in (languages-there (c .before .before .before .before .before .before .before .before .before .before .before .args .m .languages) (c .before .before .before .before .before .before .before .before .before .before .before .args .languages .now) (c .before .before .before .before .before .before .before .has-rows .ensures) (c .before .before .before .before .before .before .if1 .taken), languages-few (c .before .before .before .before .before .before .before .before .before .before .before .args .m) w (c .before .p .given .1), omega (arith, n))
+    let z = c .before .before .before .before .before in
+    let y = z .before .before .before .before .before .before in
+    let w = all-checked (z .head-bytes .ensures) (c .before .before .before .check-all .ensures) in let n = rw (c .before .p .given .1) at (w .near) in (languages-there (y .args .m .languages) (y .args .languages .now) (z .before .before .has-rows .ensures) (z .before .if1 .taken), languages-few (y .args .m) w (c .before .p .given .1), omega (arith, n))
 
 returns-2 : tie.Need-returns-2
 unfolding textLabelActs
 returns-2 c =
-    let w = all-checked (c .before .before .before .before .before .before .head-bytes .ensures) (c .before .before .before .before .check-all .ensures) in let k = languages-few (c .before .before .before .before .before .before .before .before .before .before .before .before .args .m) w (c .before .before .p .given .1) in rw (sym (c .before .before .before .before .before .before .before .before .has-rows .ensures) ∙ c .before .before .before .before .before .before .before .if1 .taken) (passed _ 0 (passed _ 0 (passed _ 0 (more 728687 (then w (here (c .before .before .p .given .1) (c .check-languages .ensures))) (omega (arith, k))))))
+    let z = c .before .before .before .before in
+    let y = z .before .before .before .before in
+    let x = y .before .before .before .before in
+    let w = all-checked (z .before .before .head-bytes .ensures) (z .check-all .ensures) in let k = languages-few (x .args .m) w (c .before .before .p .given .1) in rw (sym (y .has-rows .ensures) ∙ z .before .before .before .if1 .taken) (passed _ 0 (passed _ 0 (passed _ 0 (more 728687 (then w (here (c .before .before .p .given .1) (c .check-languages .ensures))) (omega (arith, k))))))
 
 returns-3 : tie.Need-returns-3
 unfolding textLabelActs

@@ -30,20 +30,27 @@ check-all-requires c κs = search needs
 
 check-list-requires : tie.Need-check-list-requires
 check-list-requires c κs =
-    (rows (c .before .before .before) .groups, omega (arith, all-checked (c .before .before .letter-bytes .ensures) (c .check-all .ensures) .near, c .before .before .before .before .before .before .before .pre), omega arith)
+    let z = c .before .before .before .before .before .before .before in
+    (rows (c .before .before .before) .groups, omega (arith, all-checked (c .before .before .letter-bytes .ensures) (c .check-all .ensures) .near, z .pre), omega arith)
 
 check-list-requires-2 : tie.Need-check-list-requires-2
 check-list-requires-2 c κs =
-    (rows (c .before .before .before .before) .switch-groups, omega (arith, all-checked (c .before .before .before .letter-bytes .ensures) (c .before .check-all .ensures) .near, c .check-list .ensures .near, c .before .before .before .before .before .before .before .before .pre), omega arith)
+    let z = c .before .before .before .before in
+    let y = z .before .before .before .before in
+    (rows (z) .switch-groups, omega (arith, all-checked (c .before .before .before .letter-bytes .ensures) (c .before .check-all .ensures) .near, c .check-list .ensures .near, y .pre), omega arith)
 
 check-list-requires-3 : tie.Need-check-list-requires-3
 check-list-requires-3 c κs =
-    (rows (c .before .before .before .before .before) .presets, omega (arith, all-checked (c .before .before .before .before .letter-bytes .ensures) (c .before .before .check-all .ensures) .near, c .before .check-list .ensures .near, c .check-list2 .ensures .near, c .before .before .before .before .before .before .before .before .before .pre), omega arith)
+    let z = c .before .before .before .before in
+    let y = z .before .before .before .before .before in
+    (rows (z .before) .presets, omega (arith, all-checked (z .letter-bytes .ensures) (c .before .before .check-all .ensures) .near, c .before .check-list .ensures .near, c .check-list2 .ensures .near, y .pre), omega arith)
 
 returns : tie.Need-returns
 unfolding languageActs
 returns c =
-    rw (ranges (c .before .before .before .before .before .before)) (passed _ _ (passed _ _ (passed _ _ (more 48579 (then (all-checked (c .before .before .before .before .before .letter-bytes .ensures) (c .before .before .before .check-all .ensures)) (then (c .before .before .check-list .ensures) (then (c .before .check-list2 .ensures) (c .check-list3 .ensures)))) (omega arith)))))
+    let z = c .before .before .before .before .before in
+    rw (ranges (z .before))
+    (passed _ _ (passed _ _ (passed _ _ (more 48579 (then (all-checked (z .letter-bytes .ensures) (c .before .before .before .check-all .ensures)) (then (c .before .before .check-list .ensures) (then (c .before .check-list2 .ensures) (c .check-list3 .ensures)))) (omega arith)))))
 
 returns-2 : tie.Need-returns-2
 unfolding languageActs

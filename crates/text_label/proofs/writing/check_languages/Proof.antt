@@ -11,14 +11,21 @@ use Rattle.text_label.proofs.writing.check_languages.Statement.{stateme
 use Rattle.text_label.proofs.writing.check_languages.Tie as tie
 
 abbrev Inv-loop : tie.InvT-loop
-Inv-loop n languages count entries store at₀ i₀ at i = (i ≤ count) × Checking (rows (rowActs languages entries store) 0 count) (rows (rowActs languages entries store) i (count - i)) (48579 * i) (At at₀) (At at)
+Inv-loop n languages count entries store at₀ i₀ at i =
+    (i ≤ count) × Checking (rows (rowActs languages entries store) 0 count) (rows (rowActs languages entries store) i (count - i)) (48579 * i) (At at₀) (At at)
 
 abbrev μ-loop : tie.MeasureT-loop
 μ-loop n languages count entries store at₀ i₀ at i = count - i
 
 -- the pen behind a row
-next : (c : tie.After-check-language Inv-loop μ-loop) → Checking (rows (rowActs (c .before .before .before .before .before .before .before .args .languages .now) (c .before .before .before .before .before .before .before .args .entries .now) (c .before .before .before .before .before .before .before .args .store .now)) 0 (c .before .before .before .before .before .before .before .args .count)) (rows (rowActs (c .before .before .before .before .before .before .before .args .languages .now) (c .before .before .before .before .before .before .before .args .entries .now) (c .before .before .before .before .before .before .before .args .store .now)) (c .before .before .before .loop .i + 1) (c .before .before .before .before .before .before .before .args .count - (c .before .before .before .loop .i + 1))) (48579 * (c .before .before .before .loop .i + 1)) (At (c .before .before .before .before .before .before .before .args .n)) (c .check-language .result)
-next c = check-turn _ (c .before .before .before .loop .inv .1) (rows-turn _ _ _ (c .before .before .loop-test .taken)) (rw (c .before .of-columns .ensures) at (c .check-language .ensures)) (omega arith)
+next : (c : tie.After-check-language Inv-loop μ-loop)
+    → Checking
+    (rows (rowActs (c .before .before .before .before .before .before .before .args .languages .now) (c .before .before .before .before .before .before .before .args .entries .now) (c .before .before .before .before .before .before .before .args .store .now)) 0 (c .before .before .before .before .before .before .before .args .count))
+    (rows (rowActs (c .before .before .before .before .before .before .before .args .languages .now) (c .before .before .before .before .before .before .before .args .entries .now) (c .before .before .before .before .before .before .before .args .store .now)) (c .before .before .before .loop .i + 1) (c .before .before .before .before .before .before .before .args .count - (c .before .before .before .loop .i + 1)))
+    (48579 * (c .before .before .before .loop .i + 1)) (At (c .before .before .before .before .before .before .before .args .n)) (c .check-language .result)
+next c =
+    check-turn _ (c .before .before .before .loop .inv .1) (rows-turn _ _ _ (c .before .before .loop-test .taken))
+    (rw (c .before .of-columns .ensures) at (c .check-language .ensures)) (omega arith)
 
 loop-holds : tie.Need-loop-holds Inv-loop μ-loop
 loop-holds c = (omega arith, rw sub-zero (check-start _ _))

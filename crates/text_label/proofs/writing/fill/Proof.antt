@@ -20,7 +20,8 @@ unfolding kind
 copy-requires c κs =
     let d = c .before .before .before in
     let z = d .before .before .before .before .before .before in
-    run-ready kind (acts-are (z .args .m) (z .args .languages .now) (z .args .entries .now) (z .args .store .now)) (z .pre) (d .fill-fields .kept .1 .1 .1 .1 .0) (d .fill-fields .ensures)
+    run-ready kind (acts-are (z .args .m) (z .args .languages .now) (z .args .entries .now) (z .args .store .now)) (z .pre) (d .fill-fields .kept .1 .1 .1 .1 .0)
+    (d .fill-fields .ensures)
 
 same-length : tie.Need-same-length
 same-length c = search needs
@@ -28,9 +29,10 @@ same-length c = search needs
 returns : tie.Need-returns
 unfolding kind
 returns c =
-    let d = c .before .before .before .before .before .before in
-    let z = d .before .before .before .before .before .before in
-    all-filled kind (acts-are (z .args .m) (z .args .languages .now) (z .args .entries .now) (z .args .store .now)) (z .pre) (d .fill-fields .kept .1 .1 .1 .1 .0) (d .fill-fields .ensures) (c .before .before .copy .ensures)
+    let y = c .before .before .before .before .before .before in
+    let z = y .before .before .before .before .before .before in
+    all-filled kind (acts-are (z .args .m) (z .args .languages .now) (z .args .entries .now) (z .args .store .now)) (z .pre) (y .fill-fields .kept .1 .1 .1 .1 .0)
+    (y .fill-fields .ensures) (c .before .before .copy .ensures)
 
 pub fill-spec : {M : Type 1} → statement M
 fill-spec =

@@ -30,7 +30,8 @@ rows : (c : tie.Start) → Within (c .args .l) (c .args .entries .now)
 unfolding languageActs
 rows c = all-three _ _ (demanded (c .pre))
 
-after-0 : (c : tie.Start) → Filling (all c) (when true (map byte (letterFields (c .args .l .language))) ++ left-1 c) (c .args .n) (c .args .out .now) (c .args .n) (c .args .out .now)
+after-0 : (c : tie.Start)
+    → Filling (all c) (when true (map byte (letterFields (c .args .l .language))) ++ left-1 c) (c .args .n) (c .args .out .now) (c .args .n) (c .args .out .now)
 unfolding languageActs
 after-0 c = fill-demand (fill-demand (fill-demand (fill-start (c .pre))))
 

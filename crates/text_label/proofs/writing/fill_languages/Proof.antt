@@ -10,7 +10,8 @@ use Rattle.text_label.proofs.writing.fill_languages.Statement.{statemen
 use Rattle.text_label.proofs.writing.fill_languages.Tie as tie
 
 abbrev Inv-loop : tie.InvT-loop
-Inv-loop languages count entries store out₀ n at₀ i₀ out at i = (i ≤ count) × Filling (rows (rowActs languages entries store) 0 count) (rows (rowActs languages entries store) i (count - i)) at₀ out₀ at out
+Inv-loop languages count entries store out₀ n at₀ i₀ out at i =
+    (i ≤ count) × Filling (rows (rowActs languages entries store) 0 count) (rows (rowActs languages entries store) i (count - i)) at₀ out₀ at out
 
 abbrev μ-loop : tie.MeasureT-loop
 μ-loop languages count entries store out₀ n at₀ i₀ out at i = count - i
@@ -35,8 +36,9 @@ loop-less c = search needs
 
 loop-again : tie.Need-loop-again Inv-loop μ-loop
 loop-again c =
-    let w = rw (c .before .before .before .before .of-columns .ensures) at (c .before .before .fill-language .ensures) in
-    (omega arith, fill-turn (c .before .before .before .before .before .before .loop .inv .1) (rows-turn _ _ _ (c .before .before .before .before .before .loop-test .taken)) (c .before .before .fill-language .kept .1 .1 .1 .0) w)
+    let z = c .before .before .before .before in
+    let w = rw (z .of-columns .ensures) at (c .before .before .fill-language .ensures) in
+    (omega arith, fill-turn (z .before .before .loop .inv .1) (rows-turn _ _ _ (z .before .loop-test .taken)) (c .before .before .fill-language .kept .1 .1 .1 .0) w)
 
 same-length : tie.Need-same-length Inv-loop μ-loop
 same-length c = c .before .loop .inv .1 .size

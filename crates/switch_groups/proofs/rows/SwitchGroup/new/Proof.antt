@@ -30,7 +30,8 @@ wide-requires-3 c κs = search needs
 returns : tie.Need-returns
 returns c =
     let z = c .before .before .before in
-    rw (c .wide3 .ensures, c .before .ones3 .ensures, c .before .before .wide2 .ensures, z .ones2 .ensures, z .before .flag2 .ensures, z .before .before .flag .ensures, z .before .before .before .wide .ensures, z .before .before .before .before .ones .ensures)
+    rw
+    (c .wide3 .ensures, c .before .ones3 .ensures, c .before .before .wide2 .ensures, z .ones2 .ensures, z .before .flag2 .ensures, z .before .before .flag .ensures, z .before .before .before .wide .ensures, z .before .before .before .before .ones .ensures)
 
 pub new-spec : {M : Type 1} → statement M
 new-spec =
