@@ -46,15 +46,7 @@ check-all-requires-2 c κs =
 
 returns : tie.Need-returns
 returns c =
-    scope-checked (c .before .before .before .before .before .before .before .before .before .before .before .before .before .args .types .now)
-    (c .before .before .before .before .before .before .before .before .before .before .before .before .before .args .reserved-type)
-    (c .before .before .before .before .before .before .before .before .before .before .before .before .before .args .scope)
-    (c .before .before .before .before .before .before .before .before .before .before .before .agrees .ensures)
-    (c .before .before .before .before .before .before .before .before .before .before .demand .ensures)
-    (c .before .before .before .before .before .before .before .before .before .type-byte .ensures)
-    (c .before .before .before .before .before .before .before .before .id-byte .ensures) (c .before .before .before .before .before .before .fits-all .ensures)
-    (c .before .before .before .before .before .demand2 .ensures) (c .before .before .before .check-all .ensures) (c .before .before .has-id .ensures)
-    (c .check-all2 .ensures)
+    scope-checked (c .before .before .before .before .before .before .before .before .before .before .before .before .before .args .types .now) (c .before .before .before .before .before .before .before .before .before .before .before .before .before .args .reserved-type) (c .before .before .before .before .before .before .before .before .before .before .before .before .before .args .scope) (c .before .before .before .before .before .before .before .before .before .before .before .agrees .ensures) (c .before .before .before .before .before .before .before .before .before .before .demand .ensures) (c .before .before .before .before .before .before .before .before .before .type-byte .ensures) (c .before .before .before .before .before .before .before .before .id-byte .ensures) (c .before .before .before .before .before .before .fits-all .ensures) (c .before .before .before .before .before .demand2 .ensures) (c .before .before .before .check-all .ensures) (c .before .before .has-id .ensures) (c .check-all2 .ensures)
 
 pub check-scope-spec : {M : Type 1} → statement M
 check-scope-spec =
