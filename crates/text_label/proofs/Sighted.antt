@@ -7,10 +7,10 @@ use mathlib.Core.Option.{none}
 use native.Mathlib.Omega.{arith}
 use lib.ListN.{length, getD, drop}
 use lib.Seq.{sets}
-use lib.Dec.{eqb}
-use borrow.Author.Tests.{eqb-true, le-leb}
+use lib.Dec.{leb, eqb}
+use borrow.Author.Tests.{eqb-true, leb-true, le-leb, lt-leb}
 use Rattle.wire.specs.Lists.{Every, all-cons, each, sum, firsts}
-use Rattle.wire.specs.Bits.{part, zeros}
+use Rattle.wire.specs.Bits.{part, zeros, total}
 use Rattle.wire.specs.Prog.{ret, done, run, many, _>>=_}
 use Rattle.wire.specs.Reads.{endsOut, sumOut, mapOut, isDone, Summed}
 use Rattle.wire.specs.Straight.{ends, ones}
@@ -27,6 +27,8 @@ use Rattle.wire.proofs.Fields.{part-below}
 use Rattle.wire.proofs.reading.Walk.{step, run-ret, as-done}
 use Rattle.wire.proofs.reading.Takes.{run-takes}
 use Rattle.wire.proofs.reading.Loops.{none-left, sum-small}
+use Rattle.wire.proofs.writing.Acts.{and-both}
+use Rattle.wire.proofs.layouts.Straight.{ends-few}
 use Rattle.wire.proofs.layouts.Rowed.{Wide}
 use Rattle.wire.proofs.Lists.{flat-rows}
 use Rattle.wire.proofs.layouts.Fronts.{front}
@@ -52,7 +54,7 @@ use Rattle.text_label.specs.Layout.{head}
 use Rattle.text_label.specs.Rows.{Language, TextLabel}
 use Rattle.text_label.specs.Read.{language}
 use Rattle.text_label.specs.Kind.{lists, entriesOf, languageRows, pieces, kind}
-use Rattle.text_label.specs.Contract.{needed, sized, measured, Bare, rowFrom}
+use Rattle.text_label.specs.Contract.{needed, sized, measured, isBare, rowFrom}
 use Rattle.text_label.proofs.Lawful.{lawful}
 use Rattle.text_label.proofs.Parsed as P
 use Rattle.text_label.proofs.Parsed.{second-there, bodyIs, sizeOf, rowsIn, BodyRun, body-run}
@@ -87,23 +89,31 @@ measured-short body h w e = measures-cut kind rowsIn body h (sym (ap sumOut e) �
 
 -- ---- without languages
 
-pub not-bare : (body : List ℕ) → Bare body false
-not-bare body = record { sizes = λ e. absurd (let z : _≡_ {A = ℕ} 0 1 = cc e in omega arith) }
+pub long-not-bare : (body : List ℕ) → 65535 < length body → false ≡ isBare body
+long-not-bare body h = rw (lt-leb (length body) 65535 h) refl
 
-pub bare-so : (body : List ℕ) {o : Ends} {n count : ℕ} → length body ≤ 65535 → endsOut o ≡ ends (ones 2) body 0 → o ≡ E.At n → count ≡ part 0 4 (getD body 1 0)
-    → Bare body (eqb count 0)
+module _ (body : List ℕ) {o : Ends} (h : length body ≤ 65535) (e : endsOut o ≡ ends (ones 2) body 0) where
+  pub cut-not-bare : {x : Short} → o ≡ E.Short x → false ≡ isBare body
+  unfolding ones total
+  cut-not-bare d = rw (le-leb (length body) 65535 h, lt-leb 2 (length body) (omega (arith, ends-few (ones 2) body 0 (sym e ∙ ap endsOut d)))) refl
+
+  pub bare-so : {n count : ℕ} → o ≡ E.At n → count ≡ part 0 4 (getD body 1 0) → eqb count 0 ≡ isBare body
+  bare-so {count = count} d c = rw (le-leb (length body) 65535 h, le-leb 2 (length body) (second-there body e d)) (ap (λ (n : ℕ). eqb n 0) c)
+
+bare-measured : (body : List ℕ) → isBare body ≡ true → Measures kind body (accepted (sized 0 0 2))
 unfolding flatMap _>>=_
-bare-so body {count = count} h e d c = record {
-  sizes = λ q.
-      let z : part 0 4 (getD body 1 0) ≡ 0 = sym c ∙ eqb-true count 0 q in
-      let w = P.head-there body (second-there body e d) in
-      let r : run (kind .program) body 0 ≡ done (bodyIs (getD body 0 0) (getD body 1 0) []) 2 =
-      w .same
-      ∙ step (many (part 0 4 (getD body 1 0)) language) (λ l. ret (bodyIs (getD body 0 0) (getD body 1 0) l)) body 2 refl
-      (ap (λ (k : ℕ). run (many k language) body 2) z ∙ none-left language body 0 2 (omega arith))
-      ∙ run-ret (bodyIs (getD body 0 0) (getD body 1 0) []) body 2 in
-      subst (λ (z : Sizes). Measures kind body (accepted z)) (sizes-are (bodyIs (getD body 0 0) (getD body 1 0) []) 2) (measures-done kind body h r);
-}
+bare-measured body q =
+    let (a, q′) = and-both (leb (length body) 65535) _ q in
+    let (b, d) = and-both (leb 2 (length body)) _ q′ in
+    let z : part 0 4 (getD body 1 0) ≡ 0 = eqb-true (part 0 4 (getD body 1 0)) 0 d in
+    let w = P.head-there body (leb-true 2 (length body) b) in
+    let r : run (kind .program) body 0 ≡ done (bodyIs (getD body 0 0) (getD body 1 0) []) 2 =
+    w .same
+    ∙ step (many (part 0 4 (getD body 1 0)) language) (λ l. ret (bodyIs (getD body 0 0) (getD body 1 0) l)) body 2 refl
+    (ap (λ (k : ℕ). run (many k language) body 2) z ∙ none-left language body 0 2 (omega arith))
+    ∙ run-ret (bodyIs (getD body 0 0) (getD body 1 0) []) body 2 in
+    subst (λ (z : Sizes). Measures kind body (accepted z)) (sizes-are (bodyIs (getD body 0 0) (getD body 1 0) []) 2)
+    (measures-done kind body (leb-true (length body) 65535 a) r)
 
 -- ---- the room of both tables
 
@@ -227,9 +237,9 @@ bare-fills body m t u = fills-known kind (knows body m) (go (knows body m .sound
     go [] e = refl
     go (l ∷ ls) e = absurd (omega arith)
 
-module _ {body : List ℕ} {r : Bool} (b : Bare body r) (e : r ≡ true) where
+module _ {body : List ℕ} {r : Bool} (b : r ≡ isBare body) (e : r ≡ true) where
   pub bare-sizes : Measures kind body (accepted (sized 0 0 2))
-  bare-sizes = b .sizes e
+  bare-sizes = bare-measured body (sym b ∙ e)
 
   pub bare-reads : {p : MpegH3dAudioTextLabel} → Tops kind body p → (t u : List ℕ) → Reads kind body (t ∷ u ∷ []) (accepted p) (t ∷ u ∷ [])
   bare-reads p t u = reads-filled kind body bare-sizes (t ∷ u ∷ []) (t ∷ u ∷ []) (bare-room t u) (bare-fills body bare-sizes t u) p

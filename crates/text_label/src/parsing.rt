@@ -13,7 +13,7 @@ ghost use Rattle.frame.specs.Entry.{Measures};
 ghost use Rattle.frame.specs.Sight.{Tops, Roomy, Fills};
 ghost use Rattle.text_label.specs.Read.{lettersAt, language};
 ghost use Rattle.text_label.specs.Kind.{entriesOf, kind};
-ghost use Rattle.text_label.specs.Contract.{sized, Bare, rowFrom, languageFrom};
+ghost use Rattle.text_label.specs.Contract.{sized, isBare, rowFrom, languageFrom};
 use super::Sizes;
 use super::rows::DescriptionLanguage;
 use super::rows::LANGUAGE_COLUMNS;
@@ -99,7 +99,7 @@ pub fn rows(body: &[u8]) -> Sum
 
 // Whether a body is at once seen to have no languages: then nothing is walked, and no room is asked.
 pub fn is_bare(body: &[u8]) -> bool
-    ensures { λ r. ⌜ Bare (now (body .entry)) r ⌝ }
+    ensures { λ r. ⌜ r ≡ isBare (now (body .entry)) ⌝ }
 {
     if 65535 < body.len() {
         return false;

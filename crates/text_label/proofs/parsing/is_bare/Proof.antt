@@ -1,12 +1,12 @@
--- A body without languages is seen at its second byte; of every other nothing is said.
+-- A body without languages is seen at its second byte.
 use Rattle.text_label.proofs.Parsed.{second-there}
-use Rattle.text_label.proofs.Sighted.{not-bare, bare-so}
+use Rattle.text_label.proofs.Sighted.{long-not-bare, cut-not-bare, bare-so}
 use borrow.Author.Needs.{needs}
 use Rattle.text_label.proofs.parsing.is_bare.Statement.{statement}
 use Rattle.text_label.proofs.parsing.is_bare.Tie as tie
 
 returns : tie.Need-returns
-returns c = not-bare _
+returns c = search long-not-bare
 
 head-end-requires : tie.Need-head-end-requires
 head-end-requires c κs = search needs
@@ -18,7 +18,7 @@ enum-told-2 : tie.Need-enum-told-2
 enum-told-2 c = search needs
 
 returns-2 : tie.Need-returns-2
-returns-2 c = not-bare _
+returns-2 c = search cut-not-bare
 
 count-at-requires : tie.Need-count-at-requires
 count-at-requires c κs = search (needs, second-there)
