@@ -69,11 +69,12 @@ module _ (s : List ℕ) (at : ℕ) (q : isDone (run language s at) ≡ true) whe
       pub presets-done : isDone (run (labels 5) s n₂) ≡ true
       presets-done = ap isDone third-read
 
-      pub language-tallied : {c n₃ : ℕ} → done c n₃ ≡ mapOut (labelsTally 5) (run (labels 5) s n₂) → done (a + (b + c)) n₃ ≡ mapOut (languageRows .zeros) (run language s at)
-      language-tallied z =
+      pub language-tallied : {c n₃ all : ℕ} → done c n₃ ≡ mapOut (labelsTally 5) (run (labels 5) s n₂) → all ≡ a + (b + c)
+          → done all n₃ ≡ mapOut (languageRows .zeros) (run language s at)
+      language-tallied z q =
           let third = list-told 5 s n₂ third-read z in
           let v =
-          (λ i. first .0 i + (second .0 i + third .0 i)) ∙ sym (zeros-so (slice at (at + 3) s) (it .groups) (it .switch-groups) (it .presets))
+          q ∙ (λ i. first .0 i + (second .0 i + third .0 i)) ∙ sym (zeros-so (slice at (at + 3) s) (it .groups) (it .switch-groups) (it .presets))
           ∙ ap (languageRows .zeros) (sym (it .is)) in
           (λ i. done (v i) (third .1 i)) ∙ sym (ap (mapOut (languageRows .zeros)) (the-end .2))
 

@@ -1,5 +1,6 @@
 -- `tallying::tally_language` meets its contract: the bits of the three lists, one after the other.
 use Rattle.text_label.proofs.Tallied.{groups-begin, groups-done, switch-groups-begin, switch-groups-done, presets-begin, presets-done, language-tallied}
+use native.Mathlib.Omega.{arith}
 use borrow.Author.Needs.{needs}
 use Rattle.text_label.proofs.tallying.tally_language.Statement.{statement}
 use Rattle.text_label.proofs.tallying.tally_language.Tie as tie
@@ -23,7 +24,12 @@ add-t8 : tie.Need-add-t8
 add-t8 c = search needs
 
 returns : tie.Need-returns
-returns c = search (needs, language-tallied)
+returns c =
+    let p = c .before .before .before in
+    let s = p .before in
+    let g = s .before in
+    let begun = g .before .before .pre in
+    (language-tallied _ _ (begun .2) (g .tally-list .ensures .0) (s .tally-list2 .ensures .0) (p .tally-list3 .ensures .0) (omega arith), search needs)
 
 pub tally-language-spec : {M : Type 1} → statement M
 tally-language-spec =
