@@ -1,6 +1,7 @@
 //! Calls the Rust module and the library on one line of speed/bodies, so that a counter can compare their instructions.
 //! For every measurement it prints a line (bytes, operation, side, calls) and calls `mark` three times: before a loop of `FEW` calls, between it
 //! and a loop of `MANY`, and after that. The cost of a call is the difference of the two loops divided by `MANY - FEW`.
+//! Built with `panic=abort` it measures the Rust at its best instead: without landing pads, and writing into one vector that is used again.
 #![allow(dead_code, unexpected_cfgs)]
 
 extern crate alloc;
@@ -174,24 +175,52 @@ struct Lent {
     tables: [Vec<u16>; 5],
 }
 
+/// A payload, as the structs of include/mpegh.h have it.
+struct Payload {
+    offset: u16,
+    length: u16,
+}
+
+fn payload(columns: &[u16]) -> Payload {
+    Payload {
+        offset: columns[0],
+        length: columns[1],
+    }
+}
+
 /// A kind of body, on both sides.
 trait Kind {
     type Value;
+    /// The top record as a host holds it: the struct of include/mpegh.h.
+    type Top;
     /// The number of `Error::InvalidDescriptor`, where the kind has it: 7 for an empty list, 8 for a scope whose type and case disagree, 9 for
     /// an auxiliary part that does not fit.
     const INVALID: u64;
     fn parse(r: &mut Reader<'_>) -> error::Result<Self::Value>;
     fn write(value: &Self::Value, out: &mut Vec<u8>) -> error::Result<()>;
     fn our_read(body: &[u8], lent: &mut Lent) -> u64;
-    fn our_write(lent: &Lent, store: &[u8], out: &mut [u8]) -> u64;
+    fn top(columns: &[u16]) -> Self::Top;
+    fn our_write(top: &Self::Top, lent: &Lent, store: &[u8], out: &mut [u8]) -> u64;
     /// Puts a fault into both values, at their end.
     fn spoil(fault: &str, value: &mut Self::Value, lent: &mut Lent);
+}
+
+struct BaseTop {
+    profile_level_indication: u8,
+    interactivity_enabled: bool,
+    compatible_sets_present: bool,
+    compatible_sets: Payload,
+    reserved_flags: u8,
+    reserved_layout: u8,
+    reference_channel_layout: u8,
+    trailing: Payload,
 }
 
 struct Base;
 
 impl Kind for Base {
     type Value = MpegH3dAudio;
+    type Top = BaseTop;
     const INVALID: u64 = 0;
     #[inline(always)]
     fn parse(r: &mut Reader<'_>) -> error::Result<MpegH3dAudio> {
@@ -206,21 +235,32 @@ impl Kind for Base {
         let top = &mut lent.top;
         unsafe { mpegh_base_read(body.as_ptr(), body.len(), top.as_mut_ptr(), top.len()) }
     }
+    fn top(t: &[u16]) -> BaseTop {
+        BaseTop {
+            profile_level_indication: t[0] as u8,
+            interactivity_enabled: t[1] != 0,
+            compatible_sets_present: t[2] != 0,
+            compatible_sets: payload(&t[3..]),
+            reserved_flags: t[5] as u8,
+            reserved_layout: t[6] as u8,
+            reference_channel_layout: t[7] as u8,
+            trailing: payload(&t[8..]),
+        }
+    }
     #[inline(always)]
-    fn our_write(lent: &Lent, store: &[u8], out: &mut [u8]) -> u64 {
-        let t = &lent.top;
+    fn our_write(t: &BaseTop, _lent: &Lent, store: &[u8], out: &mut [u8]) -> u64 {
         unsafe {
             mpegh_base_write(
-                t[0] as u8,
-                t[1] != 0,
-                t[2] != 0,
-                t[3],
-                t[4],
-                t[5] as u8,
-                t[6] as u8,
-                t[7] as u8,
-                t[8],
-                t[9],
+                t.profile_level_indication,
+                t.interactivity_enabled,
+                t.compatible_sets_present,
+                t.compatible_sets.offset,
+                t.compatible_sets.length,
+                t.reserved_flags,
+                t.reserved_layout,
+                t.reference_channel_layout,
+                t.trailing.offset,
+                t.trailing.length,
                 store.as_ptr(),
                 store.len(),
                 out.as_mut_ptr(),
@@ -239,10 +279,26 @@ impl Kind for Base {
     }
 }
 
+struct SceneTop {
+    reserved_flags: u8,
+    scene_info_id: u8,
+    groups_present: bool,
+    groups: u16,
+    reserved_switch_groups: u8,
+    switch_groups_present: bool,
+    switch_groups: u16,
+    reserved_presets: u8,
+    presets_present: bool,
+    presets: u16,
+    reserved_groups: u8,
+    trailing: Payload,
+}
+
 struct Scene;
 
 impl Kind for Scene {
     type Value = MpegH3dAudioScene;
+    type Top = SceneTop;
     const INVALID: u64 = 7;
     #[inline(always)]
     fn parse(r: &mut Reader<'_>) -> error::Result<MpegH3dAudioScene> {
@@ -275,25 +331,40 @@ impl Kind for Scene {
             )
         }
     }
+    fn top(t: &[u16]) -> SceneTop {
+        SceneTop {
+            reserved_flags: t[0] as u8,
+            scene_info_id: t[1] as u8,
+            groups_present: t[2] != 0,
+            groups: t[3],
+            reserved_switch_groups: t[4] as u8,
+            switch_groups_present: t[5] != 0,
+            switch_groups: t[6],
+            reserved_presets: t[7] as u8,
+            presets_present: t[8] != 0,
+            presets: t[9],
+            reserved_groups: t[10] as u8,
+            trailing: payload(&t[11..]),
+        }
+    }
     #[inline(always)]
-    fn our_write(lent: &Lent, store: &[u8], out: &mut [u8]) -> u64 {
-        let t = &lent.top;
+    fn our_write(t: &SceneTop, lent: &Lent, store: &[u8], out: &mut [u8]) -> u64 {
         let [groups, switch_groups, members, presets, conditions] = &lent.tables;
         unsafe {
             mpegh_scene_write(
-                t[0] as u8,
-                t[1] as u8,
-                t[2] != 0,
-                t[3],
-                t[4] as u8,
-                t[5] != 0,
-                t[6],
-                t[7] as u8,
-                t[8] != 0,
-                t[9],
-                t[10] as u8,
-                t[11],
-                t[12],
+                t.reserved_flags,
+                t.scene_info_id,
+                t.groups_present,
+                t.groups,
+                t.reserved_switch_groups,
+                t.switch_groups_present,
+                t.switch_groups,
+                t.reserved_presets,
+                t.presets_present,
+                t.presets,
+                t.reserved_groups,
+                t.trailing.offset,
+                t.trailing.length,
                 groups.as_ptr(),
                 groups.len(),
                 switch_groups.as_ptr(),
@@ -343,10 +414,18 @@ impl Kind for Scene {
     }
 }
 
+struct TextLabelTop {
+    scene_info_id: u8,
+    reserved: u8,
+    languages: u16,
+    trailing: Payload,
+}
+
 struct TextLabel;
 
 impl Kind for TextLabel {
     type Value = MpegH3dAudioTextLabel;
+    type Top = TextLabelTop;
     const INVALID: u64 = 0;
     #[inline(always)]
     fn parse(r: &mut Reader<'_>) -> error::Result<MpegH3dAudioTextLabel> {
@@ -373,17 +452,24 @@ impl Kind for TextLabel {
             )
         }
     }
+    fn top(t: &[u16]) -> TextLabelTop {
+        TextLabelTop {
+            scene_info_id: t[0] as u8,
+            reserved: t[1] as u8,
+            languages: t[2],
+            trailing: payload(&t[3..]),
+        }
+    }
     #[inline(always)]
-    fn our_write(lent: &Lent, store: &[u8], out: &mut [u8]) -> u64 {
-        let t = &lent.top;
+    fn our_write(t: &TextLabelTop, lent: &Lent, store: &[u8], out: &mut [u8]) -> u64 {
         let [languages, entries, ..] = &lent.tables;
         unsafe {
             mpegh_text_label_write(
-                t[0] as u8,
-                t[1] as u8,
-                t[2],
-                t[3],
-                t[4],
+                t.scene_info_id,
+                t.reserved,
+                t.languages,
+                t.trailing.offset,
+                t.trailing.length,
                 languages.as_ptr(),
                 languages.len(),
                 entries.as_ptr(),
@@ -411,10 +497,21 @@ impl Kind for TextLabel {
     }
 }
 
+struct MultiStreamTop {
+    this_stream_id: u8,
+    main_present: bool,
+    reserved_aux: u8,
+    num_auxiliary_streams: u8,
+    reserved_groups: u8,
+    groups: u16,
+    trailing: Payload,
+}
+
 struct MultiStream;
 
 impl Kind for MultiStream {
     type Value = MpegH3dAudioMultiStream;
+    type Top = MultiStreamTop;
     const INVALID: u64 = 9;
     #[inline(always)]
     fn parse(r: &mut Reader<'_>) -> error::Result<MpegH3dAudioMultiStream> {
@@ -439,20 +536,30 @@ impl Kind for MultiStream {
             )
         }
     }
+    fn top(t: &[u16]) -> MultiStreamTop {
+        MultiStreamTop {
+            this_stream_id: t[0] as u8,
+            main_present: t[1] != 0,
+            reserved_aux: t[2] as u8,
+            num_auxiliary_streams: t[3] as u8,
+            reserved_groups: t[4] as u8,
+            groups: t[5],
+            trailing: payload(&t[6..]),
+        }
+    }
     #[inline(always)]
-    fn our_write(lent: &Lent, store: &[u8], out: &mut [u8]) -> u64 {
-        let t = &lent.top;
+    fn our_write(t: &MultiStreamTop, lent: &Lent, store: &[u8], out: &mut [u8]) -> u64 {
         let [groups, ..] = &lent.tables;
         unsafe {
             mpegh_multi_stream_write(
-                t[0] as u8,
-                t[1] != 0,
-                t[2] as u8,
-                t[3] as u8,
-                t[4] as u8,
-                t[5],
-                t[6],
-                t[7],
+                t.this_stream_id,
+                t.main_present,
+                t.reserved_aux,
+                t.num_auxiliary_streams,
+                t.reserved_groups,
+                t.groups,
+                t.trailing.offset,
+                t.trailing.length,
                 groups.as_ptr(),
                 groups.len(),
                 store.as_ptr(),
@@ -479,10 +586,23 @@ impl Kind for MultiStream {
     }
 }
 
+struct DrcLoudnessTop {
+    reserved: u8,
+    info_present: bool,
+    reserved_drc: u8,
+    reserved_loudness: u8,
+    reserved_downmix: u8,
+    drc_instructions: u16,
+    loudness_infos: u16,
+    downmix_definitions: u16,
+    trailing: Payload,
+}
+
 struct DrcLoudness;
 
 impl Kind for DrcLoudness {
     type Value = MpegH3dAudioDrcLoudness;
+    type Top = DrcLoudnessTop;
     const INVALID: u64 = 8;
     #[inline(always)]
     fn parse(r: &mut Reader<'_>) -> error::Result<MpegH3dAudioDrcLoudness> {
@@ -513,22 +633,34 @@ impl Kind for DrcLoudness {
             )
         }
     }
+    fn top(t: &[u16]) -> DrcLoudnessTop {
+        DrcLoudnessTop {
+            reserved: t[0] as u8,
+            info_present: t[1] != 0,
+            reserved_drc: t[2] as u8,
+            reserved_loudness: t[3] as u8,
+            reserved_downmix: t[4] as u8,
+            drc_instructions: t[5],
+            loudness_infos: t[6],
+            downmix_definitions: t[7],
+            trailing: payload(&t[8..]),
+        }
+    }
     #[inline(always)]
-    fn our_write(lent: &Lent, store: &[u8], out: &mut [u8]) -> u64 {
-        let t = &lent.top;
+    fn our_write(t: &DrcLoudnessTop, lent: &Lent, store: &[u8], out: &mut [u8]) -> u64 {
         let [instructions, additional, loudness, downmix, _] = &lent.tables;
         unsafe {
             mpegh_drc_loudness_write(
-                t[0] as u8,
-                t[1] != 0,
-                t[2] as u8,
-                t[3] as u8,
-                t[4] as u8,
-                t[5],
-                t[6],
-                t[7],
-                t[8],
-                t[9],
+                t.reserved,
+                t.info_present,
+                t.reserved_drc,
+                t.reserved_loudness,
+                t.reserved_downmix,
+                t.drc_instructions,
+                t.loudness_infos,
+                t.downmix_definitions,
+                t.trailing.offset,
+                t.trailing.length,
                 instructions.as_ptr(),
                 instructions.len(),
                 additional.as_ptr(),
@@ -570,6 +702,29 @@ impl Kind for DrcLoudness {
     }
 }
 
+/// A body that is read, and what is lent for it.
+struct Asked<'a> {
+    body: &'a [u8],
+    lent: Lent,
+}
+
+#[inline(always)]
+fn our_read<K: Kind>(asked: &mut Asked) -> u64 {
+    K::our_read(asked.body, &mut asked.lent)
+}
+
+/// A value as a host of the library holds it, beside the Rust's: its top record, its tables and its store.
+struct Held<'a, K: Kind> {
+    top: K::Top,
+    lent: Lent,
+    store: &'a [u8],
+}
+
+#[inline(always)]
+fn our_write<K: Kind>(held: &Held<K>, out: &mut [u8]) -> u64 {
+    K::our_write(&held.top, &held.lent, held.store, out)
+}
+
 /// The number of the Rust's answer, with the need of number 1. It does not name the place of a fault in a value.
 fn number<K: Kind>(e: error::Error) -> u64 {
     match e {
@@ -594,22 +749,26 @@ fn rust_read<K: Kind>(body: &[u8]) -> u64 {
 /// The Rust's writing, into a vector that is made and dropped.
 #[inline(never)]
 fn rust_write<K: Kind>(value: &K::Value) -> u64 {
-    written::<K>(value, Vec::new())
+    written::<K>(value, &mut Vec::new())
 }
 
-/// The same into a vector that has room from the start.
+/// The same into one vector for all calls, cleared each time.
 #[inline(never)]
-fn rust_write_reserved<K: Kind>(value: &K::Value, room: usize) -> u64 {
-    written::<K>(value, Vec::with_capacity(room))
+fn rust_write_again<K: Kind>(value: &K::Value, out: &mut Vec<u8>) -> u64 {
+    out.clear();
+    written::<K>(value, out)
 }
 
 #[inline(always)]
-fn written<K: Kind>(value: &K::Value, mut out: Vec<u8>) -> u64 {
-    match K::write(value, &mut out) {
-        Ok(()) => (black_box(&out).len() as u64) << 8,
+fn written<K: Kind>(value: &K::Value, out: &mut Vec<u8>) -> u64 {
+    match K::write(value, out) {
+        Ok(()) => (black_box(&*out).len() as u64) << 8,
         Err(e) => number::<K>(e),
     }
 }
+
+/// Whether this is the build that measures the Rust at its best.
+const BEST: bool = cfg!(panic = "abort");
 
 /// Where the counter looks: it notes the instructions so far.
 #[no_mangle]
@@ -639,9 +798,12 @@ fn count(mut call: impl FnMut() -> u64) {
 }
 
 fn measure<K: Kind>(fault: &str, body: &[u8]) {
-    let mut lent = Lent {
-        top: [0; 32],
-        tables: std::array::from_fn(|_| vec![0; 65536]),
+    let mut asked = Asked {
+        body,
+        lent: Lent {
+            top: [0; 32],
+            tables: std::array::from_fn(|_| vec![0; 65536]),
+        },
     };
     let mut out = vec![0; 65536];
     let length = body.len();
@@ -650,15 +812,16 @@ fn measure<K: Kind>(fault: &str, body: &[u8]) {
     let sound = fault == "-";
     assert_eq!(
         rust_read::<K>(body),
-        K::our_read(body, &mut lent),
+        our_read::<K>(&mut asked),
         "reading"
     );
     if sound {
-        say("read rust");
+        say(if BEST { "read best" } else { "read rust" });
         count(|| rust_read::<K>(black_box(body)));
         say("read ours");
-        count(|| K::our_read(black_box(body), black_box(&mut lent)));
+        count(|| our_read::<K>(black_box(&mut asked)));
     }
+    let mut lent = asked.lent;
 
     let Ok(mut value) = K::parse(&mut Reader::new(body, "speed")) else {
         return;
@@ -666,19 +829,28 @@ fn measure<K: Kind>(fault: &str, body: &[u8]) {
     if !sound {
         K::spoil(fault, &mut value, &mut lent);
     }
-    let (rust, ours) = (rust_write::<K>(&value), K::our_write(&lent, body, &mut out));
+    let held = Held::<K> {
+        top: K::top(&lent.top),
+        lent,
+        store: body,
+    };
+    let (rust, ours) = (rust_write::<K>(&value), our_write(&held, &mut out));
     if sound {
         assert_eq!((rust, ours), ((length as u64) << 8, rust), "writing");
         assert!(out[..length] == *body, "writing");
     } else {
         assert_eq!(rust, ours & 0xFF, "writing");
     }
-    say("write rust");
-    count(|| rust_write::<K>(black_box(&value)));
+    if BEST {
+        let mut again = Vec::new();
+        say("write best");
+        count(|| rust_write_again::<K>(black_box(&value), &mut again));
+    } else {
+        say("write rust");
+        count(|| rust_write::<K>(black_box(&value)));
+    }
     say("write ours");
-    count(|| K::our_write(black_box(&lent), black_box(body), &mut out));
-    say("write reserved");
-    count(|| rust_write_reserved::<K>(black_box(&value), black_box(length)));
+    count(|| our_write(black_box(&held), &mut out));
 }
 
 /// The bytes of words up to a closing bracket: pairs of hexadecimal digits, and `N*(` words `)` for what stands there N times.

@@ -6,18 +6,20 @@ use mathlib.Core.Bool.{Bool, true, false, not}
 use native.Mathlib.Omega.{arith}
 use lib.ListN.{getD}
 use lib.Dec.{eqb}
+use borrow.Author.Tests.{not-true}
 use Rattle.wire.specs.Lists.{each}
 use Rattle.wire.specs.Bits.{part, total, split}
 use Rattle.wire.specs.Prog.{ret, look, u8, _>>=_}
 use Rattle.wire.specs.Layout.{put, puts, reads, cells, matches, matched, shown, writes, every, has}
 use Rattle.wire.proofs.Fields.{part-below}
 use Rattle.frame.specs.Kind.{Lent}
+use Rattle.frame.specs.Sight.{headActs}
 use Rattle.frame.specs.Body.{layouts, carried, parse, inside, pieced}
 use Rattle.base.specs.declared.rows.MpegH3dAudio.{MpegH3dAudio}
 use Rattle.base.specs.Layout.{head}
 use Rattle.base.specs.Read as R
 use Rattle.base.specs.Read.{sets, columnsOf}
-use Rattle.base.specs.Write.{setsActs, baseActs}
+use Rattle.base.specs.Write.{headFields, setsActs, baseActs}
 use Rattle.base.specs.Kind.{kind}
 
 -- a flag upside down
@@ -60,3 +62,8 @@ written-so m store lent = go (m .«interactivity_enabled») (m .«compatible_set
     go true false = refl
     go false true = refl
     go false false = refl
+
+-- without sets the actions are those of the head alone
+pub bare-acts : (m : MpegH3dAudio) (store : List ℕ) → not (m .«compatible_sets» .present) ≡ true → baseActs m store ≡ headActs (headFields m)
+unfolding baseActs setsActs
+bare-acts m store e = rw (not-true (m .«compatible_sets» .present) e)

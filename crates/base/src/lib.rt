@@ -15,6 +15,7 @@ ghost use Rattle.base.specs.Contract.{read, measured};
 use frame::Refusal;
 use frame::Tallied;
 use frame::Written;
+use frame::write_bare;
 use rows::MpegH3dAudio;
 use wire::bits::idle_bits;
 use wire::bits::wide;
@@ -84,6 +85,9 @@ fn zero_bits(m: MpegH3dAudio) -> usize
 pub fn write(m: MpegH3dAudio, store: &[u8], out: &mut [u8]) -> Written
     ensures { λ r. ⌜ Writes kind m [] (now (store .entry)) (now (out .entry)) (written r) (now (out .exit)) ⌝ }
 {
+    if !m.compatible_sets.present {
+        return write_bare(&writing::head_bytes(m), m.trailing, store, out);
+    }
     let w = frame::judge(writing::check(m, store), out.len());
     let Written::Done(_) = w else {
         return w;

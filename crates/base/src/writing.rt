@@ -37,7 +37,7 @@ fn flags_byte(m: MpegH3dAudio) -> u32
         .spelt()
 }
 
-fn head_bytes(m: MpegH3dAudio) -> [u32; 3]
+pub fn head_bytes(m: MpegH3dAudio) -> [u32; 3]
     ensures { λ r. ⌜ Spelt (headFields m) r ⌝ }
 {
     [

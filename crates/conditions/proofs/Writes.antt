@@ -1,14 +1,14 @@
 -- The actions of a condition part by part, and what its two passes do with them.
-use Prim.Native.Nat.{ℕ, _+_, _*_, _<_, _≤_}
+use Prim.Native.Nat.{ℕ, _+_, _*_, _^_, _<_, _≤_}
 use mathlib.Core.Path.{_≡_, refl, sym, ap, subst, _∙_}
 use mathlib.Core.List.{List, [], _∷_, _++_, append-nil, map, flatten}
 use mathlib.Core.Bool.{Bool, true, false, _&&_, and-true}
 use native.Mathlib.Omega.{arith}
 use native.Mathlib.Nat.{add-zero}
 use lib.ListN.{length}
-use lib.Dec.{eqb}
+use lib.Dec.{eqb, ltb}
 use borrow.Author.Tests.{eq-eqb, ne-eqb, leb-true, le-ltb, lt-ltb}
-use Rattle.wire.specs.Bits.{Field, isFlag, fit}
+use Rattle.wire.specs.Bits.{Field, field, isFlag, fit}
 use Rattle.wire.specs.Act.{Act, demand, byte, when, pick}
 use Rattle.wire.specs.Pen.{Quick, Ready, Filled, clean, bytes}
 use Rattle.wire.specs.Layout.{Columns, at, flatActs, writes, shown, cells, matched, every, counted, flagged, fieldOf}
@@ -18,9 +18,10 @@ use Rattle.wire.proofs.writing.Acts.{and-both, both-and, clean-append}
 use Rattle.wire.proofs.layouts.Cells.{fit-flags}
 use Rattle.wire.proofs.writing.Passes.{quick-clean, quick-odd, Filling, fill-start, fill-demand, fill-turn, fill-end}
 use Rattle.wire.proofs.layouts.Rowed.{loose, matches-loose}
-use Rattle.wire.proofs.writing.Plain.{clean-when, clean-all, absorb, no-quick, bit-size, filled-long, fill-part}
+use Rattle.wire.proofs.writing.Plain.{clean-when, clean-all, absorb, no-quick, bit-size, filled-long, fill-part, fit-flat}
 use Rattle.conditions.specs.Layout.{condition}
-use Rattle.conditions.specs.Write.{flagsOf, detailActs, detailFits, detailLong, conditionActs, colsAt, rowActs}
+use Rattle.conditions.specs.Write.{positionFields, flagsOf, detailActs, detailFits, detailLong, conditionActs, colsAt, rowActs}
+use Rattle.conditions.specs.declared.rows.PresetPosition.{PresetPosition}
 use Rattle.conditions.specs.Rows.{conditionCols, conditionOf, idCells, flagCells, gainCells, positionCells}
 
 -- ---- a condition
@@ -155,13 +156,40 @@ pub long-so : (g : Columns) {x y z : Bool} → fitAll (fieldsOf g (flagCells ∷
 long-so g e₁ e₂ e₃ = sym (λ i. pick (e₁ i && (e₂ i && e₃ i)) (2 + (g 5 + g 7 * 3)) 0)
 
 -- the byte as a number tells
-pub spelt-odd : {fs : List Field} {v : ℕ} → Spells fs v → 65536 ≤ v → fitAll (fs ∷ []) ≡ false
-unfolding fitAll
-spelt-odd {fs} {v} s h = and-true (fit fs) ∙ sym (s .fits) ∙ le-ltb v 65536 h
+-- ---- fields that fit, by the columns that stand side by side
 
-pub spelt-fits : {fs : List Field} {v : ℕ} → Spells fs v → v < 65536 → fitAll (fs ∷ []) ≡ true
+pub fit-line : (fs : List Field) → fit fs ≡ fitAll (fs ∷ [])
 unfolding fitAll
-spelt-fits {fs} {v} s h = and-true (fit fs) ∙ sym (s .fits) ∙ lt-ltb v 65536 h
+fit-line fs = sym (and-true (fit fs))
+
+-- the flags of a detail: the third and the fourth stand the other way round in their byte
+pub flags-fit : (r g p h q : ℕ) {x y : Bool} → x ≡ fit (field 4 r ∷ field 1 g ∷ field 1 p ∷ field 1 h ∷ []) → y ≡ ltb q (2 ^ 1)
+    → x && y ≡ fit (field 4 r ∷ field 1 g ∷ field 1 h ∷ field 1 p ∷ field 1 q ∷ [])
+unfolding fit
+flags-fit r g p h q e f = (λ i. e i && f i) ∙ go (ltb r (2 ^ 4)) (ltb g (2 ^ 1)) (ltb p (2 ^ 1)) (ltb h (2 ^ 1)) (ltb q (2 ^ 1))
+  where
+    go : (a b c d e : Bool) → (a && (b && (c && (d && true)))) && e ≡ a && (b && (d && (c && (e && true))))
+    go true true true true e = sym (and-true e)
+    go true true true false e = refl
+    go true true false true e = refl
+    go true true false false e = refl
+    go true false c d e = refl
+    go false b c d e = refl
+
+pub position-fit : (p : PresetPosition) {x y : Bool}
+    → x ≡ fit (field 8 (p .«az_offset») ∷ field 2 (p .«reserved_el») ∷ field 6 (p .«el_offset») ∷ field 4 (p .«reserved_dist») ∷ []) → y ≡ ltb (p .«dist_factor») (2 ^ 4)
+    → x && y ≡ fitAll (positionFields p)
+unfolding fit flatten
+position-fit p e f =
+    (λ i. e i && f i) ∙ go (ltb (p .«az_offset») (2 ^ 8)) (ltb (p .«reserved_el») (2 ^ 2)) (ltb (p .«el_offset») (2 ^ 6)) (ltb (p .«reserved_dist») (2 ^ 4)) (ltb (p .«dist_factor») (2 ^ 4))
+    ∙ fit-flat (positionFields p)
+  where
+    go : (a b c d e : Bool) → (a && (b && (c && (d && true)))) && e ≡ a && (b && (c && (d && (e && true))))
+    go true true true true e = sym (and-true e)
+    go true true true false e = refl
+    go true true false d e = refl
+    go true false c d e = refl
+    go false b c d e = refl
 
 -- ---- a row of the table
 

@@ -2,13 +2,13 @@
 ghost use mathlib.Core.Path.{_≡_};
 ghost use mathlib.Core.Bool.{true};
 ghost use mathlib.Core.List.{[], _∷_, map};
-ghost use Prim.Native.Nat.{_+_, _*_, _<_, _≤_, _^_};
+ghost use Prim.Native.Nat.{_+_, _-_, _*_, _<_, _≤_, _^_};
 ghost use lib.ListN.{length};
-ghost use Rattle.wire.specs.Bits.{field};
+ghost use Rattle.wire.specs.Bits.{field, fit};
 ghost use Rattle.wire.specs.Act.{byte, rows, when, pick};
 ghost use Rattle.wire.specs.Layout.{fieldOf, flatActs};
 ghost use Rattle.wire.specs.Pen.{reach, Checked, Quick, Ready, Filled};
-ghost use Rattle.wire.specs.Spell.{Spells, Spelt, PlainRows, fieldsOf, fitAll};
+ghost use Rattle.wire.specs.Spell.{Spells, Spelt, PlainRows, PlainRun, fieldsOf, fitAll};
 ghost use Rattle.wire.specs.declared.pen.Pen.the-variants.{At};
 ghost use Rattle.conditions.specs.Layout.{condition};
 ghost use Rattle.conditions.specs.Rows.{flagCells, gainCells, positionCells};
@@ -17,7 +17,10 @@ use super::rows::CONDITION_COLUMNS;
 use super::rows::PresetCondition;
 use super::rows::PresetConditionDetail;
 use super::rows::PresetPosition;
+use wire::bits::fits;
+use wire::bits::four_fit;
 use wire::bits::is_flag;
+use wire::bits::two_fit;
 use wire::pen;
 use wire::pen::Fault;
 use wire::pen::Passed;
@@ -25,7 +28,6 @@ use wire::pen::Pen;
 use wire::spell::Joined;
 use wire::spell::check_all;
 use wire::spell::fill_all;
-use wire::spell::fits_all;
 use wire::spell::one;
 use wire::spell::two;
 
@@ -106,6 +108,36 @@ fn check_condition(n: usize, c: PresetCondition) -> Pen
     }
 }
 
+// Whether the flags of a detail fit their byte, and its reserved bits. Four of the columns stand side by side; in the byte the third and the fourth change places.
+fn flags_fit(reserved: u16, no_gain: u16, gain: u16, no_position: u16, position: u16) -> bool
+    ensures { λ r. ⌜ r ≡ fit (field 4 reserved ∷ field 1 «no_gain» ∷ field 1 gain ∷ field 1 «no_position» ∷ field 1 position ∷ []) ⌝ }
+{
+    if four_fit(reserved, 4, no_gain, 1, no_position, 1, gain, 1) {
+        fits(position, 1)
+    } else {
+        false
+    }
+}
+
+fn position_fits(p: PresetPosition) -> bool
+    ensures { λ r. ⌜ r ≡ fitAll (positionFields p) ⌝ }
+{
+    if four_fit(
+        p.az_offset,
+        8,
+        p.reserved_el,
+        2,
+        p.el_offset,
+        6,
+        p.reserved_dist,
+        4,
+    ) {
+        fits(p.dist_factor, 4)
+    } else {
+        false
+    }
+}
+
 // Whether the gain of the row whose first column is `b` fits, if it is there. A part's columns are loaded only behind its flag, here and in the fill pass.
 fn plain_gain(conditions: &[u16], b: usize, there: bool) -> bool
     requires { ⌜ b + 13 ≤ length (now conditions) ⌝ }
@@ -113,7 +145,7 @@ fn plain_gain(conditions: &[u16], b: usize, there: bool) -> bool
 {
     if there {
         let c = PresetCondition::of_columns(conditions, b);
-        fits_all(&[one(c.detail.gain.gain)])
+        fits(c.detail.gain.gain, 8)
     } else {
         true
     }
@@ -126,7 +158,7 @@ fn plain_position(conditions: &[u16], b: usize, there: bool) -> bool
 {
     if there {
         let c = PresetCondition::of_columns(conditions, b);
-        fits_all(&position_bytes(c.detail.position))
+        position_fits(c.detail.position)
     } else {
         true
     }
@@ -146,14 +178,14 @@ fn plain_detail(conditions: &[u16], b: usize) -> usize
 {
     let gain = conditions[b + 5];
     let position = conditions[b + 7];
-    let flags = flags_byte(
+    let fit = flags_fit(
         conditions[b + 2],
         conditions[b + 3],
         gain,
         conditions[b + 4],
         position,
     );
-    if 65536 <= flags {
+    if !fit {
         return 0;
     }
     if plain_gain(conditions, b, gain == 1) {
@@ -173,7 +205,7 @@ fn plain_bytes(conditions: &[u16], b: usize) -> usize
     ensures { λ r. ⌜ Quick (flatActs condition (colsAt (now (conditions .entry)) b)) 6 r ⌝ }
 {
     let c = PresetCondition::of_columns(conditions, b);
-    if 65536 <= two(c.group_id.0, 7, c.detail.present, 1) {
+    if !two_fit(c.group_id.0, 7, c.detail.present, 1) {
         return 0;
     }
     if c.detail.present == 1 {
@@ -183,8 +215,7 @@ fn plain_bytes(conditions: &[u16], b: usize) -> usize
     }
 }
 
-// The plain rows before the first that is not, and their bytes.
-// Plain rows of `count` rows, from the row `first` on.
+// The plain rows before the first that is not, and their bytes: of `count` rows, from the row `first` on.
 pub fn plain_rows(conditions: &[u16], first: usize, count: usize) -> Passed
     requires { ⌜ ((first + count) * 13 ≤ length (now conditions)) × (first + count < 2 ^ 20) ⌝ }
     ensures { λ r. ⌜ PlainRows (λ j. rowActs (now (conditions .entry)) (first + j)) 6 count (r .rows) (r .bytes) ⌝ }
@@ -205,6 +236,25 @@ pub fn plain_rows(conditions: &[u16], first: usize, count: usize) -> Passed
         b += CONDITION_COLUMNS;
     }
     Passed { rows: count, bytes }
+}
+
+// The bytes of the rows from `first` to `end`, or 0 if one has a fault. It does not say which: so the loop has but one count to keep.
+pub fn plain_run(conditions: &[u16], first: usize, end: usize) -> usize
+    requires { ⌜ (first < end) × (end * 13 ≤ length (now conditions)) × (end < 2 ^ 20) ⌝ }
+    ensures { λ r. ⌜ PlainRun (λ j. rowActs (now (conditions .entry)) (first + j)) 6 (end - first) r ⌝ }
+{
+    let mut bytes: usize = 0;
+    let mut b = first * CONDITION_COLUMNS;
+    let last = end * CONDITION_COLUMNS;
+    while b < last {
+        let k = plain_bytes(conditions, b);
+        if k == 0 {
+            return 0;
+        }
+        bytes += k;
+        b += CONDITION_COLUMNS;
+    }
+    bytes
 }
 
 // `count` rows from the row `first` on; the row that is not plain is looked at again to name its fault.
@@ -290,11 +340,10 @@ pub fn fill_conditions(
     ensures { λ r. ⌜ Filled (rows (rowActs (now (conditions .entry))) first count) n (now (out .entry)) r (now (out .exit)) ⌝ }
 {
     let mut at = n;
-    let mut left = count;
     let mut b = first * CONDITION_COLUMNS;
-    while 0 < left {
+    let end = (first + count) * CONDITION_COLUMNS;
+    while b < end {
         at = fill_condition(conditions, b, out, at);
-        left -= 1;
         b += CONDITION_COLUMNS;
     }
     at

@@ -21,6 +21,7 @@ use frame::Room;
 use frame::Tallied;
 use frame::Written;
 use frame::and_table;
+use frame::write_bare;
 use instructions::rows::ADDITIONAL_COLUMNS;
 use instructions::rows::INSTRUCTION_COLUMNS;
 use loudness::rows::ENTRY_COLUMNS;
@@ -199,6 +200,9 @@ pub fn write(
 ) -> Written
     ensures { λ r. ⌜ Writes kind m (now (instructions .entry) ∷ now (additional .entry) ∷ now (loudness .entry) ∷ now (downmixes .entry) ∷ []) (now (store .entry)) (now (out .entry)) (written r) (now (out .exit)) ⌝ }
 {
+    if !m.info.present {
+        return write_bare(&writing::head_bytes(m), m.trailing, store, out);
+    }
     let p = writing::check(m, instructions, additional, loudness, downmixes, store);
     let w = frame::judge(p, out.len());
     let Written::Done(_) = w else {

@@ -1,11 +1,12 @@
 -- The layouts write the DRC and loudness body list after list; what the functions of both passes make of its info.
 use mathlib.Core.List.{List, [], _∷_, _++_, append-nil, flatten, map}
-use mathlib.Core.Bool.{Bool, true, false, _&&_}
+use mathlib.Core.Bool.{Bool, true, false, not, _&&_}
 use mathlib.Core.Path.{_≡_, refl, sym, _∙_}
 use Prim.Native.Nat.{ℕ, _*_, _/_, _^_, _≤_, _<_}
 use native.Mathlib.Omega.{arith}
 use lib.ListN.{length}
 use lib.Dec.{leb}
+use borrow.Author.Tests.{not-true}
 use Rattle.wire.specs.Lists.{each}
 use Rattle.wire.specs.Bits.{field, fit}
 use Rattle.wire.specs.Act.{Act, demand, byte, when, within, rows}
@@ -19,7 +20,9 @@ use Rattle.wire.proofs.writing.Parts.{part-begins, within-there, within-absent,
 use Rattle.wire.proofs.writing.Passes.{Filling}
 use Rattle.wire.proofs.writing.Plain.{clean-all}
 use Rattle.frame.specs.Kind.{Lent}
+use Rattle.frame.specs.Sight.{headActs}
 use Rattle.frame.specs.Body.{layouts, inside, pieced, beyond, table}
+use Rattle.frame.proofs.Bare.{absent-within}
 use Rattle.frame.proofs.Pieces.{and-true}
 use Rattle.drc_kind.specs.declared.rows.DrcLoudnessInfo.{DrcLoudnessInfo}
 use Rattle.drc_kind.specs.declared.rows.Info.{Info}
@@ -120,3 +123,10 @@ module _ (i : Info) (lent : Lent) (store : List ℕ) {n : ℕ} {l : List ℕ} wh
   -- the bytes of the counts fit
   pub info-clean : i .present ≡ true → Ready (infoActs i lent store) n l → clean (map byte (countFields (i .part))) ≡ true
   info-clean t r = clean-both (map byte (countFields (i .part))) (listsActs (i .part) lent store) (info-begins t r .ready .sound) .0
+
+-- without info the actions are those of the head alone
+pub bare-acts : (m : MpegH3dAudioDrcLoudness) (lent : Lent) (store : List ℕ) → not (m .info .present) ≡ true → drcActs m lent store ≡ headActs (headFields m)
+unfolding drcActs infoActs allWithin
+bare-acts m lent store e =
+    let i = m .info .part in
+    rw (not-true (m .info .present) e, absent-within (i .«drc_instructions») 24 (table 0 lent), absent-within (i .«loudness_infos») 7 (table 2 lent), absent-within (i .«downmix_definitions») 4 (table 3 lent))

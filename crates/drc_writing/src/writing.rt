@@ -34,7 +34,7 @@ use wire::spell::two;
 
 // ---- the bytes of the top record
 
-fn head_bytes(m: MpegH3dAudioDrcLoudness) -> [u32; 1]
+pub fn head_bytes(m: MpegH3dAudioDrcLoudness) -> [u32; 1]
     ensures { λ r. ⌜ Spelt (headFields m) r ⌝ }
 {
     [two(wide(m.reserved), 7, flag(m.info.present), 1)]

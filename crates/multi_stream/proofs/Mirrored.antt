@@ -2,10 +2,11 @@
 use Prim.Native.Nat.{ℕ, zero, suc, _<_}
 use mathlib.Core.Path.{_≡_, refl, sym, _∙_}
 use mathlib.Core.List.{List, [], _∷_, _++_, append-nil, map, flatten}
-use mathlib.Core.Bool.{Bool, true, false, _&&_}
+use mathlib.Core.Bool.{Bool, true, false, not, _&&_}
 use native.Mathlib.Omega.{arith}
 use lib.ListN.{getD}
 use lib.Dec.{eqb}
+use borrow.Author.Tests.{not-true}
 use Rattle.wire.specs.Lists.{each}
 use Rattle.wire.specs.Bits.{part, total, split}
 use Rattle.wire.specs.Prog.{Prog, ret, look, u8, many, _>>=_}
@@ -16,8 +17,10 @@ use Rattle.wire.specs.Layout.{Columns, end, one, num, reserved, flag, blank, se
 use Rattle.wire.proofs.reading.Runs.{bind-assoc}
 use Rattle.wire.proofs.Fields.{part-below}
 use Rattle.frame.specs.Kind.{Lent}
+use Rattle.frame.specs.Sight.{headActs}
 use Rattle.frame.specs.Entry.{firstTable}
 use Rattle.frame.specs.Body.{layouts, parse, inside, pieced, beyond}
+use Rattle.frame.proofs.Bare.{absent-within}
 use Rattle.frame.proofs.Pieces.{and-true}
 use Rattle.stream_groups.specs.Layout as G
 use Rattle.multi_stream.specs.declared.rows.MpegH3dAudioMultiStream.{MpegH3dAudioMultiStream}
@@ -97,3 +100,8 @@ written-so m lent store = go m (m .main .present)
 pub acts-are : (m : MpegH3dAudioMultiStream) (t store : List ℕ) → kind .acts m (t ∷ []) store ≡ multiStreamActs m t
 unfolding firstTable
 acts-are m t store = written-so m (t ∷ []) store
+
+-- without a main part the actions are those of the head alone
+pub bare-acts : (m : MpegH3dAudioMultiStream) (t : List ℕ) → not (m .main .present) ≡ true → multiStreamActs m t ≡ headActs (headFields m)
+unfolding multiStreamActs mainActs
+bare-acts m t e = rw (not-true (m .main .present) e, absent-within (m .main .part .groups) 5 t)

@@ -14,6 +14,7 @@ use frame::Room;
 use frame::Tallied;
 use frame::Written;
 use frame::and_table;
+use frame::write_bare;
 use rows::GROUP_COLUMNS;
 use rows::MpegH3dAudioMultiStream;
 use wire::bits::idle_bits;
@@ -102,6 +103,9 @@ fn zero_bits(m: MpegH3dAudioMultiStream) -> usize
 pub fn write(m: MpegH3dAudioMultiStream, groups: &[u16], store: &[u8], out: &mut [u8]) -> Written
     ensures { λ r. ⌜ Writes kind m (now (groups .entry) ∷ []) (now (store .entry)) (now (out .entry)) (written r) (now (out .exit)) ⌝ }
 {
+    if !m.main.present {
+        return write_bare(&writing::head_bytes(m), m.trailing, store, out);
+    }
     let w = frame::judge(writing::check(m, groups, store), out.len());
     let Written::Done(_) = w else {
         return w;

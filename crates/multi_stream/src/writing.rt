@@ -28,7 +28,7 @@ use wire::spell::two;
 
 // ---- the bytes of the top record
 
-fn head_bytes(m: MpegH3dAudioMultiStream) -> [u32; 1]
+pub fn head_bytes(m: MpegH3dAudioMultiStream) -> [u32; 1]
     ensures { λ r. ⌜ Spelt (headFields m) r ⌝ }
 {
     [two(flag(m.main.present), 1, wide(m.this_stream_id), 7)]

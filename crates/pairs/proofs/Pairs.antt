@@ -5,7 +5,6 @@ use mathlib.Core.List.{List, [], _∷_, flatten}
 use mathlib.Core.Bool.{Bool, true, false, _&&_, and-true}
 use native.Mathlib.Omega.{arith}
 use lib.ListN.{length, getD}
-use borrow.Author.Tests.{lt-ltb, le-ltb}
 use Rattle.wire.specs.Lists.{each, sum}
 use Rattle.wire.specs.Bits.{Field, part, total, split, zeros, fit}
 use Rattle.wire.specs.Prog.{done, run, many}
@@ -48,15 +47,17 @@ pair-acts : (u : List ℕ) (j : ℕ) → pairActs u j ≡ lineActs (pairFields u
 unfolding pair writes shown cells matches matched every flatten
 pair-acts u j = refl
 
+-- `b` is the test of its fields
+module _ (u : List ℕ) (j : ℕ) {b : Bool} (f : b ≡ fit (pairFields u j)) where
+  pub pair-plain : b ≡ true → Quick (pairActs u j) 1 1
+  unfolding fitAll
+  pair-plain e = line-plain (pairActs u j) (pairFields u j ∷ []) (pair-acts u j) (ap (λ (x : Bool). x && true) (sym f ∙ e)) (omega arith)
+
+  pub pair-odd : b ≡ false → Quick (pairActs u j) 1 0
+  unfolding fitAll
+  pair-odd e = line-odd (pairActs u j) (pairFields u j ∷ []) (pair-acts u j) (ap (λ (x : Bool). x && true) (sym f ∙ e))
+
 module _ (u : List ℕ) (j : ℕ) {v : ℕ} (w : Spells (pairFields u j) v) where
-  pub pair-plain : v < 65536 → Quick (pairActs u j) 1 1
-  unfolding fitAll
-  pair-plain l = line-plain (pairActs u j) (pairFields u j ∷ []) (pair-acts u j) (ap (λ (b : Bool). b && true) (sym (w .fits) ∙ lt-ltb v 65536 l)) (omega arith)
-
-  pub pair-odd : 65536 ≤ v → Quick (pairActs u j) 1 0
-  unfolding fitAll
-  pair-odd l = line-odd (pairActs u j) (pairFields u j ∷ []) (pair-acts u j) (ap (λ (b : Bool). b && true) (sym (w .fits) ∙ le-ltb v 65536 l))
-
   pub pair-ready : {n : ℕ} {l : List ℕ} → Ready (pairActs u j) n l → ReadyAll true (v ∷ []) n l
   pair-ready r = line-ready (pairActs u j) (pairFields u j ∷ []) (pair-acts u j) (more w none) r
 

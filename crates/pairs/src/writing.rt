@@ -1,12 +1,15 @@
 // Writing the pairs of a range: the byte of each as a number, the check pass and the fill pass.
+ghost use mathlib.Core.Path.{_≡_};
 ghost use Prim.Native.Nat.{_+_, _*_, _<_, _≤_, _^_};
 ghost use lib.ListN.{length};
+ghost use Rattle.wire.specs.Bits.{fit};
 ghost use Rattle.wire.specs.Act.{rows};
 ghost use Rattle.wire.specs.Pen.{Checked, Ready, Filled};
 ghost use Rattle.wire.specs.Spell.{Spells, PlainRows};
 ghost use Rattle.wire.specs.declared.pen.Pen.the-variants.{At};
 ghost use Rattle.pairs.specs.Write.{pairFields, pairActs};
 use super::PAIR_COLUMNS;
+use wire::bits::two_fit;
 use wire::pen::Fault;
 use wire::pen::Pen;
 use wire::rows::Range;
@@ -24,6 +27,15 @@ fn pair_byte(table: &[u16], row: usize) -> u32
 
 // ---- the check pass
 
+// Whether the fields of a row fit, asked without making its byte.
+fn pair_fits(table: &[u16], row: usize) -> bool
+    requires { ⌜ (row + 1) * 2 ≤ length (now table) ⌝ }
+    ensures { λ r. ⌜ r ≡ fit (pairFields (now (table .entry)) row) ⌝ }
+{
+    let b = row * PAIR_COLUMNS;
+    two_fit(table[b], 1, table[b + 1], 7)
+}
+
 // The plain rows of a range before the first that is not; each is one byte.
 pub fn plain_pairs(r: Range, table: &[u16]) -> usize
     requires { ⌜ (r .first + r .count) * 2 ≤ length (now table) ⌝ }
@@ -33,7 +45,7 @@ pub fn plain_pairs(r: Range, table: &[u16]) -> usize
     let count = r.count as usize;
     let mut i: usize = 0;
     while i < count {
-        if 65536 <= pair_byte(table, first + i) {
+        if !pair_fits(table, first + i) {
             return i;
         }
         i += 1;

@@ -1,8 +1,8 @@
 -- The actions of a preset: its demands and three bytes, and its conditions.
-use Prim.Native.Nat.{ℕ, _+_, _-_, _*_, _/_, _<_, _≤_, _^_}
+use Prim.Native.Nat.{ℕ, zero, suc, _+_, _-_, _*_, _/_, _<_, _≤_, _^_}
 use mathlib.Core.Path.{_≡_, refl, sym, ap, _∙_}
 use mathlib.Core.List.{List, [], _∷_, _++_, map, flatten}
-use mathlib.Core.Bool.{Bool, true, false, _&&_, and-true}
+use mathlib.Core.Bool.{Bool, true, false, _&&_, and-true, and-false}
 use native.Mathlib.Omega.{arith}
 use native.Mathlib.Nat.{add-zero, le-div-iff-mul-le}
 use lib.ListN.{length}
@@ -12,7 +12,7 @@ use Rattle.wire.specs.Bits.{Field, field, fit, total}
 use Rattle.wire.specs.Act.{Act, demand, byte, rows}
 use Rattle.wire.specs.Pen.{Checked, Quick, Ready, clean, bytes}
 use Rattle.wire.specs.Layout.{num, reserved, Columns, at, fieldOf, writes, shown, cells, matches, matched, every, has, familyActs, brokenActs}
-use Rattle.wire.specs.Spell.{PlainRows, fieldsOf, fitAll}
+use Rattle.wire.specs.Spell.{PlainRows, PlainRun, fieldsOf, fitAll}
 use Rattle.wire.specs.declared.pen.Fault.the-variants as F
 use Rattle.wire.proofs.writing.Acts.{and-both}
 use Rattle.wire.proofs.writing.Plain.{clean-all}
@@ -28,7 +28,8 @@ use Rattle.conditions.specs.Layout.{condition}
 use Rattle.conditions.specs.Write.{rowActs}
 use Rattle.presets.specs.Layout.{preset}
 use Rattle.presets.specs.Rows.{presetCols, presetOf, headCells}
-use Rattle.presets.specs.Write.{presetActs}
+use Rattle.presets.specs.declared.rows.GroupPreset.{GroupPreset}
+use Rattle.presets.specs.Write.{headFields, presetActs}
 
 -- ---- a preset
 
@@ -77,6 +78,30 @@ most-16 g e =
     let (m, _) = and-both (ltb (g 6 - 1) (2 ^ 4)) true l in
     omega (arith, ltb-true (g 6 - 1) (2 ^ 4) m)
 
+-- the quick test of the three bytes: four columns, then the count and the reserved bits before it
+count-fits : (c : ℕ) → leb c 16 ≡ ltb (c - 1) (2 ^ 4)
+count-fits zero = refl
+count-fits (suc c) = let e : c ≡ suc c - 1 = omega arith in ap (λ (k : ℕ). ltb k 16) e
+
+pub front-fits : (p : GroupPreset) {x y : Bool} → x ≡ fit (field 3 (p .«reserved_id») ∷ field 5 (p .«preset_id» .0) ∷ field 3 (p .«reserved_kind») ∷ field 5 (p .«preset_kind») ∷ [])
+    → y ≡ ltb (p .«reserved_conditions») (2 ^ 4) → x && ((leb 1 (p .conditions .count) && leb (p .conditions .count) 16) && y) ≡ leb 1 (p .conditions .count) && fitAll (headFields p)
+unfolding fit fitAll
+front-fits p e f =
+    (λ i. e i && ((leb 1 (p .conditions .count) && count-fits (p .conditions .count) i) && f i))
+    ∙ go (ltb (p .«reserved_id») (2 ^ 3)) (ltb (p .«preset_id» .0) (2 ^ 5)) (ltb (p .«reserved_kind») (2 ^ 3)) (ltb (p .«preset_kind») (2 ^ 5)) (leb 1 (p .conditions .count))
+    (ltb (p .conditions .count - 1) (2 ^ 4)) (ltb (p .«reserved_conditions») (2 ^ 4))
+  where
+    go : (a b c d n k r : Bool) → (a && (b && (c && (d && true)))) && ((n && k) && r) ≡ n && ((a && (b && true)) && ((c && (d && true)) && ((r && (k && true)) && true)))
+    go a b c d false k r = and-false (a && (b && (c && (d && true))))
+    go true true true true true true true = refl
+    go true true true true true true false = refl
+    go true true true true true false true = refl
+    go true true true true true false false = refl
+    go true true true false true k r = refl
+    go true true false d true k r = refl
+    go true false c d true k r = refl
+    go false b c d true k r = refl
+
 pub record Few (g : Columns) (u : List ℕ) : Type 0 where
   pub inside : (g 5 + g 6) * 13 ≤ length u
   pub few : g 6 ≤ 16
@@ -120,11 +145,17 @@ module _ (u : List ℕ) (g : Columns) where
       let (_, f) = and-both (leb 1 (g 6)) (fitAll (fieldsOf g headCells)) e₁ in
       record { inside = in-rows (g 5 + g 6) (length u) (leb-true _ _ r); few = most-16 g f }
 
-  pub test-odd : test ≡ false → Quick (brokenActs preset room (rowActs u) g) 99 0
+  test-odd : test ≡ false → Quick (brokenActs preset room (rowActs u) g) 99 0
   test-odd e = broken-odd preset room (rowActs u) g 99 (plain-row ∙ e)
 
+  pub outside-odd : leb (g 5 + g 6) room ≡ false → Quick (brokenActs preset room (rowActs u) g) 99 0
+  outside-odd e = test-odd (ap (λ (b : Bool). b && (leb 1 (g 6) && fitAll (fieldsOf g headCells))) e)
+
+  pub front-odd : leb 1 (g 6) && fitAll (fieldsOf g headCells) ≡ false → Quick (brokenActs preset room (rowActs u) g) 99 0
+  front-odd e = test-odd (ap (λ (b : Bool). leb (g 5 + g 6) room && b) e ∙ and-false (leb (g 5 + g 6) room))
+
   module _ {i long : ℕ} (v : PlainRows (λ j. rowActs u (g 5 + j)) 6 (g 6) i long) where
-    pub kids-plain : test ≡ true → g 6 ≤ i → Quick (brokenActs preset room (rowActs u) g) 99 (3 + long)
+    kids-plain : test ≡ true → g 6 ≤ i → Quick (brokenActs preset room (rowActs u) g) 99 (3 + long)
     unfolding writes bytes
     kids-plain e h =
         let (c, l) = kids-passed (rowActs u) (g 5) (g 6) v h in
@@ -132,14 +163,26 @@ module _ (u : List ℕ) (g : Columns) where
         broken-quick preset room (rowActs u) g 99 preset-passes (plain-row ∙ e) (unfold matches matched clean in refl) c (omega (arith, l)) (omega arith)
         (omega (arith, v .few, v .within, f))
 
-    pub kid-odd : i < g 6 → Quick (brokenActs preset room (rowActs u) g) 99 0
+    kid-odd : i < g 6 → Quick (brokenActs preset room (rowActs u) g) 99 0
     kid-odd h = broken-odd-kid preset room (rowActs u) g 99 (kids-odd (rowActs u) (g 5) (g 6) v h)
+
+  -- the conditions, by one number
+  module _ {long : ℕ} (v : PlainRun (λ j. rowActs u (g 5 + j)) 6 (g 6) long) where
+    pub run-plain : test ≡ true → 0 < long → Quick (brokenActs preset room (rowActs u) g) 99 (3 + long)
+    run-plain e h = kids-plain (v .all h) e (omega arith)
+
+    pub run-odd : long ≡ 0 → Quick (brokenActs preset room (rowActs u) g) 99 0
+    run-odd z = let (i, n, h, w) = v .odd z in kid-odd w h
 
   -- ---- the fill pass
 
   module _ {n : ℕ} {l : List ℕ} (w : Ready (brokenActs preset room (rowActs u) g) n l) where
     pub ready-few : Few g u
     ready-few = front-few (broken-ready preset room (rowActs u) g w)
+
+    pub ready-counted : 1 ≤ g 6
+    unfolding shown cells every flatten
+    ready-counted = leb-true 1 (g 6) (and-both (leb 1 (g 6)) true (broken-ready preset room (rowActs u) g w .counts) .0)
 
     pub filling : Filling (brokenActs preset room (rowActs u) g) (map byte (fieldsOf g headCells) ++ (rows (rowActs u) (g 5) (g 6) ++ [])) n l n l
     unfolding writes

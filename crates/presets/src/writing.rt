@@ -1,10 +1,13 @@
 // Writing presets with their conditions: the check pass with a quick test of a plain row, and the fill pass.
-ghost use Prim.Native.Nat.{_*_, _<_, _≤_, _^_};
+ghost use mathlib.Core.Path.{_≡_};
+ghost use mathlib.Core.Bool.{_&&_};
+ghost use lib.Dec.{leb};
+ghost use Prim.Native.Nat.{_-_, _*_, _<_, _≤_, _^_};
 ghost use lib.ListN.{length};
 ghost use Rattle.wire.specs.Act.{rows};
 ghost use Rattle.wire.specs.Layout.{familyActs};
 ghost use Rattle.wire.specs.Pen.{Checked, Quick, Ready, Filled};
-ghost use Rattle.wire.specs.Spell.{Spelt, PlainRows};
+ghost use Rattle.wire.specs.Spell.{Spelt, PlainRows, fitAll};
 ghost use Rattle.wire.specs.declared.pen.Pen.the-variants.{At};
 ghost use Rattle.conditions.specs.Layout.{condition};
 ghost use Rattle.presets.specs.Layout.{preset};
@@ -14,7 +17,9 @@ use super::rows::GroupPreset;
 use super::rows::PRESET_COLUMNS;
 use conditions::writing::check_conditions;
 use conditions::writing::fill_conditions;
-use conditions::writing::plain_rows;
+use conditions::writing::plain_run;
+use wire::bits::fits;
+use wire::bits::four_fit;
 use wire::bits::less_one;
 use wire::pen;
 use wire::pen::Fault;
@@ -23,18 +28,18 @@ use wire::pen::Pen;
 use wire::rows::in_table;
 use wire::spell::check_all;
 use wire::spell::fill_all;
-use wire::spell::fits_all;
 use wire::spell::two;
 
 // ---- the bytes
 
-fn head_bytes(p: GroupPreset) -> [u32; 3]
+fn head_bytes(p: GroupPreset, stored: u16) -> [u32; 3]
+    requires { ⌜ stored ≡ p .conditions .count - 1 ⌝ }
     ensures { λ r. ⌜ Spelt (headFields p) r ⌝ }
 {
     [
         two(p.reserved_id, 3, p.preset_id.0, 5),
         two(p.reserved_kind, 3, p.preset_kind, 5),
-        two(p.reserved_conditions, 4, less_one(p.conditions.count), 4),
+        two(p.reserved_conditions, 4, stored, 4),
     ]
 }
 
@@ -49,11 +54,33 @@ fn check_preset(n: usize, p: GroupPreset, conditions: &[u16]) -> Pen
     let inside = in_table(r, conditions, CONDITION_COLUMNS);
     let p0 = pen::demand(Pen::At(n), Fault::Range, inside);
     let p1 = pen::demand(p0, Fault::Empty, 1 <= r.count);
-    let p2 = check_all(p1, true, &head_bytes(p));
+    let p2 = check_all(p1, true, &head_bytes(p, less_one(r.count)));
     let Pen::At(m) = p2 else {
         return p2;
     };
     check_conditions(m, conditions, r.first as usize, r.count as usize)
+}
+
+// Whether it has conditions and its three bytes fit: four columns stand side by side, and a count that is stored minus one fits four bits where it is at most 16.
+fn front_fits(p: GroupPreset) -> bool
+    ensures { λ r. ⌜ r ≡ leb 1 (p .conditions .count) && fitAll (headFields p) ⌝ }
+{
+    if four_fit(
+        p.reserved_id,
+        3,
+        p.preset_id.0,
+        5,
+        p.reserved_kind,
+        3,
+        p.preset_kind,
+        5,
+    ) {
+        let count = p.conditions.count;
+        let counted = (1 <= count) & (count <= 16);
+        counted & fits(p.reserved_conditions, 4)
+    } else {
+        false
+    }
 }
 
 // Its bytes with those of its conditions, or 0 if there is a fault.
@@ -62,13 +89,15 @@ fn plain_bytes(p: GroupPreset, conditions: &[u16]) -> usize
 {
     let r = p.conditions;
     let inside = in_table(r, conditions, CONDITION_COLUMNS);
-    if inside & ((1 <= r.count) & fits_all(&head_bytes(p))) {
-        let count = r.count as usize;
-        let c = plain_rows(conditions, r.first as usize, count);
-        if count <= c.rows { 3 + c.bytes } else { 0 }
-    } else {
-        0
+    if !inside {
+        return 0;
     }
+    if !front_fits(p) {
+        return 0;
+    }
+    let first = r.first as usize;
+    let k = plain_run(conditions, first, first + (r.count as usize));
+    if k == 0 { 0 } else { 3 + k }
 }
 
 // The plain rows before the first that is not, and their bytes.
@@ -116,7 +145,7 @@ fn fill_preset(p: GroupPreset, conditions: &[u16], out: &mut [u8], n: usize) -> 
     requires { ⌜ Ready (presetActs p (now conditions)) n (now out) ⌝ }
     ensures { λ r. ⌜ Filled (presetActs p (now (conditions .entry))) n (now (out .entry)) r (now (out .exit)) ⌝ }
 {
-    let n1 = fill_all(out, n, true, &head_bytes(p));
+    let n1 = fill_all(out, n, true, &head_bytes(p, p.conditions.count - 1));
     let r = p.conditions;
     fill_conditions(conditions, r.first as usize, r.count as usize, out, n1)
 }

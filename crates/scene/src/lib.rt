@@ -20,6 +20,7 @@ use frame::Room;
 use frame::Tallied;
 use frame::Written;
 use frame::and_table;
+use frame::write_bare;
 use parsing::Look;
 use parsing::Places;
 use parsing::Walk;
@@ -205,6 +206,10 @@ pub fn write(
 ) -> Written
     ensures { λ r. ⌜ Writes kind m (now (groups .entry) ∷ now («switch_groups» .entry) ∷ now (members .entry) ∷ now (presets .entry) ∷ now (conditions .entry) ∷ []) (now (store .entry)) (now (out .entry)) (written r) (now (out .exit)) ⌝ }
 {
+    let sections = m.groups.present | (m.switch_groups.present | m.presets.present);
+    if !sections {
+        return write_bare(&writing::head_bytes(m), m.trailing, store, out);
+    }
     let p = writing::check(
         m,
         groups,

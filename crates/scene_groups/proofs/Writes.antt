@@ -1,12 +1,12 @@
 -- The actions of a group part by part, and what its two passes do with them.
-use Prim.Native.Nat.{ℕ, _+_, _*_, _≤_}
+use Prim.Native.Nat.{ℕ, _+_, _*_, _^_, _≤_}
 use mathlib.Core.Path.{_≡_, refl, sym, ap, subst, _∙_}
 use mathlib.Core.List.{List, [], _∷_, _++_, map, flatten}
-use mathlib.Core.Bool.{Bool, true, false, _&&_, and-true}
+use mathlib.Core.Bool.{Bool, true, false, _&&_, and-true, and-false}
 use native.Mathlib.Omega.{arith}
 use native.Mathlib.Nat.{add-zero}
 use lib.ListN.{length}
-use lib.Dec.{eqb}
+use lib.Dec.{eqb, ltb}
 use borrow.Author.Tests.{eq-eqb, ne-eqb, eqb-true}
 use Rattle.wire.specs.Bits.{Field, isFlag, fit}
 use Rattle.wire.specs.Act.{Act, demand, byte, when, pick}
@@ -20,7 +20,7 @@ use Rattle.wire.proofs.writing.Passes.{quick-clean, quick-odd}
 use Rattle.wire.proofs.layouts.Rowed.{loose, matches-loose}
 use Rattle.wire.proofs.writing.Plain.{clean-when, clean-all, absorb, no-quick}
 use Rattle.scene_groups.specs.Layout.{group}
-use Rattle.scene_groups.specs.Write.{partFits, plainFits, noParts, groupActs, rowActs}
+use Rattle.scene_groups.specs.Write.{partFits, plainFits, idFits, kindFits, noParts, groupActs, rowActs}
 use Rattle.scene_groups.specs.Rows.{groupCols, groupOf, idCells, flagCells, contentCells, positionCells, gainCells, languageCells, partCells}
 
 -- ---- a group
@@ -192,3 +192,29 @@ row-acts t i = group-acts (groupCols (groupOf t (i * 27))) ∙ same ∙ sym (gro
   where
     same : plainActs (groupCols (groupOf t (i * 27))) ≡ plainActs (at 27 t i)
     same = rw add-zero
+
+pub row-at : (t : List ℕ) (b i : ℕ) → b ≡ i * 27 → groupActs (groupOf t b) ≡ rowActs t i
+row-at t b i e = ap (λ (b : ℕ). groupActs (groupOf t b)) e ∙ row-acts t i
+
+-- ---- the three bytes, by the columns that stand side by side
+
+pub head-fits : (g : Columns) {x y z w : Bool} → x ≡ idFits g → y ≡ kindFits g → z ≡ ltb (g 18) (2 ^ 1) → w ≡ ltb (g 23) (2 ^ 1)
+    → x && (y && (z && w)) ≡ fitAll (fieldsOf g (idCells ∷ flagCells ∷ contentCells ∷ []))
+unfolding fit fitAll
+head-fits g d e f h =
+    (λ i. d i && (e i && (f i && h i)))
+    ∙ go (ltb (g 0) (2 ^ 1)) (ltb (g 1) (2 ^ 7)) (ltb (g 2) (2 ^ 3)) (ltb (g 3) (2 ^ 1)) (ltb (g 4) (2 ^ 1)) (ltb (g 5) (2 ^ 4)) (ltb (g 6) (2 ^ 4)) (ltb (g 7) (2 ^ 1)) (ltb (g 18) (2 ^ 1)) (ltb (g 23) (2 ^ 1))
+  where
+    go : (a b c d e f h p q r : Bool) → (a && (b && (c && (d && true)))) && ((e && (f && (h && (p && true)))) && (q && r))
+        ≡ (a && (b && true)) && ((c && (d && (e && (p && (q && (r && true)))))) && ((f && (h && true)) && true))
+    go false b c d e f h p q r = refl
+    go true false c d e f h p q r = refl
+    go true true false d e f h p q r = refl
+    go true true true false e f h p q r = refl
+    go true true true true false f h p q r = refl
+    go true true true true true false h p q r = sym (and-false (p && (q && (r && true))))
+    go true true true true true true false p q r = sym (and-false (p && (q && (r && true))))
+    go true true true true true true true false q r = refl
+    go true true true true true true true true false r = refl
+    go true true true true true true true true true false = refl
+    go true true true true true true true true true true = refl

@@ -3,7 +3,7 @@ use Prim.Native.Nat.{ℕ}
 use mathlib.Core.List.{List, [], _∷_, map}
 use mathlib.Core.Bool.{Bool, true, _&&_}
 use lib.Dec.{eqb}
-use Rattle.wire.specs.Bits.{Field, isFlag}
+use Rattle.wire.specs.Bits.{Field, field, isFlag, fit}
 use Rattle.wire.specs.Act.{Act, byte, when, pick}
 use Rattle.wire.specs.Layout.{Columns, at, flatActs}
 use Rattle.wire.specs.Spell.{fieldsOf, fitAll}
@@ -49,6 +49,13 @@ abbrev pub plainFits : Columns → Bool
 plainFits g =
     fitAll (fieldsOf g (idCells ∷ flagCells ∷ contentCells ∷ []))
     && (partFits (g 7) (fieldsOf g positionCells) && (partFits (g 18) (fieldsOf g gainCells) && partFits (g 23) (fieldsOf g languageCells)))
+
+-- its first eight columns fit, four and four
+abbrev pub idFits : Columns → Bool
+idFits g = fit (field 1 (g 0) ∷ field 7 (g 1) ∷ field 3 (g 2) ∷ field 1 (g 3) ∷ [])
+
+abbrev pub kindFits : Columns → Bool
+kindFits g = fit (field 1 (g 4) ∷ field 4 (g 5) ∷ field 4 (g 6) ∷ field 1 (g 7) ∷ [])
 
 -- a row without parts
 abbrev pub noParts : Columns → Bool

@@ -6,10 +6,10 @@ ghost use lib.ListN.{length};
 ghost use Rattle.wire.specs.Act.{rows};
 ghost use Rattle.wire.specs.Layout.{fieldOf};
 ghost use Rattle.wire.specs.Pen.{Checked, Quick, Ready, Filled};
-ghost use Rattle.wire.specs.Spell.{Spells, Spelt, PlainRows};
+ghost use Rattle.wire.specs.Spell.{Spells, Spelt, PlainRows, fitAll};
 ghost use Rattle.wire.specs.declared.pen.Pen.the-variants.{At};
 ghost use Rattle.scene_groups.specs.Rows.{groupCols, groupOf, positionOf, gainOf, languageOf, flagCells};
-ghost use Rattle.scene_groups.specs.Write.{headFields, positionFields, gainFields, languageFields, groupFlags, positionFits, gainFits, languageFits, plainFits, noParts, positionPart, gainPart, languagePart, groupActs, rowActs};
+ghost use Rattle.scene_groups.specs.Write.{headFields, positionFields, gainFields, languageFields, groupFlags, positionFits, gainFits, languageFits, idFits, kindFits, plainFits, noParts, positionPart, gainPart, languagePart, groupActs, rowActs};
 use super::parsing::size;
 use super::rows::ContentLanguage;
 use super::rows::GROUP_COLUMNS;
@@ -17,6 +17,8 @@ use super::rows::GainInteractivity;
 use super::rows::PositionInteractivity;
 use super::rows::SceneGroup;
 use super::rows::column;
+use wire::bits::fits;
+use wire::bits::four_fit;
 use wire::bits::is_flag;
 use wire::pen;
 use wire::pen::Fault;
@@ -180,6 +182,52 @@ fn bare(groups: &[u16], b: usize) -> bool
     (column(groups, b, 7) == 0) & ((column(groups, b, 18) == 0) & (column(groups, b, 23) == 0))
 }
 
+// Whether the first four columns fit, and the next four.
+fn id_fits(groups: &[u16], b: usize) -> bool
+    requires { ⌜ b + 27 ≤ length (now groups) ⌝ }
+    ensures { λ r. ⌜ r ≡ idFits (groupCols (groupOf (now (groups .entry)) b)) ⌝ }
+{
+    four_fit(
+        groups[b],
+        1,
+        column(groups, b, 1),
+        7,
+        column(groups, b, 2),
+        3,
+        column(groups, b, 3),
+        1,
+    )
+}
+
+fn kind_fits(groups: &[u16], b: usize) -> bool
+    requires { ⌜ b + 27 ≤ length (now groups) ⌝ }
+    ensures { λ r. ⌜ r ≡ kindFits (groupCols (groupOf (now (groups .entry)) b)) ⌝ }
+{
+    four_fit(
+        column(groups, b, 4),
+        1,
+        column(groups, b, 5),
+        4,
+        column(groups, b, 6),
+        4,
+        column(groups, b, 7),
+        1,
+    )
+}
+
+// Whether its three bytes fit: the first eight columns stand side by side, then come the flags of the other two parts.
+fn head_fits(groups: &[u16], b: usize) -> bool
+    requires { ⌜ b + 27 ≤ length (now groups) ⌝ }
+    ensures { λ r. ⌜ r ≡ fitAll (headFields (groupOf (now (groups .entry)) b)) ⌝ }
+{
+    let flags = fits(column(groups, b, 18), 1) & fits(column(groups, b, 23), 1);
+    if id_fits(groups, b) {
+        if kind_fits(groups, b) { flags } else { false }
+    } else {
+        false
+    }
+}
+
 // The bytes of a row, or 0 if it has a fault: in almost every row nothing is wrong, and this is seen at once.
 // Of a row without parts, only the three bytes are looked at.
 fn plain_bytes(groups: &[u16], b: usize) -> usize
@@ -187,11 +235,7 @@ fn plain_bytes(groups: &[u16], b: usize) -> usize
     ensures { λ r. ⌜ Quick (groupActs (groupOf (now (groups .entry)) b)) 13 r ⌝ }
 {
     if bare(groups, b) {
-        if fits_all(&head_bytes(groups, b)) {
-            3
-        } else {
-            0
-        }
+        if head_fits(groups, b) { 3 } else { 0 }
     } else {
         full_bytes(groups, b)
     }
@@ -204,13 +248,15 @@ fn plain_rows(groups: &[u16], count: usize) -> Passed
 {
     let mut bytes: usize = 0;
     let mut i: usize = 0;
+    let mut b: usize = 0;
     while i < count {
-        let k = plain_bytes(groups, i * GROUP_COLUMNS);
+        let k = plain_bytes(groups, b);
         if k == 0 {
             return Passed { rows: i, bytes };
         }
         bytes += k;
         i += 1;
+        b += GROUP_COLUMNS;
     }
     Passed { rows: i, bytes }
 }

@@ -1,8 +1,10 @@
 -- The layouts write the scene body section after section.
 use Prim.Native.Nat.{ℕ, _^_, _<_}
 use mathlib.Core.List.{List, [], _∷_, _++_, append-nil, map, flatten}
-use mathlib.Core.Bool.{Bool, true, false, _&&_}
+use mathlib.Core.Bool.{Bool, true, false, not, _&&_, _||_}
 use mathlib.Core.Path.{_≡_, refl, _∙_}
+use native.Mathlib.Omega.{arith}
+use borrow.Author.Tests.{not-true}
 use Rattle.wire.specs.Lists.{each}
 use Rattle.wire.specs.Bits.{Field}
 use Rattle.wire.specs.Act as A
@@ -17,7 +19,9 @@ use Rattle.wire.proofs.writing.Parts.{part-begins}
 use Rattle.wire.proofs.writing.Passes.{byte-fits, Filling}
 use Rattle.wire.specs.Layout.{cells, matches, matched, shown, writes, every, has}
 use Rattle.frame.specs.Kind.{Lent}
+use Rattle.frame.specs.Sight.{headActs}
 use Rattle.frame.specs.Body.{layouts, inside, pieced, beyond, table}
+use Rattle.frame.proofs.Bare.{absent-within}
 use Rattle.frame.proofs.Pieces.{and-true}
 use Rattle.scene_kind.specs.declared.rows.Section.{Section}
 use Rattle.scene_kind.specs.declared.rows.MpegH3dAudioScene.{MpegH3dAudioScene}
@@ -89,3 +93,17 @@ module _ (s : Section) (fs : List Field) (row : ℕ → List Act) {n : ℕ} {l :
   pub section-begins : s .present ≡ true → Ready (sectionActs s fs row) n l → Filling (sectionActs s fs row) (when true (map byte (fs ∷ [])) ++ rows row 0 (s .count)) n l n l
   unfolding sectionActs
   section-begins t r = part-begins (s .present) (byte fs ∷ []) (rows row 0 (s .count)) t r
+
+-- without a section the actions are those of the head alone
+pub bare-acts : (m : MpegH3dAudioScene) (lent : Lent) → not (m .groups .present || (m .«switch_groups» .present || m .presets .present)) ≡ true
+    → sceneActs m lent ≡ headActs (headBytes m)
+unfolding sceneActs sectionActs
+bare-acts m lent e =
+    let (g, s, p) = none-of (m .groups .present) (m .«switch_groups» .present) (m .presets .present) (not-true _ e) in
+    rw (g, s, p, absent-within (m .groups .count) 27 (table 0 lent), absent-within (m .«switch_groups» .count) 9 (table 1 lent), absent-within (m .presets .count) 7 (table 3 lent))
+  where
+    none-of : (a b c : Bool) → a || (b || c) ≡ false → (a ≡ false) × (b ≡ false) × (c ≡ false)
+    none-of false false false e = (refl, refl, refl)
+    none-of true b c e = absurd (let z : _≡_ {A = ℕ} 0 1 = cc e in omega arith)
+    none-of false true c e = absurd (let z : _≡_ {A = ℕ} 0 1 = cc e in omega arith)
+    none-of false false true e = absurd (let z : _≡_ {A = ℕ} 0 1 = cc e in omega arith)

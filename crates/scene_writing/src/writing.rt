@@ -50,7 +50,7 @@ fn flags_byte(m: MpegH3dAudioScene) -> u32
         .spelt()
 }
 
-fn head_bytes(m: MpegH3dAudioScene) -> [u32; 2]
+pub fn head_bytes(m: MpegH3dAudioScene) -> [u32; 2]
     ensures { λ r. ⌜ Spelt (headBytes m) r ⌝ }
 {
     [flags_byte(m), one(wide(m.scene_info_id))]

@@ -1,6 +1,6 @@
 -- The actions of a scope part by part: what has to match, its fields, and its bytes.
-use Prim.Native.Nat.{ℕ, _≤_}
-use mathlib.Core.Path.{_≡_, refl, sym, _∙_}
+use Prim.Native.Nat.{ℕ, _^_, _≤_}
+use mathlib.Core.Path.{_≡_, refl, sym, ap, _∙_}
 use mathlib.Core.List.{List, [], _∷_, _++_, map, flatten}
 use mathlib.Core.Bool.{Bool, true, false, _&&_}
 use lib.Dec.{eqb, ltb}
@@ -14,13 +14,14 @@ use Rattle.wire.specs.declared.pen.Pen.{Pen}
 use Rattle.wire.proofs.writing.Acts.{and-both, both-and}
 use Rattle.wire.proofs.writing.Passes.{then, quick-clean, quick-odd, Filling, fill-start, fill-last}
 use Rattle.wire.proofs.writing.Plain.{all-checked, no-quick, ready-part, fill-part}
-use Rattle.wire.specs.Layout.{Cell, num, reserved, end, judged, _▹_, Columns, of, writes, shown, every, matches}
+use Rattle.wire.specs.Layout.{Cell, num, reserved, end, judged, _▹_, Columns, of, writes, shown, every, matches, has}
 use Rattle.wire.specs.declared.pen.Fault.the-variants as F
 use Rattle.scopes.specs.Layout.{caseAt, scope}
 use Rattle.scopes.specs.Rows.{caseIs, kindIs, scopeRow}
 use Rattle.scopes.specs.Write.{scopeActs, scopeBytes, hasId, typeFields, idFields}
 use Rattle.scopes.specs.declared.rows.DrcScope.{DrcScope}
 use Rattle.scopes.specs.declared.rows.DrcScope.the-variants.{Plain, Group, Preset, Unknown}
+use Rattle.scopes.proofs.Taken.{case-at}
 
 -- the type byte, and the ID byte where it has one
 abbrev pub inParts : ℕ → DrcScope → List Act
@@ -78,29 +79,53 @@ unfolding bytes
 parts-long true fs gs = refl
 parts-long false fs gs = refl
 
-module _ (types : List ℕ) (rt : ℕ) (s : DrcScope) {a f : Bool} {v x : ℕ} (e : a ≡ eqb (caseIs s) (caseAt types (kindIs s))) (t : Spells (typeFields rt s) v) (i : Spells (idFields s) x) (g : FitsAll (v ∷ x ∷ []) f) where
-  abbrev demanded : Bool → Bool → List Act
-  demanded a f = demand F.Scope a ∷ demand F.Field f ∷ inParts rt s
+-- its actions are clean exactly if these tests hold
+pub record Sound (types : List ℕ) (rt : ℕ) (s : DrcScope) : Type 0 where
+  pub type : ltb rt (2 ^ 6) ≡ true
+  pub id : fit (idFields s) ≡ true
+  pub kind : ltb (kindIs s) (2 ^ 2) ≡ true
+  pub case : eqb (caseIs s) (caseAt types (kindIs s)) ≡ true
 
-  acts-are : scopeActs types rt s ≡ demanded a f
-  acts-are = acts-so types rt s ∙ sym (λ j. demanded (e j) (g .of (typeFields rt s ∷ idFields s ∷ []) (more t (more i none)) j))
+module _ (types : List ℕ) (rt : ℕ) where
+  sound-clean : {s : DrcScope} → Sound types rt s → clean (scopeActs types rt s) ≡ true
+  unfolding clean fit fitAll
+  sound-clean {s} z =
+      let f : fitAll (typeFields rt s ∷ idFields s ∷ []) ≡ true = both-and (both-and (z .type) (both-and (z .kind) refl)) (both-and (z .id) refl) in
+      ap clean (acts-so types rt s) ∙ both-and (z .case) (both-and f (parts-clean (hasId s) (typeFields rt s) (idFields s) f))
 
-  pub scope-plain : a && f ≡ true → {r : ℕ} → r ≡ pick (hasId s) 2 1 → Quick (scopeActs types rt s) 2 r
-  unfolding clean bytes
-  scope-plain q {r} k =
-      let (y, z) = and-both a f q in
-      let c = parts-clean (hasId s) (typeFields rt s) (idFields s) (sym (g .of (typeFields rt s ∷ idFields s ∷ []) (more t (more i none))) ∙ z) in
-      let n = some (hasId s) in
-      rw acts-are
-      (quick-clean (demanded a f) 2 (both-and y (both-and z c)) (parts-long (hasId s) (typeFields rt s) (idFields s) ∙ sym k) (omega (arith, k, n)) (omega (arith, k, n)))
+  clean-sound : {s : DrcScope} → clean (scopeActs types rt s) ≡ true → Sound types rt s
+  unfolding clean fit fitAll
+  clean-sound {s} e =
+      let (a, b) = and-both (eqb (caseIs s) (caseAt types (kindIs s))) _ (sym (ap clean (acts-so types rt s)) ∙ e) in
+      let (f, g) = and-both (fitAll (typeFields rt s ∷ idFields s ∷ [])) _ b in
+      let (t, i) = and-both (fit (typeFields rt s)) _ f in
+      let (x, y) = and-both (ltb rt (2 ^ 6)) _ t in
+      record { type = x; id = and-both (fit (idFields s)) _ i .0; kind = and-both (ltb (kindIs s) (2 ^ 2)) _ y .0; case = a }
+
+  -- t is the variant that s was found to be
+  module _ {s t : DrcScope} (e : s ≡ t) where
+    pub scope-plain : Sound types rt t → {r : ℕ} → r ≡ pick (hasId t) 2 1 → Quick (scopeActs types rt s) 2 r
+    unfolding bytes
+    scope-plain z {r} k =
+        let n = some (hasId t) in
+        rw e
+        (quick-clean (scopeActs types rt t) 2 (sound-clean z) (ap (λ (q : List Act). length (bytes q)) (acts-so types rt t) ∙ parts-long (hasId t) (typeFields rt t) (idFields t) ∙ sym k)
+        (omega (arith, k, n)) (omega (arith, k, n)))
+      where
+        some : (h : Bool) → (1 ≤ pick h 2 1) × (pick h 2 1 ≤ 2)
+        some true = (omega arith, omega arith)
+        some false = (omega arith, omega arith)
+
+    pub scope-odd : (Sound types rt t → ⊥) → Quick (scopeActs types rt s) 2 0
+    scope-odd n = rw e (quick-odd (scopeActs types rt t) 2 (λ q. n (clean-sound q)))
+
+  -- no type has the case of an unknown scope
+  pub unknown-odd : Sound types rt Unknown → ⊥
+  unknown-odd z = no-quick (ap (eqb 3) (case-at types 0 (omega arith)) ∙ go (has 0 types)) (z .case)
     where
-      some : (h : Bool) → (1 ≤ pick h 2 1) × (pick h 2 1 ≤ 2)
-      some true = (omega arith, omega arith)
-      some false = (omega arith, omega arith)
-
-  pub scope-odd : a && f ≡ false → Quick (scopeActs types rt s) 2 0
-  unfolding clean
-  scope-odd q = rw acts-are (quick-odd (demanded a f) 2 (λ z. let (y, w) = and-both a _ z in no-quick q (both-and y (and-both f _ w .0))))
+      go : (b : Bool) → eqb 3 (pick b 1 0) ≡ false
+      go true = refl
+      go false = refl
 
 -- ---- the fill pass
 

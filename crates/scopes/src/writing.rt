@@ -9,6 +9,8 @@ ghost use Rattle.scopes.specs.Rows.{caseIs, kindIs};
 ghost use Rattle.scopes.specs.Write.{scopeActs, scopeBytes, hasId, typeFields, idFields};
 use super::parsing::case_of;
 use super::rows::DrcScope;
+use wire::bits::fits;
+use wire::bits::two_fit;
 use wire::pen;
 use wire::pen::Fault;
 use wire::pen::Pen;
@@ -91,16 +93,43 @@ pub fn check_scope(p: Pen, reserved_type: u16, scope: DrcScope, types: &[u16]) -
     check_all(p2, has_id(scope), &[id])
 }
 
-// How many bytes it makes, or 0 if it has a fault.
+// How many bytes it makes, or 0 if it has a fault. One match decides, and the list of types is searched only where the fields fit.
 pub fn plain_scope(reserved_type: u16, scope: DrcScope, types: &[u16]) -> usize
     ensures { λ r. ⌜ Quick (scopeActs (now (types .entry)) «reserved_type» scope) 2 r ⌝ }
 {
-    let kind = type_byte(reserved_type, scope);
-    let id = id_byte(scope);
-    if agrees(scope, types) & fits_all(&[kind, id]) {
-        if has_id(scope) { 2 } else { 1 }
-    } else {
-        0
+    if !fits(reserved_type, 6) {
+        return 0;
+    }
+    match scope {
+        DrcScope::Plain(kind) => {
+            if fits(kind, 2) && 0 == case_of(types, kind) {
+                1
+            } else {
+                0
+            }
+        }
+        DrcScope::Group {
+            kind,
+            reserved,
+            group_id,
+        } => {
+            if two_fit(reserved, 1, group_id.0, 7) && fits(kind, 2) && 1 == case_of(types, kind) {
+                2
+            } else {
+                0
+            }
+        }
+        DrcScope::Preset {
+            reserved,
+            preset_id,
+        } => {
+            if two_fit(reserved, 3, preset_id.0, 5) && 2 == case_of(types, 3) {
+                2
+            } else {
+                0
+            }
+        }
+        DrcScope::Unknown => 0,
     }
 }
 

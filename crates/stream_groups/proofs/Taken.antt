@@ -16,7 +16,9 @@ use Rattle.wire.specs.declared.reads.Short.{Short}
 use Rattle.wire.specs.declared.pen.Fault.the-variants as F
 use Rattle.wire.proofs.Fields.{part-below}
 use Rattle.wire.proofs.reading.Runs.{run-u8, u8-done}
-use Rattle.wire.proofs.layouts.Straight.{Whole, flat-ends, Behind, behind-one, one-cut, one-more}
+use Rattle.wire.proofs.reading.Walk.{as-done}
+use Rattle.wire.proofs.reading.Loops.{Measuring, carry-turn}
+use Rattle.wire.proofs.layouts.Straight.{Whole, flat-ends, ones-got, Behind, behind-one, one-cut, one-more}
 use Rattle.stream_groups.specs.Layout.{group}
 use Rattle.stream_groups.specs.Rows.{located, groupId, inMain, inAuxiliary, groupRow, locationCells}
 
@@ -111,3 +113,23 @@ module _ {s : List ℕ} {at : ℕ} (w : Whole 5 group s at) where
           → done (groupRow (inAuxiliary (groupId (part 1 7 b)) (located (part 7 1 x) (part 0 7 x)))) (at + 2) ≡ run (flat 5 group) s at
       unfolding took putsAt put split total each
       outside-done f = rw (e, f) (sym (ended-as none .0))
+
+-- ---- groups passed without a test: the body has a byte for each that is left, and some to spare
+
+pub record Sparing (s : List ℕ) (at count spare pos left : ℕ) : Type 0 where
+  pub measures : Measuring (flat 5 group) s at count pos left
+  pub room : pos + left + spare ≡ length s
+
+-- a group whose bytes are there ends behind them
+group-there : (s : List ℕ) (at more : ℕ) → 1 - part 0 1 (getD s at 0) ≡ more → at + more < length s → endOf (run (flat 5 group) s at) ≡ done tt (at + more + 1)
+group-there s at more z h =
+    let n : at + (1 + more) ≡ at + more + 1 = omega arith in
+    group-ends s at ∙ ap (λ (k : ℕ). ends (ones (1 + k)) s at) z ∙ ones-got (1 + more) s at (omega arith) ∙ ap (done tt) n
+
+-- the next group, whose second byte, if it has one, is of those to spare
+pub spare-turn : {s : List ℕ} {at count spare pos left : ℕ} → Sparing s at count spare pos left → 0 < left → {b p : ℕ} → b ≡ getD s pos 0 → p ≡ part 0 1 b
+    → (more : ℕ) {spare′ pos′ : ℕ} → 1 - p ≡ more → more ≤ spare → spare′ ≡ spare - more → pos′ ≡ pos + more → Sparing s at count spare′ (pos′ + 1) (left - 1)
+spare-turn {s} {pos = pos} i h e q more z l x y =
+    let k = group-there s pos more (ap (λ (b : ℕ). 1 - part 0 1 b) (sym e) ∙ ap (λ (p : ℕ). 1 - p) (sym q) ∙ z) (omega (arith, i .room)) in
+    let (_, r, _) = as-done (λ g. tt) (run (flat 5 group) s pos) (k ∙ ap (λ (n : ℕ). done tt (n + 1)) (sym y)) in
+    record { measures = carry-turn (i .measures) h r (λ l. refl); room = omega (arith, i .room) }

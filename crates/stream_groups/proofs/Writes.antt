@@ -7,13 +7,12 @@ use native.Mathlib.Omega.{arith}
 use native.Mathlib.Nat.{add-zero}
 use lib.ListN.{length, getD}
 use lib.Dec.{eqb}
-use borrow.Author.Tests.{lt-ltb, le-ltb, leb-true, eqb-true}
+use borrow.Author.Tests.{leb-true, eqb-true}
 use Rattle.wire.specs.Lists.{each}
 use Rattle.wire.specs.Bits.{field, isFlag, fit, total}
 use Rattle.wire.specs.Act.{Act, demand, byte, when, pick}
 use Rattle.wire.specs.Pen.{Quick, clean, bytes}
 use Rattle.wire.specs.Layout.{Columns, at, fieldOf, flatActs, writes, shown, cells, matches, matched, every, flagged, counted, has}
-use Rattle.wire.specs.Spell.{Spells}
 use Rattle.wire.specs.declared.pen.Fault.the-variants as F
 use Rattle.wire.proofs.writing.Acts.{and-both, both-and}
 use Rattle.wire.proofs.layouts.Cells.{all, distinct, free, eights, proper, suits, fit-flags}
@@ -89,27 +88,26 @@ module _ (g : Columns) {v : ℕ} (e : v ≡ g 2 * 65536 + g 1) where
       let c = both-and (cons-fits 7 (g 0) (field 1 1 ∷ []) l refl) refl in
       quick-clean (flatActs group g) 2 (ap clean s ∙ c) (ap (λ (q : List Act). length (bytes q)) s) (omega arith) (omega arith)
 
-  module _ (h : g 1 < 65536) (z : v ≡ 65536) {k : ℕ} (w : Spells (map (fieldOf g) locationCells) k) where
+  module _ (h : g 1 < 65536) (z : v ≡ 65536) where
     located : flatActs group g ≡ shaped g 0 1
     located =
         let m : g 1 ≡ 0 = omega (arith, e, h, z) in
         let p : g 2 ≡ 1 = omega (arith, e, h, z) in
         group-acts g ∙ λ i. shaped g (m i) (p i)
 
-    pub plain-located : g 0 < 128 → k < 65536 → Quick (flatActs group g) 2 2
+    pub plain-located : g 0 < 128 → fit (map (fieldOf g) locationCells) ≡ true → Quick (flatActs group g) 2 2
     unfolding clean bytes fit every
-    plain-located l b =
-        let f = sym (w .fits) ∙ lt-ltb k 65536 b in
+    plain-located l f =
         let t : isFlag (g 3) ≡ true = rw (and-true (isFlag (g 3))) at (fit-flags locationCells g f) in
         let c = both-and t (both-and (cons-fits 7 (g 0) (field 1 0 ∷ []) l refl) (both-and f refl)) in
         quick-clean (flatActs group g) 2 (ap clean located ∙ c) (ap (λ (q : List Act). length (bytes q)) located) (omega arith) (omega arith)
 
-    pub odd-location : 65536 ≤ k → Quick (flatActs group g) 2 0
+    pub odd-location : fit (map (fieldOf g) locationCells) ≡ false → Quick (flatActs group g) 2 0
     unfolding clean
-    odd-location b = quick-odd (flatActs group g) 2 λ c.
+    odd-location f = quick-odd (flatActs group g) 2 λ c.
         let (_, r) = and-both (isFlag (g 3)) _ (sym (ap clean located) ∙ c) in
         let (_, l) = and-both (fit (field 7 (g 0) ∷ field 1 0 ∷ [])) _ r in
-        no-quick (sym (w .fits) ∙ le-ltb k 65536 b) (and-both (fit (map (fieldOf g) locationCells)) true l .0)
+        no-quick f (and-both (fit (map (fieldOf g) locationCells)) true l .0)
 
   pub odd-flags : (v ≡ 1 → ⊥) → (v ≡ 65536 → ⊥) → Quick (flatActs group g) 2 0
   odd-flags a b = quick-odd (flatActs group g) 2 λ c. let (f, o, _) = sound g c in go (g 1) e f o

@@ -2,7 +2,7 @@
 ghost use mathlib.Core.Path.{_≡_};
 ghost use mathlib.Core.Bool.{true};
 ghost use mathlib.Core.List.{flatMap};
-ghost use Prim.Native.Nat.{_*_, _≤_};
+ghost use Prim.Native.Nat.{_+_, _*_, _≤_};
 ghost use lib.ListN.{length};
 ghost use lib.Seq.{sets};
 ghost use Rattle.wire.specs.Prog.{done, run, many};
@@ -37,8 +37,37 @@ fn group_end(body: &[u8], at: usize) -> Ends
     Ends::At(next)
 }
 
-// Where `count` groups end.
-pub fn measure_groups(body: &[u8], at: usize, count: usize) -> Ends
+// How far groups were passed: the next position, and the groups that are left.
+struct Reached {
+    pos: usize,
+    left: usize,
+}
+
+// Passes groups as long as the body has a byte for each that is left: a first byte then needs no test, and an auxiliary byte takes one of those to spare.
+// A whole body has them all; of another, what is left is for the caller to test.
+fn quick_groups(body: &[u8], at: usize, count: usize) -> Reached
+    requires { ⌜ at + count ≤ length (now body) ⌝ }
+    ensures { λ r. ⌜ (endOf (run (many (r .left) (flat 5 group)) (now (body .entry)) (r .pos)) ≡ endOf (run (many count (flat 5 group)) (now (body .entry)) at)) × (r .pos ≤ length (now (body .entry))) ⌝ }
+{
+    let mut spare = body.len() - at - count;
+    let mut pos = at;
+    let mut left = count;
+    while 0 < left {
+        if part(wide(body[pos]), 0, 1) == 0 {
+            if spare == 0 {
+                return Reached { pos, left };
+            }
+            spare -= 1;
+            pos += 1;
+        }
+        pos += 1;
+        left -= 1;
+    }
+    Reached { pos, left }
+}
+
+// Where groups end, with a test of each byte.
+fn groups_end(body: &[u8], at: usize, count: usize) -> Ends
     requires { ⌜ at ≤ length (now body) ⌝ }
     ensures { λ r. ⌜ endsOut r ≡ endOf (run (many count (flat 5 group)) (now (body .entry)) at) ⌝ }
 {
@@ -53,6 +82,19 @@ pub fn measure_groups(body: &[u8], at: usize, count: usize) -> Ends
         left -= 1;
     }
     Ends::At(pos)
+}
+
+// Where `count` groups end.
+pub fn measure_groups(body: &[u8], at: usize, count: usize) -> Ends
+    requires { ⌜ at ≤ length (now body) ⌝ }
+    ensures { λ r. ⌜ endsOut r ≡ endOf (run (many count (flat 5 group)) (now (body .entry)) at) ⌝ }
+{
+    if count <= body.len() - at {
+        let r = quick_groups(body, at, count);
+        groups_end(body, r.pos, r.left)
+    } else {
+        groups_end(body, at, count)
+    }
 }
 
 // ---- taken, once measured

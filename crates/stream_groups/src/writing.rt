@@ -13,6 +13,7 @@ use super::rows::GROUP_COLUMNS;
 use super::rows::MultiStreamGroup;
 use wire::bits::is_flag;
 use wire::bits::pair;
+use wire::bits::two_fit;
 use wire::pen;
 use wire::pen::Fault;
 use wire::pen::Passed;
@@ -87,7 +88,7 @@ fn plain_bytes(groups: &[u16], b: usize) -> usize
         return 1;
     }
     if flags == 65536 {
-        if two(groups[b + 3], 1, groups[b + 4], 7) < 65536 {
+        if two_fit(groups[b + 3], 1, groups[b + 4], 7) {
             return 2;
         }
     }
@@ -101,13 +102,15 @@ fn plain_rows(groups: &[u16], count: usize) -> Passed
 {
     let mut bytes: usize = 0;
     let mut i: usize = 0;
+    let mut b: usize = 0;
     while i < count {
-        let k = plain_bytes(groups, i * GROUP_COLUMNS);
+        let k = plain_bytes(groups, b);
         if k == 0 {
             return Passed { rows: i, bytes };
         }
         bytes += k;
         i += 1;
+        b += GROUP_COLUMNS;
     }
     Passed { rows: i, bytes }
 }

@@ -1,18 +1,18 @@
 -- Switch groups written: what the two passes do with a row and its members.
-use Prim.Native.Nat.{ℕ, _+_, _*_, _-_, _/_, _≤_}
-use mathlib.Core.Path.{_≡_, refl, sym, ap, _∙_}
+use Prim.Native.Nat.{ℕ, zero, suc, _+_, _*_, _-_, _/_, _^_, _≤_}
+use mathlib.Core.Path.{_≡_, refl, sym, ap, subst, _∙_}
 use mathlib.Core.List.{List, [], _∷_, _++_, map, flatten}
 use mathlib.Core.Bool.{Bool, true, false, _&&_, and-true, and-assoc}
 use native.Mathlib.Omega.{arith}
 use native.Mathlib.Nat.{add-zero}
 use lib.ListN.{length}
-use lib.Dec.{leb}
+use lib.Dec.{leb, ltb}
 use borrow.Author.Tests.{leb-true}
 use Rattle.wire.specs.Bits.{field, isFlag, fit, total}
-use Rattle.wire.specs.Act.{demand, rows}
+use Rattle.wire.specs.Act.{Act, demand, rows}
 use Rattle.wire.specs.Pen.{Checked, Quick, Ready, Filled, clean, bytes}
 use Rattle.wire.specs.Layout.{fieldOf, writes, shown, cells, matches, matched, every, has, familyActs}
-use Rattle.wire.specs.Spell.{fitAll, Spelt, FitsAll, ChecksAll, ReadyAll, FillsAll, PlainRows}
+use Rattle.wire.specs.Spell.{fitAll, Spelt, ChecksAll, ReadyAll, FillsAll, PlainRows}
 use Rattle.wire.specs.declared.pen.Fault.{Fault}
 use Rattle.wire.specs.declared.pen.Fault.the-variants as F
 use Rattle.wire.specs.declared.pen.Pen.{Pen}
@@ -28,7 +28,7 @@ use Rattle.wire.proofs.layouts.Families.{frontActs, kidActs, Front, plainRow, k
 use Rattle.pairs.specs.Write.{pairActs}
 use Rattle.switch_groups.specs.Layout.{member, switchGroup}
 use Rattle.switch_groups.specs.declared.rows.SwitchGroup.{SwitchGroup}
-use Rattle.switch_groups.specs.Rows.{switchGroupCols, switchGroupOf, idCells, countCells}
+use Rattle.switch_groups.specs.Rows.{switchGroupCols, switchGroupOf, idCells, countCells, defaultCells}
 use Rattle.switch_groups.specs.Write.{headFields, defaultFields, switchGroupActs}
 
 pub switch-passes : nest-test switchGroup ≡ true
@@ -38,6 +38,39 @@ switch-passes = refl
 pub row-acts : (t u : List ℕ) (i : ℕ) → switchGroupActs u (switchGroupOf t (i * 9)) ≡ familyActs switchGroup 2 member t u i
 unfolding writes shown cells matches matched every flatten
 row-acts t u i = rw add-zero
+
+-- so what is seen of the group whose columns begin there is said of row i
+pub row-quick : (t u : List ℕ) (i : ℕ) {b k : ℕ} {g : SwitchGroup} → g ≡ switchGroupOf t b → b ≡ i * 9 → Quick (switchGroupActs u g) 35 k → Quick (familyActs switchGroup 2 member t u i) 35 k
+row-quick t u i {k = k} e z q = subst (λ (l : List Act). Quick l 35 k) (ap (switchGroupActs u) (e ∙ ap (switchGroupOf t) z) ∙ row-acts t u i) q
+
+-- ---- its own fields, by the tests of a plain row
+
+-- a count that is stored minus one
+count-fits : (c : ℕ) → leb c 32 ≡ ltb (c - 1) (2 ^ 5)
+count-fits zero = refl
+count-fits (suc c) = let e : c ≡ suc c - 1 = omega arith in ap (λ (k : ℕ). ltb k 32) e
+
+module _ (g : SwitchGroup) where
+  abbrev pub idFits : Bool
+  idFits = fit (map (fieldOf (switchGroupCols g)) idCells)
+
+  abbrev pub defaultFits : Bool
+  defaultFits = fit (map (fieldOf (switchGroupCols g)) defaultCells)
+
+  pub fields-so : ((idFits && ltb (g .«reserved_members») (2 ^ 3)) && leb (g .members .count) 32) && defaultFits ≡ fitAll (headFields g) && fitAll (defaultFields g)
+  unfolding fitAll fit
+  fields-so =
+      ap (λ (b : Bool). ((idFits && ltb (g .«reserved_members») (2 ^ 3)) && b) && defaultFits) (count-fits (g .members .count))
+      ∙ regroup idFits (ltb (g .«reserved_members») (2 ^ 3)) (ltb (g .members .count - 1) (2 ^ 5)) defaultFits
+    where
+      regroup : (a b c d : Bool) → ((a && b) && c) && d ≡ (a && ((b && (c && true)) && true)) && (d && true)
+      regroup true true true true = refl
+      regroup true true true false = refl
+      regroup true true false d = refl
+      regroup true false c d = refl
+      regroup false b c d = refl
+
+-- ---- the check pass, and what stands behind the front
 
 module _ (u : List ℕ) (g : SwitchGroup) where
   -- the front, one check after the other
@@ -90,39 +123,42 @@ module _ (u : List ℕ) (g : SwitchGroup) where
   unfolding writes shown cells every flatten
   plain-so = λ i. leb (g .members .first + g .members .count) (length u / 2) && (and-true (leb 1 (g .members .count)) i && (clean-all (headFields g) i && clean-all (defaultFields g) i))
 
-  module _ {inside head tail : Bool} {vs ws : List ℕ} (e : inside ≡ leb (g .members .first + g .members .count) (length u / 2)) (s : Spelt (headFields g) vs) (h : FitsAll vs head) (z : Spelt (defaultFields g) ws) (t : FitsAll ws tail) where
-    tested : (inside && leb 1 (g .members .count)) && (head && tail) ≡ plainRow switchGroup (length u / 2) (pairActs u) (switchGroupCols g)
+  module _ {inside : Bool} (e : inside ≡ leb (g .members .first + g .members .count) (length u / 2)) where
+    tested : (inside && leb 1 (g .members .count)) && (fitAll (headFields g) && fitAll (defaultFields g)) ≡ plainRow switchGroup (length u / 2) (pairActs u) (switchGroupCols g)
     tested =
-        (λ i. (e i && leb 1 (g .members .count)) && (h .of (headFields g) s i && t .of (defaultFields g) z i))
+        (λ i. (e i && leb 1 (g .members .count)) && (fitAll (headFields g) && fitAll (defaultFields g)))
         ∙ and-assoc (leb (g .members .first + g .members .count) (length u / 2)) (leb 1 (g .members .count)) (fitAll (headFields g) && fitAll (defaultFields g))
         ∙ sym plain-so
 
-    pub row-odd : (inside && leb 1 (g .members .count)) && (head && tail) ≡ false → Quick (switchGroupActs u g) 35 0
-    row-odd q = broken-odd switchGroup (length u / 2) (pairActs u) (switchGroupCols g) 35 (sym tested ∙ q)
+    pub row-uncounted : inside && leb 1 (g .members .count) ≡ false → Quick (switchGroupActs u g) 35 0
+    row-uncounted q =
+        broken-odd switchGroup (length u / 2) (pairActs u) (switchGroupCols g) 35 (sym tested ∙ ap (λ (b : Bool). b && (fitAll (headFields g) && fitAll (defaultFields g))) q)
 
-    module _ (q : (inside && leb 1 (g .members .count)) && (head && tail) ≡ true) where
-      pub row-behind : Behind
-      unfolding fitAll fit
-      row-behind =
-          let (a, b) = and-both (leb (g .members .first + g .members .count) (length u / 2)) _ (sym plain-so ∙ sym tested ∙ q) in
-          let (c, d) = and-both (leb 1 (g .members .count)) _ b in
-          let (x, y) = and-both (fitAll (headFields g)) _ d in
-          let (x₀, x₁) = and-both (fit (map (fieldOf (switchGroupCols g)) idCells)) _ x in
-          let (x₂, x₃) = and-both (fit (map (fieldOf (switchGroupCols g)) countCells)) _ x₁ in
-          let i = leb-true (g .members .first + g .members .count) (length u / 2) a in
-          record { inside = omega (arith, i); few = few-so x₂ }
+    module _ (q : inside && leb 1 (g .members .count) ≡ true) {own : Bool} (f : own ≡ fitAll (headFields g) && fitAll (defaultFields g)) where
+      pub row-odd : own ≡ false → Quick (switchGroupActs u g) 35 0
+      row-odd o = broken-odd switchGroup (length u / 2) (pairActs u) (switchGroupCols g) 35 (sym tested ∙ (λ i. q i && (sym f ∙ o) i))
 
-      module _ {k : ℕ} (v : PlainRows (λ j. pairActs u (g .members .first + j)) 1 (g .members .count) k k) where
-        pub row-plain : k ≡ g .members .count → Quick (switchGroupActs u g) 35 (3 + g .members .count)
+      module _ (o : own ≡ true) where
+        pub row-behind : Behind
+        unfolding fitAll fit
+        row-behind =
+            let (a, b) = and-both inside _ q in
+            let (x, y) = and-both (fitAll (headFields g)) _ (sym f ∙ o) in
+            let (x₀, x₁) = and-both (fit (map (fieldOf (switchGroupCols g)) idCells)) _ x in
+            let (x₂, x₃) = and-both (fit (map (fieldOf (switchGroupCols g)) countCells)) _ x₁ in
+            let i = leb-true (g .members .first + g .members .count) (length u / 2) (sym e ∙ a) in
+            record { inside = omega (arith, i); few = few-so x₂ }
+
+        pub row-plain : {k : ℕ} → PlainRows (λ j. pairActs u (g .members .first + j)) 1 (g .members .count) k k → k ≡ g .members .count → Quick (switchGroupActs u g) 35 (3 + g .members .count)
         unfolding writes bytes
-        row-plain r =
+        row-plain v r =
             let (c, l) = kids-passed (pairActs u) (g .members .first) (g .members .count) v (omega (arith, r)) in
-            let f = row-behind .few in
-            broken-quick switchGroup (length u / 2) (pairActs u) (switchGroupCols g) 35 switch-passes (sym tested ∙ q) (unfold matches matched clean in refl) c
-            (omega (arith, l, r)) (omega arith) (omega (arith, f))
+            let n = row-behind .few in
+            broken-quick switchGroup (length u / 2) (pairActs u) (switchGroupCols g) 35 switch-passes (sym tested ∙ (λ i. q i && (sym f ∙ o) i)) (unfold matches matched clean in refl) c
+            (omega (arith, l, r)) (omega arith) (omega (arith, n))
 
-        pub row-odd-kid : (k ≡ g .members .count → ⊥) → Quick (switchGroupActs u g) 35 0
-        row-odd-kid r = let w = v .within in broken-odd-kid switchGroup (length u / 2) (pairActs u) (switchGroupCols g) 35 (kids-odd (pairActs u) (g .members .first) (g .members .count) v (omega (arith, r, w)))
+  pub row-odd-kid : {k : ℕ} → PlainRows (λ j. pairActs u (g .members .first + j)) 1 (g .members .count) k k → (k ≡ g .members .count → ⊥) → Quick (switchGroupActs u g) 35 0
+  row-odd-kid v r = let w = v .within in broken-odd-kid switchGroup (length u / 2) (pairActs u) (switchGroupCols g) 35 (kids-odd (pairActs u) (g .members .first) (g .members .count) v (omega (arith, r, w)))
 
   -- ---- the fill pass
 

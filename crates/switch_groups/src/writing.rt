@@ -1,11 +1,13 @@
 // Writing switch groups: their bytes as numbers, the check pass with a quick test of a plain row, and the fill pass.
+ghost use mathlib.Core.Path.{_≡_};
+ghost use mathlib.Core.Bool.{_&&_};
 ghost use mathlib.Core.List.{map};
 ghost use Prim.Native.Nat.{_*_, _<_, _≤_, _^_};
 ghost use lib.ListN.{length};
 ghost use Rattle.wire.specs.Act.{rows};
 ghost use Rattle.wire.specs.Layout.{fieldOf, familyActs};
 ghost use Rattle.wire.specs.Pen.{Checked, Quick, Ready, Filled};
-ghost use Rattle.wire.specs.Spell.{Spells, Spelt, PlainRows};
+ghost use Rattle.wire.specs.Spell.{fitAll, Spells, Spelt, PlainRows};
 ghost use Rattle.wire.specs.declared.pen.Pen.the-variants.{At};
 ghost use Rattle.switch_groups.specs.Layout.{member, switchGroup};
 ghost use Rattle.switch_groups.specs.Rows.{switchGroupCols, idCells};
@@ -16,8 +18,11 @@ use super::rows::SwitchGroup;
 use pairs::writing::check_pairs;
 use pairs::writing::fill_pairs;
 use pairs::writing::plain_pairs;
+use wire::bits::fits;
+use wire::bits::four_fit;
 use wire::bits::is_flag;
 use wire::bits::less_one;
+use wire::bits::two_fit;
 use wire::pen;
 use wire::pen::Fault;
 use wire::pen::Passed;
@@ -26,7 +31,6 @@ use wire::rows::in_table;
 use wire::spell::Joined;
 use wire::spell::check_all;
 use wire::spell::fill_all;
-use wire::spell::fits_all;
 use wire::spell::two;
 
 // ---- the bytes
@@ -76,12 +80,31 @@ fn check_switch_group(n: usize, g: SwitchGroup, members: &[u16]) -> Pen
     check_all(p4, true, &default_bytes(g))
 }
 
-// Its bytes, or 0 if it has a fault: in almost every row nothing is wrong, and this is seen at once. A flag is a field of one bit and the count one of five, so the bytes tell.
+// Whether its own fields fit, columns that stand together by one test. The count is stored minus one, so 32 fits its five bits.
+fn fields_fit(g: SwitchGroup) -> bool
+    ensures { λ r. ⌜ r ≡ fitAll (headFields g) && fitAll (defaultFields g) ⌝ }
+{
+    four_fit(
+        g.reserved_id,
+        1,
+        g.switch_group_id.0,
+        5,
+        g.allow_on_off,
+        1,
+        g.default_on_off,
+        1,
+    )
+        && fits(g.reserved_members, 3)
+        && g.members.count <= 32
+        && two_fit(g.reserved_default, 1, g.default_group_id.0, 7)
+}
+
+// Its bytes, or 0 if it has a fault: in almost every row nothing is wrong, and this is seen at once. A flag is a field of one bit and the count one of five, so the fields tell.
 fn plain_bytes(g: SwitchGroup, members: &[u16]) -> usize
     ensures { λ r. ⌜ Quick (switchGroupActs (now (members .entry)) g) 35 r ⌝ }
 {
     let counted = in_table(g.members, members, MEMBER_COLUMNS) & (1 <= g.members.count);
-    if counted & (fits_all(&head_bytes(g)) & fits_all(&default_bytes(g))) {
+    if counted && fields_fit(g) {
         let count = g.members.count as usize;
         if plain_pairs(g.members, members) == count {
             return 3 + count;
@@ -90,21 +113,22 @@ fn plain_bytes(g: SwitchGroup, members: &[u16]) -> usize
     0
 }
 
-// The plain rows before the first that is not, and their bytes.
+// The plain rows before the first that is not, and their bytes. The place of a row is counted up, not multiplied: so the compiler keeps this loop apart from the code that names a fault.
 fn plain_rows(switch_groups: &[u16], members: &[u16], count: usize) -> Passed
     requires { ⌜ (count * 9 ≤ length (now «switch_groups»)) × (count < 32) ⌝ }
     ensures { λ r. ⌜ PlainRows (familyActs switchGroup 2 member (now («switch_groups» .entry)) (now (members .entry))) 35 count (r .rows) (r .bytes) ⌝ }
 {
     let mut bytes: usize = 0;
     let mut i: usize = 0;
+    let mut b: usize = 0;
     while i < count {
-        let g = SwitchGroup::of_columns(switch_groups, i * SWITCH_GROUP_COLUMNS);
-        let k = plain_bytes(g, members);
+        let k = plain_bytes(SwitchGroup::of_columns(switch_groups, b), members);
         if k == 0 {
             return Passed { rows: i, bytes };
         }
         bytes += k;
         i += 1;
+        b += SWITCH_GROUP_COLUMNS;
     }
     Passed { rows: i, bytes }
 }

@@ -1,24 +1,24 @@
 -- Rows that are plain, counted by a loop; the row that stopped it is looked at after the loop.
-use Prim.Native.Nat.{ℕ, zero, suc, _+_, _-_, _*_, _≤_, _<_}
+use Prim.Native.Nat.{ℕ, zero, suc, _+_, _-_, _*_, _^_, _≤_, _<_}
 use mathlib.Core.Path.{_≡_, refl, sym, ap, subst, _∙_}
 use mathlib.Core.List.{List, [], _∷_, _++_, append-nil, map, flatten}
-use mathlib.Core.Bool.{Bool, true, false, _&&_, and-true}
+use mathlib.Core.Bool.{Bool, true, false, _&&_, and-true, and-assoc}
 use native.Mathlib.Omega.{arith}
 use native.Mathlib.Nat.{add-zero, sub-zero, mul-suc, mul-le-mul-left}
 use native.Mathlib.Numerals.{add-one}
 use lib.ListN.{length}
 use lib.Seq.{length-sets}
-use lib.Dec.{eqb}
+use lib.Dec.{eqb, ltb}
 use borrow.Author.Tests.{ne-eqb, leb-true}
 use Rattle.wire.specs.Lists.{each}
-use Rattle.wire.specs.Bits.{Field, isFlag, fit}
+use Rattle.wire.specs.Bits.{Field, field, isFlag, fit}
 use Rattle.wire.specs.Act.{Act, demand, byte, when, pick, rows}
 use Rattle.wire.specs.Pen.{look, glance, looks, Checked, Quick, Ready, Filled, clean, bytes}
 use Rattle.wire.specs.declared.pen.Fault.{Fault}
 use Rattle.wire.specs.declared.pen.Fault.the-variants as F
 use Rattle.wire.specs.declared.pen.Pen.{Pen}
 use Rattle.wire.specs.declared.pen.Pen.the-variants.{At, Stop}
-use Rattle.wire.specs.Spell.{PlainRows, fitAll, Spelt, ChecksAll, ReadyAll, FillsAll}
+use Rattle.wire.specs.Spell.{PlainRows, PlainRun, fitAll, Spelt, ChecksAll, ReadyAll, FillsAll}
 use Rattle.wire.proofs.writing.Passes.{looks-append, then, more, rows-turn, rows-end, Checking, check-odd, check-end, quick-clean, quick-odd, Filling, fill-start, fill-demand, fill-row, fill-turn, fill-end}
 use Rattle.wire.proofs.writing.Spelling.{spelt-long}
 
@@ -56,6 +56,16 @@ module _ {f : ℕ → List Act} {most count i bytes : ℕ} (v : Going f most cou
 pub going-end : {f : ℕ → List Act} {most count i bytes : ℕ} → Going f most count i bytes → count ≤ i → PlainRows f most count i bytes
 going-end v h = record { within = v .within; few = v .few; passes = v .passes; odd = λ l. absurd (omega arith) }
 
+-- the same of a loop that only counts bytes
+module _ {f : ℕ → List Act} {most count i bytes : ℕ} (v : Going f most count i bytes) where
+  pub run-odd : {k : ℕ} → Quick (f i) most k → i < count → k ≡ 0 → PlainRun f most count 0
+  run-odd q h z = record { all = λ l. absurd (omega arith); odd = λ e. (i, bytes, h, going-odd v q z) }
+
+  pub run-end : i ≤ bytes → count ≤ i → 0 < count → PlainRun f most count bytes
+  run-end l h p =
+      let e : i ≡ count = omega (arith, v .within) in
+      record { all = λ z. let w : Going f most count count bytes = rw e at v in going-end w (omega arith); odd = λ z. absurd (omega arith) }
+
 -- what the check pass has after the loop
 module _ (f : ℕ → List Act) (most count n : ℕ) {i bytes : ℕ} (v : PlainRows f most count i bytes) where
   going : Checking (rows f 0 count) (rows f i (count - i)) (most * i) (At n) (At (n + bytes))
@@ -75,6 +85,16 @@ rows-shift f a i (suc k) = let e : a + i + 1 ≡ a + (i + 1) = omega arith in λ
 
 pub rows-from : (f : ℕ → List Act) (a k : ℕ) → rows f a k ≡ rows (λ j. f (a + j)) 0 k
 rows-from f a k = ap (λ (m : ℕ). rows f m k) (sym (add-zero a)) ∙ rows-shift f a 0 k
+
+-- the fields of all bytes in one list
+pub fit-flat : (fss : List (List Field)) → fit (flatten fss) ≡ fitAll fss
+unfolding fit fitAll flatten
+fit-flat [] = refl
+fit-flat (fs ∷ fss) = fit-append fs (flatten fss) ∙ ap (λ (b : Bool). fit fs && b) (fit-flat fss)
+  where
+    fit-append : (fs gs : List Field) → fit (fs ++ gs) ≡ fit fs && fit gs
+    fit-append [] gs = refl
+    fit-append (field w v ∷ fs) gs = ap (λ (b : Bool). ltb v (2 ^ w) && b) (fit-append fs gs) ∙ sym (and-assoc (ltb v (2 ^ w)) (fit fs) (fit gs))
 
 -- a line of bytes is clean if all fit
 pub clean-all : (fss : List (List Field)) → clean (map byte fss) ≡ fitAll fss

@@ -1,7 +1,8 @@
 -- `writing::plain_detail` meets its contract.
 use mathlib.Core.Path.{refl, sym, _∙_}
+use borrow.Author.Tests.{not-true, not-false}
 use Rattle.conditions.specs.Write.{colsAt}
-use Rattle.conditions.proofs.Writes.{long-so, spelt-odd, spelt-fits}
+use Rattle.conditions.proofs.Writes.{fit-line, long-so}
 use borrow.Author.Needs.{needs}
 use Rattle.conditions.proofs.writing.plain_detail.Statement.{statement}
 use Rattle.conditions.proofs.writing.plain_detail.Tie as tie
@@ -24,40 +25,41 @@ mul-position c = search needs
 shared-slice-read-position : tie.Need-shared-slice-read-position
 shared-slice-read-position c = search needs
 
-add-flags-byte : tie.Need-add-flags-byte
-add-flags-byte c = search needs
+add-flags-fit : tie.Need-add-flags-fit
+add-flags-fit c = search needs
 
-mul-flags-byte : tie.Need-mul-flags-byte
-mul-flags-byte c = search needs
+mul-flags-fit : tie.Need-mul-flags-fit
+mul-flags-fit c = search needs
 
-shared-slice-read-flags-byte : tie.Need-shared-slice-read-flags-byte
-shared-slice-read-flags-byte c = search needs
+shared-slice-read-flags-fit : tie.Need-shared-slice-read-flags-fit
+shared-slice-read-flags-fit c = search needs
 
-add-flags-byte-2 : tie.Need-add-flags-byte-2
-add-flags-byte-2 c = search needs
+add-flags-fit-2 : tie.Need-add-flags-fit-2
+add-flags-fit-2 c = search needs
 
-mul-flags-byte-2 : tie.Need-mul-flags-byte-2
-mul-flags-byte-2 c = search needs
+mul-flags-fit-2 : tie.Need-mul-flags-fit-2
+mul-flags-fit-2 c = search needs
 
-shared-slice-read-flags-byte-2 : tie.Need-shared-slice-read-flags-byte-2
-shared-slice-read-flags-byte-2 c = search needs
+shared-slice-read-flags-fit-2 : tie.Need-shared-slice-read-flags-fit-2
+shared-slice-read-flags-fit-2 c = search needs
 
-add-flags-byte-3 : tie.Need-add-flags-byte-3
-add-flags-byte-3 c = search needs
+add-flags-fit-3 : tie.Need-add-flags-fit-3
+add-flags-fit-3 c = search needs
 
-mul-flags-byte-3 : tie.Need-mul-flags-byte-3
-mul-flags-byte-3 c = search needs
+mul-flags-fit-3 : tie.Need-mul-flags-fit-3
+mul-flags-fit-3 c = search needs
 
-shared-slice-read-flags-byte-3 : tie.Need-shared-slice-read-flags-byte-3
-shared-slice-read-flags-byte-3 c = search needs
+shared-slice-read-flags-fit-3 : tie.Need-shared-slice-read-flags-fit-3
+shared-slice-read-flags-fit-3 c = search needs
 
-flags-byte-requires : tie.Need-flags-byte-requires
-flags-byte-requires c κs = search needs
+flags-fit-requires : tie.Need-flags-fit-requires
+flags-fit-requires c κs = search needs
 
 returns : tie.Need-returns
 returns c =
-    let z = c .before .before .before .before .before .before .before .before in long-so (colsAt (z .args .conditions .now) (z .args .b))
-    (spelt-odd (c .before .flags-byte .ensures) (c .if1 .taken)) refl refl
+    let f = c .before in
+    let z = f .before .before .before .before .before .before .before in
+    long-so (colsAt (z .args .conditions .now) (z .args .b)) (sym (fit-line _) ∙ sym (f .flags-fit .ensures) ∙ not-true _ (c .if1 .taken)) refl refl
 
 plain-gain-requires : tie.Need-plain-gain-requires
 plain-gain-requires c κs = search needs
@@ -70,21 +72,27 @@ detail-bytes-requires c κs = search needs
 
 returns-2 : tie.Need-returns-2
 returns-2 c =
-    let z = c .before .before .before .before in let y = z .before .before .before .before .before .before .before .before .before in
-    c .detail-bytes .ensures ∙ long-so (colsAt (y .args .conditions .now) (y .args .b)) (spelt-fits (z .before .before .flags-byte .ensures)
-    (z .before .if1 .left)) (sym (z .plain-gain .ensures) ∙ c .before .before .before .if2 .taken) (sym
-    (c .before .before .plain-position .ensures) ∙ c .before .if3 .taken)
+    let g = c .before .before .before .before in
+    let f = g .before .before in
+    let z = f .before .before .before .before .before .before .before in
+    c .detail-bytes .ensures
+    ∙ long-so (colsAt (z .args .conditions .now) (z .args .b)) (sym (fit-line _) ∙ sym (f .flags-fit .ensures) ∙ not-false _ (g .before .if1 .left))
+    (sym (g .plain-gain .ensures) ∙ c .before .before .before .if2 .taken) (sym (c .before .before .plain-position .ensures) ∙ c .before .if3 .taken)
 
 returns-3 : tie.Need-returns-3
 returns-3 c =
-    let z = c .before .before .before in let y = z .before .before .before .before .before .before .before .before .before in
-    long-so (colsAt (y .args .conditions .now) (y .args .b)) (spelt-fits (z .before .before .flags-byte .ensures) (z .before .if1 .left))
-    (sym (z .plain-gain .ensures) ∙ c .before .before .if2 .taken) (sym (c .before .plain-position .ensures) ∙ c .if3 .left)
+    let g = c .before .before .before in
+    let f = g .before .before in
+    let z = f .before .before .before .before .before .before .before in
+    long-so (colsAt (z .args .conditions .now) (z .args .b)) (sym (fit-line _) ∙ sym (f .flags-fit .ensures) ∙ not-false _ (g .before .if1 .left))
+    (sym (g .plain-gain .ensures) ∙ c .before .before .if2 .taken) (sym (c .before .plain-position .ensures) ∙ c .if3 .left)
 
 returns-4 : tie.Need-returns-4
 returns-4 c =
-    let z = c .before .before .before .before .before .before .before .before .before .before in long-so (colsAt (z .args .conditions .now) (z .args .b))
-    (spelt-fits (c .before .before .before .flags-byte .ensures) (c .before .before .if1 .left)) (sym (c .before .plain-gain .ensures) ∙ c .if2 .left) refl
+    let g = c .before in
+    let f = g .before .before in
+    let z = f .before .before .before .before .before .before .before in
+    long-so (colsAt (z .args .conditions .now) (z .args .b)) (sym (fit-line _) ∙ sym (f .flags-fit .ensures) ∙ not-false _ (g .before .if1 .left)) (sym (g .plain-gain .ensures) ∙ c .if2 .left) refl
 
 pub plain-detail-spec : {M : Type 1} → statement M
 plain-detail-spec =
@@ -96,16 +104,16 @@ plain-detail-spec =
     add-position
     mul-position
     shared-slice-read-position
-    add-flags-byte
-    mul-flags-byte
-    shared-slice-read-flags-byte
-    add-flags-byte-2
-    mul-flags-byte-2
-    shared-slice-read-flags-byte-2
-    add-flags-byte-3
-    mul-flags-byte-3
-    shared-slice-read-flags-byte-3
-    flags-byte-requires
+    add-flags-fit
+    mul-flags-fit
+    shared-slice-read-flags-fit
+    add-flags-fit-2
+    mul-flags-fit-2
+    shared-slice-read-flags-fit-2
+    add-flags-fit-3
+    mul-flags-fit-3
+    shared-slice-read-flags-fit-3
+    flags-fit-requires
     returns
     plain-gain-requires
     plain-position-requires

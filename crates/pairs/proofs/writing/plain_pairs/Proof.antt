@@ -6,6 +6,7 @@ use Rattle.wire.proofs.writing.Plain.{Going, going-start, going-turn, going-odd
 use Rattle.pairs.specs.Write.{pairActs}
 use Rattle.pairs.proofs.Pairs.{pair-plain, pair-odd}
 use borrow.Author.Needs.{needs}
+use borrow.Author.Tests.{not-true, not-false}
 use Rattle.pairs.proofs.writing.plain_pairs.Statement.{statement}
 use Rattle.pairs.proofs.writing.plain_pairs.Tie as tie
 
@@ -25,17 +26,17 @@ loop-holds : tie.Need-loop-holds Inv-loop μ-loop
 loop-holds c =
     going-start _ 1 _
 
-add-pair-byte : tie.Need-add-pair-byte Inv-loop μ-loop
-add-pair-byte c = search needs
+add-pair-fits : tie.Need-add-pair-fits Inv-loop μ-loop
+add-pair-fits c = search needs
 
-pair-byte-requires : tie.Need-pair-byte-requires Inv-loop μ-loop
-pair-byte-requires c κs =
+pair-fits-requires : tie.Need-pair-fits-requires Inv-loop μ-loop
+pair-fits-requires c κs =
     omega (arith, c .before .before .before .before .before .pre, c .loop-test .taken)
 
 returns : tie.Need-returns Inv-loop μ-loop
 returns c =
     let z = c .before .before .before in going-odd (z .loop .inv) (pair-odd (z .before .before .before .before .args .table .now)
-    (z .before .before .before .before .args .r .first + z .loop .i) (c .before .pair-byte .ensures) (c .if1 .taken)) refl
+    (z .before .before .before .before .args .r .first + z .loop .i) (c .before .pair-fits .ensures) (not-true _ (c .if1 .taken))) refl
 
 add-i : tie.Need-add-i Inv-loop μ-loop
 add-i c = search needs
@@ -44,7 +45,7 @@ loop-less : tie.Need-loop-less Inv-loop μ-loop
 loop-less c = search needs
 
 loop-again : tie.Need-loop-again Inv-loop μ-loop
-loop-again c = search (needs, going-turn, pair-plain)
+loop-again c = search (needs, going-turn, pair-plain, not-false)
 
 returns-2 : tie.Need-returns-2 Inv-loop μ-loop
 returns-2 c =
@@ -59,8 +60,8 @@ plain-pairs-spec =
     cast-first
     cast-count
     loop-holds
-    add-pair-byte
-    pair-byte-requires
+    add-pair-fits
+    pair-fits-requires
     returns
     add-i
     loop-less

@@ -14,15 +14,6 @@ use borrow.Author.Needs.{needs}
 use Rattle.presets.proofs.writing.check_preset.Statement.{statement}
 use Rattle.presets.proofs.writing.check_preset.Tie as tie
 
-abbrev start : tie.After-check-all → tie.Start
-start c = c .before .before .before .before .before .before .before .before .before
-
-step-1 : (c : tie.After-check-all)
-    → Checked (frontActs preset (length (start c .args .conditions .now) / 13) (presetCols (start c .args .p))) 3 (At (start c .args .n)) (c .check-all .result)
-step-1 c =
-    rw front-acts
-    (then (rw (c .before .before .before .before .before .before .in-table .ensures) at (c .before .before .before .before .before .demand .ensures)) (then (met F.Field _) (then (c .before .before .before .demand2 .ensures) (all-checked (c .before .before .head-bytes .ensures) (c .check-all .ensures)))))
-
 in-table-requires : tie.Need-in-table-requires
 in-table-requires c κs = search needs
 
@@ -31,6 +22,18 @@ demand-requires c κs = search needs
 
 demand-requires-2 : tie.Need-demand-requires-2
 demand-requires-2 c κs = search needs
+
+abbrev start : tie.After-check-all → tie.Start
+start c = c .before .before .before .before .before .before .before .before .before .before
+
+step-1 : (c : tie.After-check-all)
+    → Checked (frontActs preset (length (start c .args .conditions .now) / 13) (presetCols (start c .args .p))) 3 (At (start c .args .n)) (c .check-all .result)
+step-1 c =
+    rw front-acts
+    (then (rw (c .before .before .before .before .before .before .before .in-table .ensures) at (c .before .before .before .before .before .before .demand .ensures)) (then (met F.Field _) (then (c .before .before .before .before .demand2 .ensures) (all-checked (c .before .before .head-bytes .ensures) (c .check-all .ensures)))))
+
+less-one-requires : tie.Need-less-one-requires
+less-one-requires c κs = search needs
 
 head-bytes-requires : tie.Need-head-bytes-requires
 head-bytes-requires c κs = search needs
@@ -58,9 +61,10 @@ cast-check-conditions-2 c = search needs
 
 check-conditions-requires : tie.Need-check-conditions-requires
 check-conditions-requires c κs =
-    let z = c .before .before .before .before .before .before .before .before .before .before .before .before .before .before in
-    let y = c .before .before .before in let f = preset-passed (z .args .conditions .now) (presetCols (z .args .p)) (step-1 (y .before .before))
-    (y .p2 .given .1) in let k = preset-near (z .args .conditions .now) (presetCols (z .args .p)) (step-1 (y .before .before)) (y .p2 .given .1) in
+    let z = c .before .before .before .before .before .before .before .before .before .before .before .before .before .before .before in
+    let y = c .before .before .before in
+    let f = preset-passed (z .args .conditions .now) (presetCols (z .args .p)) (step-1 (y .before .before)) (y .p2 .given .1) in
+    let k = preset-near (z .args .conditions .now) (presetCols (z .args .p)) (step-1 (y .before .before)) (y .p2 .given .1) in
     (f .inside, search needs, search (needs, k))
 
 returns-2 : tie.Need-returns-2
@@ -73,6 +77,7 @@ check-preset-spec =
     in-table-requires
     demand-requires
     demand-requires-2
+    less-one-requires
     head-bytes-requires
     slice-aggregate-check-all
     check-all-requires

@@ -10,17 +10,12 @@ two-requires c κs = search needs
 two-requires-2 : tie.Need-two-requires-2
 two-requires-2 c κs = search needs
 
-less-one-requires : tie.Need-less-one-requires
-less-one-requires c κs = search needs
-
 two-requires-3 : tie.Need-two-requires-3
 two-requires-3 c κs = search needs
 
 returns : tie.Need-returns
 returns c =
-    more (c .before .before .before .two .ensures)
-    (more (c .before .before .two2 .ensures) (more (rw (c .before .less-one .ensures) at (c .two3 .ensures)) none))
+    more (c .before .before .two .ensures) (more (c .before .two2 .ensures) (more (rw (c .before .before .before .pre) at (c .two3 .ensures)) none))
 
 pub head-bytes-spec : {M : Type 1} → statement M
-head-bytes-spec =
-    tie.close (tie.spec two-requires two-requires-2 less-one-requires two-requires-3 returns)
+head-bytes-spec = tie.close (tie.spec two-requires two-requires-2 two-requires-3 returns)

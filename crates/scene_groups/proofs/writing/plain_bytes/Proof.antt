@@ -8,27 +8,23 @@ use Rattle.scene_groups.proofs.writing.plain_bytes.Tie as tie
 bare-requires : tie.Need-bare-requires
 bare-requires c κs = search needs
 
-head-bytes-requires : tie.Need-head-bytes-requires
-head-bytes-requires c κs = search needs
-
-slice-aggregate-fits-all : tie.Need-slice-aggregate-fits-all
-slice-aggregate-fits-all c = search needs
-
-fits-all-requires : tie.Need-fits-all-requires
-fits-all-requires c κs = search needs
+head-fits-requires : tie.Need-head-fits-requires
+head-fits-requires c κs = search needs
 
 full-bytes-requires : tie.Need-full-bytes-requires
 full-bytes-requires c κs = search needs
 
 returns : tie.Need-returns
 returns c =
-    let z = c .before .before .before in let s = z .before .before .before .before .args in bare-so (groupCols (groupOf (s .groups .now) (s .b)))
-    (z .before .before .bare .ensures) (z .before .if1 .taken) (c .before .fits-all .ensures .of _ (z .head-bytes .ensures)) (c .if2 .taken)
+    let t = c .before .before in
+    let s = t .before .before .before .args in
+    bare-so (groupCols (groupOf (s .groups .now) (s .b))) (t .before .bare .ensures) (t .if1 .taken) (c .before .head-fits .ensures) (c .if2 .taken)
 
 returns-2 : tie.Need-returns-2
 returns-2 c =
-    let z = c .before .before .before in let s = z .before .before .before .before .args in bare-odd (groupCols (groupOf (s .groups .now) (s .b)))
-    (z .before .before .bare .ensures) (z .before .if1 .taken) (c .before .fits-all .ensures .of _ (z .head-bytes .ensures)) (c .if2 .left)
+    let t = c .before .before in
+    let s = t .before .before .before .args in
+    bare-odd (groupCols (groupOf (s .groups .now) (s .b))) (t .before .bare .ensures) (t .if1 .taken) (c .before .head-fits .ensures) (c .if2 .left)
 
 returns-3 : tie.Need-returns-3
 returns-3 c = search needs
@@ -36,12 +32,4 @@ returns-3 c = search needs
 pub plain-bytes-spec : {M : Type 1} → statement M
 plain-bytes-spec =
     tie.close
-    (tie.spec
-    bare-requires
-    head-bytes-requires
-    slice-aggregate-fits-all
-    fits-all-requires
-    full-bytes-requires
-    returns
-    returns-2
-    returns-3)
+    (tie.spec bare-requires head-fits-requires full-bytes-requires returns returns-2 returns-3)

@@ -1,43 +1,42 @@
 -- `plain_rows` counts the rows before the first that is not plain, and their bytes.
-use Prim.Native.Nat.{_+_, _-_}
+use Prim.Native.Nat.{_+_, _-_, _*_}
+use mathlib.Core.Path.{_≡_}
 use native.Mathlib.Omega.{arith}
 use Rattle.wire.specs.Pen.{Quick}
 use Rattle.wire.proofs.writing.Plain.{Going, going-start, going-turn, going-odd, going-end}
 use Rattle.scene_groups.specs.Write.{rowActs}
-use Rattle.scene_groups.proofs.Writes.{row-acts}
+use Rattle.scene_groups.proofs.Writes.{row-at}
 use borrow.Author.Needs.{needs}
 use Rattle.scene_groups.proofs.writing.plain_rows.Statement.{statement}
 use Rattle.scene_groups.proofs.writing.plain_rows.Tie as tie
 
 abbrev Inv-loop : tie.InvT-loop
-Inv-loop groups count bytes₀ i₀ bytes i = Going (rowActs groups) 13 count i bytes
+Inv-loop groups count bytes₀ i₀ b₀ bytes i b = (b ≡ i * 27) × Going (rowActs groups) 13 count i bytes
 
 abbrev μ-loop : tie.MeasureT-loop
-μ-loop groups count bytes₀ i₀ bytes i = count - i
+μ-loop groups count bytes₀ i₀ b₀ bytes i b = count - i
 
 -- what the quick test says of a row
 quick : (c : tie.After-plain-bytes Inv-loop μ-loop)
     → Quick (rowActs (c .before .before .before .before .args .groups .now) (c .before .before .loop .i)) 13 (c .plain-bytes .result)
-quick c = rw row-acts at (c .plain-bytes .ensures)
+quick c =
+    let z = c .before .before in rw (row-at (z .before .before .args .groups .now) (z .loop .b) (z .loop .i) (z .loop .inv .0)) at (c .plain-bytes .ensures)
 
 abbrev start : tie.Else1 Inv-loop μ-loop → tie.Start Inv-loop μ-loop
 start c = c .before .before .before .before .before
 
 turn : (c : tie.Else1 Inv-loop μ-loop) → Going (rowActs (start c .args .groups .now)) 13 (start c .args .count) (c .before .before .before .loop .i + 1)
     (c .before .before .before .loop .bytes + c .before .plain-bytes .result)
-turn c = let l = c .if1 .left in going-turn (c .before .before .before .loop .inv) (quick (c .before)) (c .before .before .loop-test .taken) (omega (arith, l))
+turn c = let l = c .if1 .left in going-turn (c .before .before .before .loop .inv .1) (quick (c .before)) (c .before .before .loop-test .taken) (omega (arith, l))
 
 loop-holds : tie.Need-loop-holds Inv-loop μ-loop
-loop-holds c = going-start _ 13 _
-
-mul-plain-bytes : tie.Need-mul-plain-bytes Inv-loop μ-loop
-mul-plain-bytes c = search needs
+loop-holds c = (omega arith, going-start _ 13 _)
 
 plain-bytes-requires : tie.Need-plain-bytes-requires Inv-loop μ-loop
-plain-bytes-requires c κs = omega arith
+plain-bytes-requires c κs = omega (arith, c .before .loop .inv .0, c .loop-test .taken, c .before .before .before .pre .0)
 
 returns : tie.Need-returns Inv-loop μ-loop
-returns c = going-odd (c .before .before .before .loop .inv) (quick (c .before)) (c .if1 .taken)
+returns c = going-odd (c .before .before .before .loop .inv .1) (quick (c .before)) (c .if1 .taken)
 
 add-bytes : tie.Need-add-bytes Inv-loop μ-loop
 add-bytes c = omega (arith, turn c .few, c .before .before .loop-test .taken, start c .pre .1)
@@ -45,14 +44,17 @@ add-bytes c = omega (arith, turn c .few, c .before .before .loop-test .taken, st
 add-i : tie.Need-add-i Inv-loop μ-loop
 add-i c = search needs
 
+add-b : tie.Need-add-b Inv-loop μ-loop
+add-b c = omega (arith, c .before .before .before .loop .inv .0, c .before .before .loop-test .taken, start c .pre .1)
+
 loop-less : tie.Need-loop-less Inv-loop μ-loop
 loop-less c = search needs
 
 loop-again : tie.Need-loop-again Inv-loop μ-loop
-loop-again c = turn c
+loop-again c = (omega (arith, c .before .before .before .loop .inv .0), turn c)
 
 returns-2 : tie.Need-returns-2 Inv-loop μ-loop
-returns-2 c = going-end (c .before .loop .inv) (c .loop-test .left)
+returns-2 c = going-end (c .before .loop .inv .1) (c .loop-test .left)
 
 pub plain-rows-spec : {M : Type 1} → statement M
 plain-rows-spec =
@@ -61,11 +63,11 @@ plain-rows-spec =
     Inv-loop
     μ-loop
     loop-holds
-    mul-plain-bytes
     plain-bytes-requires
     returns
     add-bytes
     add-i
+    add-b
     loop-less
     loop-again
     returns-2)

@@ -1,5 +1,6 @@
 -- `plain_bytes` sees the two shapes of a row that are without a fault; no other is.
 use Prim.Native.Nat.{_+_, _<_}
+use mathlib.Core.Path.{sym, _∙_}
 use native.Mathlib.Omega.{arith}
 use Rattle.wire.specs.Layout.{Columns}
 use Rattle.stream_groups.specs.Rows.{groupCols, groupOf}
@@ -15,7 +16,7 @@ cols c = groupCols (groupOf (c .args .groups .now) (c .args .b))
 abbrev start : tie.After-pair → tie.Start
 start c = c .before .before .before .before .before .before
 
-abbrev paired : tie.After-two → tie.After-pair
+abbrev paired : tie.After-two-fit → tie.After-pair
 paired c = c .before .before .before .before .before
 
 small : (c : tie.After-pair) → cols (start c) 1 < 65536
@@ -54,37 +55,37 @@ pair-requires c κs = search needs
 returns-2 : tie.Need-returns-2
 returns-2 c = let p = c .before in plain-main (cols (start p)) (p .pair .ensures) (p .before .before .before .if1 .left) (c .if2 .taken)
 
-add-two : tie.Need-add-two
-add-two c = search needs
+add-two-fit : tie.Need-add-two-fit
+add-two-fit c = search needs
 
-mul-two : tie.Need-mul-two
-mul-two c = search needs
+mul-two-fit : tie.Need-mul-two-fit
+mul-two-fit c = search needs
 
-shared-slice-read-two : tie.Need-shared-slice-read-two
-shared-slice-read-two c = search needs
+shared-slice-read-two-fit : tie.Need-shared-slice-read-two-fit
+shared-slice-read-two-fit c = search needs
 
-add-two-2 : tie.Need-add-two-2
-add-two-2 c = search needs
+add-two-fit-2 : tie.Need-add-two-fit-2
+add-two-fit-2 c = search needs
 
-mul-two-2 : tie.Need-mul-two-2
-mul-two-2 c = search needs
+mul-two-fit-2 : tie.Need-mul-two-fit-2
+mul-two-fit-2 c = search needs
 
-shared-slice-read-two-2 : tie.Need-shared-slice-read-two-2
-shared-slice-read-two-2 c = search needs
+shared-slice-read-two-fit-2 : tie.Need-shared-slice-read-two-fit-2
+shared-slice-read-two-fit-2 c = search needs
 
-two-requires : tie.Need-two-requires
-two-requires c κs = search needs
+two-fit-requires : tie.Need-two-fit-requires
+two-fit-requires c κs = search needs
 
 returns-3 : tie.Need-returns-3
 returns-3 c =
     let p = paired (c .before) in
-    plain-located (cols (start p)) (p .pair .ensures) (small p) (c .before .before .before .before .if3 .taken) (c .before .two .ensures)
-    (p .before .before .before .if1 .left) (c .if4 .taken)
+    plain-located (cols (start p)) (p .pair .ensures) (small p) (c .before .before .before .before .if3 .taken) (p .before .before .before .if1 .left)
+    (sym (c .before .two-fit .ensures) ∙ c .if4 .taken)
 
 returns-4 : tie.Need-returns-4
 returns-4 c =
     let p = paired (c .before) in
-    odd-location (cols (start p)) (p .pair .ensures) (small p) (c .before .before .before .before .if3 .taken) (c .before .two .ensures) (c .if4 .left)
+    odd-location (cols (start p)) (p .pair .ensures) (small p) (c .before .before .before .before .if3 .taken) (sym (c .before .two-fit .ensures) ∙ c .if4 .left)
 
 returns-5 : tie.Need-returns-5
 returns-5 c = let p = c .before .before in odd-flags (cols (start p)) (p .pair .ensures) (c .before .if2 .left) (c .if3 .left)
@@ -104,13 +105,13 @@ plain-bytes-spec =
     shared-slice-read-pair-2
     pair-requires
     returns-2
-    add-two
-    mul-two
-    shared-slice-read-two
-    add-two-2
-    mul-two-2
-    shared-slice-read-two-2
-    two-requires
+    add-two-fit
+    mul-two-fit
+    shared-slice-read-two-fit
+    add-two-fit-2
+    mul-two-fit-2
+    shared-slice-read-two-fit-2
+    two-fit-requires
     returns-3
     returns-4
     returns-5)
