@@ -1,15 +1,19 @@
--- No second outcome meets a promise of `Reader`: the body and the position decide the answer and where the reader stands afterwards.
-use Prim.Native.Nat.{ℕ}
+-- No second outcome meets a promise of `Reader`: the body and the position decide the answer and where the reader stands afterwards. And a run of length 0 succeeds.
+use Prim.Native.Nat.{ℕ, _≤_}
 use mathlib.Core.List.{List}
 use mathlib.Core.Path.{_≡_, refl, sym, ap, _∙_}
-use denote.Ref.{RefT}
-use Rattle.wire.specs.Prog.{Out, done, short}
+use native.Mathlib.Nat.{add-zero}
+use native.Mathlib.Omega.{arith}
+use lib.ListN.{length}
+use denote.Ref.{RefT, now}
+use Rattle.wire.specs.Prog.{Out, done, short, run, pass}
 use Rattle.wire.specs.Reads.{byteOut, runOut}
 use Rattle.wire.specs.declared.reads.Byte.{Byte}
 use Rattle.wire.specs.declared.reads.Byte.the-variants as B
 use Rattle.wire.specs.declared.reads.Run.{Run}
 use Rattle.wire.specs.declared.reads.Run.the-variants as R
-use Rattle.reader.specs.Reading.{ReadsByte, TakesRun, GivesRest}
+use Rattle.wire.proofs.reading.Steps.{got-run}
+use Rattle.reader.specs.Reading.{told, after, ReadsByte, TakesRun, GivesRest}
 use Rattle.reader.specs.declared.Reader.{Reader}
 
 -- an answer back from its outcome
@@ -44,3 +48,9 @@ run-once {n = n} {n₂ = n₂} f g = (sym (run-back n) ∙ (ap runFrom (f .is �
 -- and what is left
 pub rest-once : {r r′ r″ : Reader} {s s₂ : List ℕ} → GivesRest r s r′ → GivesRest r s₂ r″ → (s ≡ s₂) × (r′ ≡ r″)
 rest-once f g = (f .is ∙ sym (g .is), same-reader (f .same) (g .same) (f .moved) (g .moved))
+
+-- a run of length 0 succeeds in the body, also at its end, and leaves the reader where it stands
+pub none-taken : {r r′ : Reader} {n : Run} → r .pos ≤ length (now (r .body)) → TakesRun 0 r n r′ → (n ≡ R.Got (r .pos) (r .pos)) × (r′ .pos ≡ r .pos)
+none-taken {r} {r′} {n} h t =
+    let e : run (pass 0) (now (r .body)) (r .pos) ≡ done (r .pos) (r .pos) = got-run (now (r .body)) (r .pos) 0 (omega arith) ∙ ap (done (r .pos)) (add-zero (r .pos)) in
+    (sym (run-back n) ∙ ap runFrom (t .is ∙ ap told e), t .moved ∙ ap (after (r .pos)) e)

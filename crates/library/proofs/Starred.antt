@@ -24,7 +24,7 @@ use Rattle.scopes.specs.Layout as Scopes
 use Rattle.downmixes.specs.Layout as Downmixes
 use Rattle.drc_kind.specs.Layout as DrcLayout
 use Rattle.drc_kind.specs.Kind as Drc
-use Rattle.starred.specs.Starred.{Holds, starred as stars, Starred}
+use Rattle.library.specs.Starred.{Holds, starred as stars, Starred}
 
 pub starred : Starred
 unfolding reading tallying onto into judging placing run u8 pass many _>>=_ needs firstTable otherTables room lacking filled flatten flatMap sum firsts ones onesIn Base.kind BaseLayout.head each split total put puts reads shown cells tally SceneLayout.groups SceneLayout.switchGroups SceneLayout.presets Body.layouts Body.carried Body.parse Body.withPlace Body.tables Body.zeros Scene.kind TextLabel.kind TextLabelLayout.head TextLabelLayout.groups TextLabelLayout.switchGroups TextLabelLayout.presets ranged MultiStream.kind MultiStreamLayout.head StreamGroups.group has Scopes.scope Pairs.pair Downmixes.downmix DrcLayout.head Drc.kind
