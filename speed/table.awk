@@ -25,10 +25,13 @@ function bars(operation, side, limit, from, mean) {
 }
 
 # Our instructions over those of a side; what that adds to its bars.
-function ratio(key, operation, side,    r) {
+function ratio(key, operation, side,    r, own) {
     r = cost[key, operation, "ours"] / cost[key, operation, side]
     logs[operation, side] += log(r)
     many[operation, side]++
+    split(key, own, " ")
+    kindLogs[operation, side, own[1]] += log(r)
+    kindMany[operation, side, own[1]]++
     if (bytes[key] >= least[operation, side] && r > most[operation, side])
         missed[operation, side] = missed[operation, side] (missed[operation, side] == "" ? ": " : ", ") label(key) sprintf(" (%.2f)", r)
     return r
@@ -53,6 +56,10 @@ function judge(operation, side, text,    mean, on) {
     bar(sprintf("%s at most %.2f as geometric mean", text, middle[operation, side]), mean <= middle[operation, side], sprintf(", %.2f over %d", mean, many[operation, side]))
 }
 
+function kindMean(operation, side, kind) {
+    return exp(kindLogs[operation, side, kind] / kindMany[operation, side, kind])
+}
+
 function bar(text, ok, more) {
     printf "- %s: %s%s\n", text, ok ? "met" : "**missed**", more
     if (!ok)
@@ -74,6 +81,11 @@ END {
     print "\nAgainst the Rust at its best:\n"
     judge("read", "best", "reading")
     judge("write", "best", "writing")
+    print "\nGeometric means to the Rust at its best, by kind (the bars are on those over all):\n"
+    print "| Kind | Reading | Writing |"
+    print "|---|--:|--:|"
+    for (i = 1; i <= 5; i++)
+        printf "| %s | %.2f | %.2f |\n", kinds[i], kindMean("read", "best", i), kindMean("write", "best", i)
     print "\nOur instructions per byte, from short to long:\n"
     print "| Kind | Bytes | Reading | Writing |"
     print "|---|--:|--:|--:|"
