@@ -1,5 +1,5 @@
 -- The actions of a condition part by part, and what its two passes do with them.
-use Prim.Native.Nat.{ℕ, _+_, _*_, _^_, _<_, _≤_}
+use Prim.Native.Nat.{ℕ, _+_, _*_, _^_}
 use mathlib.Core.Path.{_≡_, refl, sym, ap, subst, _∙_}
 use mathlib.Core.List.{List, [], _∷_, _++_, append-nil, map, flatten}
 use mathlib.Core.Bool.{Bool, true, false, _&&_, and-true}
@@ -7,13 +7,14 @@ use native.Mathlib.Omega.{arith}
 use native.Mathlib.Nat.{add-zero}
 use lib.ListN.{length}
 use lib.Dec.{eqb, ltb}
-use borrow.Author.Tests.{eq-eqb, ne-eqb, leb-true, le-ltb, lt-ltb}
+use borrow.Author.Tests.{eq-eqb, ne-eqb, leb-true}
 use Rattle.wire.specs.Bits.{Field, field, isFlag, fit}
 use Rattle.wire.specs.Act.{Act, demand, byte, when, pick}
 use Rattle.wire.specs.Pen.{Quick, Ready, Filled, clean, bytes}
 use Rattle.wire.specs.Layout.{Columns, at, flatActs, writes, shown, cells, matched, every, counted, flagged, fieldOf}
 use Rattle.wire.specs.Spell.{Spells, Spelt, none, more, fieldsOf, fitAll, ReadyAll, FillsAll}
 use Rattle.wire.specs.declared.pen.Fault.the-variants as F
+use Rattle.wire.proofs.Fields.{fit-more}
 use Rattle.wire.proofs.writing.Acts.{and-both, both-and, clean-append}
 use Rattle.wire.proofs.layouts.Cells.{fit-flags}
 use Rattle.wire.proofs.writing.Passes.{quick-clean, quick-odd, Filling, fill-start, fill-demand, fill-turn, fill-end}
@@ -179,17 +180,10 @@ flags-fit r g p h q e f = (λ i. e i && f i) ∙ go (ltb r (2 ^ 4)) (ltb g (2 ^ 
 pub position-fit : (p : PresetPosition) {x y : Bool}
     → x ≡ fit (field 8 (p .«az_offset») ∷ field 2 (p .«reserved_el») ∷ field 6 (p .«el_offset») ∷ field 4 (p .«reserved_dist») ∷ []) → y ≡ ltb (p .«dist_factor») (2 ^ 4)
     → x && y ≡ fitAll (positionFields p)
-unfolding fit flatten
+unfolding flatten
 position-fit p e f =
-    (λ i. e i && f i) ∙ go (ltb (p .«az_offset») (2 ^ 8)) (ltb (p .«reserved_el») (2 ^ 2)) (ltb (p .«el_offset») (2 ^ 6)) (ltb (p .«reserved_dist») (2 ^ 4)) (ltb (p .«dist_factor») (2 ^ 4))
+    (λ i. e i && f i) ∙ sym (fit-more (field 8 (p .«az_offset») ∷ field 2 (p .«reserved_el») ∷ field 6 (p .«el_offset») ∷ field 4 (p .«reserved_dist») ∷ []) 4 (p .«dist_factor»))
     ∙ fit-flat (positionFields p)
-  where
-    go : (a b c d e : Bool) → (a && (b && (c && (d && true)))) && e ≡ a && (b && (c && (d && (e && true))))
-    go true true true true e = sym (and-true e)
-    go true true true false e = refl
-    go true true false d e = refl
-    go true false c d e = refl
-    go false b c d e = refl
 
 -- ---- a row of the table
 

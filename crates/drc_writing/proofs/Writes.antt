@@ -22,7 +22,6 @@ use Rattle.wire.proofs.writing.Plain.{clean-all}
 use Rattle.frame.specs.Kind.{Lent}
 use Rattle.frame.specs.Sight.{headActs}
 use Rattle.frame.specs.Body.{layouts, inside, pieced, beyond, table}
-use Rattle.frame.proofs.Bare.{absent-within}
 use Rattle.frame.proofs.Pieces.{and-true}
 use Rattle.drc_kind.specs.declared.rows.DrcLoudnessInfo.{DrcLoudnessInfo}
 use Rattle.drc_kind.specs.declared.rows.Info.{Info}
@@ -129,4 +128,4 @@ pub bare-acts : (m : MpegH3dAudioDrcLoudness) (lent : Lent) (store : List ℕ) �
 unfolding drcActs infoActs allWithin
 bare-acts m lent store e =
     let i = m .info .part in
-    rw (not-true (m .info .present) e, absent-within (i .«drc_instructions») 24 (table 0 lent), absent-within (i .«loudness_infos») 7 (table 2 lent), absent-within (i .«downmix_definitions») 4 (table 3 lent))
+    rw (not-true (m .info .present) e, sym (within-absent false (i .«drc_instructions») 24 (table 0 lent) refl), sym (within-absent false (i .«loudness_infos») 7 (table 2 lent) refl), sym (within-absent false (i .«downmix_definitions») 4 (table 3 lent) refl))

@@ -1,15 +1,14 @@
 -- Writing a value that is its head and its trailing run: both passes, and that a kind's own value of this shape is written so.
-use Prim.Native.Nat.{ℕ, suc, _+_, _/_, _^_, _≤_, _<_}
-use mathlib.Core.Bool.{true, false}
+use Prim.Native.Nat.{ℕ, suc, _+_, _^_, _≤_, _<_}
+use mathlib.Core.Bool.{true}
 use mathlib.Core.List.{List, [], _∷_, _++_, map}
 use mathlib.Core.Path.{_≡_, refl, sym, ap, _∙_}
 use native.Mathlib.Omega.{arith}
 use lib.ListN.{length}
 use lib.Dec.{leb}
 use lib.Seq.{slice}
-use borrow.Author.Tests.{le-leb}
 use Rattle.wire.specs.Bits.{Field}
-use Rattle.wire.specs.Act.{Act, demand, byte, copy, within, settle}
+use Rattle.wire.specs.Act.{Act, demand, byte, copy, settle}
 use Rattle.wire.specs.Pen.{Checked, CheckedRun, Ready, Filled, bytes}
 use Rattle.wire.specs.Spell.{Spelt, none, more}
 use Rattle.wire.specs.declared.rows.Payload.{Payload}
@@ -57,11 +56,6 @@ module _ (fss : List (List Field)) (run : Payload) (store : List ℕ) where
           → Filled (allActs (headKind fss) run [] store) 0 out n′ o′
       unfolding headKind
       bare-filled v = all-filled (headKind fss) {own = headActs fss} refl ready long with-tests v
-
--- a list that is not there stands in any table
-pub absent-within : (count columns : ℕ) (t : List ℕ) → within false count columns t ≡ true
-unfolding within
-absent-within count columns t = le-leb 0 (length t / columns) (omega arith)
 
 -- a value of any kind that acts so
 pub bare-writes : {Tree Top Value : Type 0} (K : Kind Tree Top Value) (m : Top) (lent : Lent) (store out : List ℕ) (fss : List (List Field)) {r : Answer ℕ} {after : List ℕ}

@@ -16,11 +16,11 @@ use Rattle.wire.specs.declared.pen.Fault.the-variants as F
 use Rattle.wire.specs.Layout.{Columns, end, one, num, reserved, flag, blank, set, put, puts, reads, row, flat, cells, matches, matched, shown, writes, every, has}
 use Rattle.wire.proofs.reading.Runs.{bind-assoc}
 use Rattle.wire.proofs.Fields.{part-below}
+use Rattle.wire.proofs.writing.Parts.{within-absent}
 use Rattle.frame.specs.Kind.{Lent}
 use Rattle.frame.specs.Sight.{headActs}
 use Rattle.frame.specs.Entry.{firstTable}
 use Rattle.frame.specs.Body.{layouts, parse, inside, pieced, beyond}
-use Rattle.frame.proofs.Bare.{absent-within}
 use Rattle.frame.proofs.Pieces.{and-true}
 use Rattle.stream_groups.specs.Layout as G
 use Rattle.multi_stream.specs.declared.rows.MpegH3dAudioMultiStream.{MpegH3dAudioMultiStream}
@@ -104,4 +104,4 @@ acts-are m t store = written-so m (t ∷ []) store
 -- without a main part the actions are those of the head alone
 pub bare-acts : (m : MpegH3dAudioMultiStream) (t : List ℕ) → not (m .main .present) ≡ true → multiStreamActs m t ≡ headActs (headFields m)
 unfolding multiStreamActs mainActs
-bare-acts m t e = rw (not-true (m .main .present) e, absent-within (m .main .part .groups) 5 t)
+bare-acts m t e = rw (not-true (m .main .present) e, sym (within-absent false (m .main .part .groups) 5 t refl))

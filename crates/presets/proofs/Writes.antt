@@ -1,5 +1,5 @@
 -- The actions of a preset: its demands and three bytes, and its conditions.
-use Prim.Native.Nat.{ℕ, zero, suc, _+_, _-_, _*_, _/_, _<_, _≤_, _^_}
+use Prim.Native.Nat.{ℕ, _+_, _-_, _*_, _/_, _<_, _≤_, _^_}
 use mathlib.Core.Path.{_≡_, refl, sym, ap, _∙_}
 use mathlib.Core.List.{List, [], _∷_, _++_, map, flatten}
 use mathlib.Core.Bool.{Bool, true, false, _&&_, and-true, and-false}
@@ -14,6 +14,7 @@ use Rattle.wire.specs.Pen.{Checked, Quick, Ready, clean, bytes}
 use Rattle.wire.specs.Layout.{num, reserved, Columns, at, fieldOf, writes, shown, cells, matches, matched, every, has, familyActs, brokenActs}
 use Rattle.wire.specs.Spell.{PlainRows, PlainRun, fieldsOf, fitAll}
 use Rattle.wire.specs.declared.pen.Fault.the-variants as F
+use Rattle.wire.proofs.Fields.{less-one-fits}
 use Rattle.wire.proofs.writing.Acts.{and-both}
 use Rattle.wire.proofs.writing.Plain.{clean-all}
 use Rattle.wire.proofs.writing.Passes.{here, nothing, Filling}
@@ -79,15 +80,11 @@ most-16 g e =
     omega (arith, ltb-true (g 6 - 1) (2 ^ 4) m)
 
 -- the quick test of the three bytes: four columns, then the count and the reserved bits before it
-count-fits : (c : ℕ) → leb c 16 ≡ ltb (c - 1) (2 ^ 4)
-count-fits zero = refl
-count-fits (suc c) = let e : c ≡ suc c - 1 = omega arith in ap (λ (k : ℕ). ltb k 16) e
-
 pub front-fits : (p : GroupPreset) {x y : Bool} → x ≡ fit (field 3 (p .«reserved_id») ∷ field 5 (p .«preset_id» .0) ∷ field 3 (p .«reserved_kind») ∷ field 5 (p .«preset_kind») ∷ [])
     → y ≡ ltb (p .«reserved_conditions») (2 ^ 4) → x && ((leb 1 (p .conditions .count) && leb (p .conditions .count) 16) && y) ≡ leb 1 (p .conditions .count) && fitAll (headFields p)
 unfolding fit fitAll
 front-fits p e f =
-    (λ i. e i && ((leb 1 (p .conditions .count) && count-fits (p .conditions .count) i) && f i))
+    (λ i. e i && ((leb 1 (p .conditions .count) && less-one-fits (p .conditions .count) 4 i) && f i))
     ∙ go (ltb (p .«reserved_id») (2 ^ 3)) (ltb (p .«preset_id» .0) (2 ^ 5)) (ltb (p .«reserved_kind») (2 ^ 3)) (ltb (p .«preset_kind») (2 ^ 5)) (leb 1 (p .conditions .count))
     (ltb (p .conditions .count - 1) (2 ^ 4)) (ltb (p .«reserved_conditions») (2 ^ 4))
   where

@@ -2,7 +2,7 @@
 use Prim.Native.Nat.{ℕ, _^_, _<_}
 use mathlib.Core.List.{List, [], _∷_, _++_, append-nil, map, flatten}
 use mathlib.Core.Bool.{Bool, true, false, not, _&&_, _||_}
-use mathlib.Core.Path.{_≡_, refl, _∙_}
+use mathlib.Core.Path.{_≡_, refl, sym, _∙_}
 use native.Mathlib.Omega.{arith}
 use borrow.Author.Tests.{not-true}
 use Rattle.wire.specs.Lists.{each}
@@ -15,13 +15,12 @@ use Rattle.wire.specs.declared.pen.Pen.{Pen}
 use Rattle.wire.specs.declared.pen.Pen.the-variants.{At}
 use Rattle.wire.proofs.Fields.{fits-cons}
 use Rattle.wire.proofs.writing.Acts.{and-both}
-use Rattle.wire.proofs.writing.Parts.{part-begins}
+use Rattle.wire.proofs.writing.Parts.{part-begins, within-absent}
 use Rattle.wire.proofs.writing.Passes.{byte-fits, Filling}
 use Rattle.wire.specs.Layout.{cells, matches, matched, shown, writes, every, has}
 use Rattle.frame.specs.Kind.{Lent}
 use Rattle.frame.specs.Sight.{headActs}
 use Rattle.frame.specs.Body.{layouts, inside, pieced, beyond, table}
-use Rattle.frame.proofs.Bare.{absent-within}
 use Rattle.frame.proofs.Pieces.{and-true}
 use Rattle.scene_kind.specs.declared.rows.Section.{Section}
 use Rattle.scene_kind.specs.declared.rows.MpegH3dAudioScene.{MpegH3dAudioScene}
@@ -100,7 +99,7 @@ pub bare-acts : (m : MpegH3dAudioScene) (lent : Lent) → not (m .groups .presen
 unfolding sceneActs sectionActs
 bare-acts m lent e =
     let (g, s, p) = none-of (m .groups .present) (m .«switch_groups» .present) (m .presets .present) (not-true _ e) in
-    rw (g, s, p, absent-within (m .groups .count) 27 (table 0 lent), absent-within (m .«switch_groups» .count) 9 (table 1 lent), absent-within (m .presets .count) 7 (table 3 lent))
+    rw (g, s, p, sym (within-absent false (m .groups .count) 27 (table 0 lent) refl), sym (within-absent false (m .«switch_groups» .count) 9 (table 1 lent) refl), sym (within-absent false (m .presets .count) 7 (table 3 lent) refl))
   where
     none-of : (a b c : Bool) → a || (b || c) ≡ false → (a ≡ false) × (b ≡ false) × (c ≡ false)
     none-of false false false e = (refl, refl, refl)

@@ -1,5 +1,5 @@
 -- Switch groups written: what the two passes do with a row and its members.
-use Prim.Native.Nat.{ℕ, zero, suc, _+_, _*_, _-_, _/_, _^_, _≤_}
+use Prim.Native.Nat.{ℕ, _+_, _*_, _-_, _/_, _^_, _≤_}
 use mathlib.Core.Path.{_≡_, refl, sym, ap, subst, _∙_}
 use mathlib.Core.List.{List, [], _∷_, _++_, map, flatten}
 use mathlib.Core.Bool.{Bool, true, false, _&&_, and-true, and-assoc}
@@ -18,7 +18,7 @@ use Rattle.wire.specs.declared.pen.Fault.the-variants as F
 use Rattle.wire.specs.declared.pen.Pen.{Pen}
 use Rattle.wire.specs.declared.pen.Pen.the-variants.{At, Stop}
 use Rattle.wire.proofs.writing.Acts.{and-both}
-use Rattle.wire.proofs.Fields.{fits-cons}
+use Rattle.wire.proofs.Fields.{fits-cons, less-one-fits}
 use Rattle.wire.proofs.writing.Passes.{then, here, Filling, fill-end}
 use Rattle.wire.proofs.writing.Plain.{all-checked, clean-all, ready-part, fill-part}
 use Rattle.wire.proofs.layouts.Cells.{all, distinct, free, eights, proper}
@@ -45,11 +45,6 @@ row-quick t u i {k = k} e z q = subst (λ (l : List Act). Quick l 35 k) (ap (swi
 
 -- ---- its own fields, by the tests of a plain row
 
--- a count that is stored minus one
-count-fits : (c : ℕ) → leb c 32 ≡ ltb (c - 1) (2 ^ 5)
-count-fits zero = refl
-count-fits (suc c) = let e : c ≡ suc c - 1 = omega arith in ap (λ (k : ℕ). ltb k 32) e
-
 module _ (g : SwitchGroup) where
   abbrev pub idFits : Bool
   idFits = fit (map (fieldOf (switchGroupCols g)) idCells)
@@ -60,7 +55,7 @@ module _ (g : SwitchGroup) where
   pub fields-so : ((idFits && ltb (g .«reserved_members») (2 ^ 3)) && leb (g .members .count) 32) && defaultFits ≡ fitAll (headFields g) && fitAll (defaultFields g)
   unfolding fitAll fit
   fields-so =
-      ap (λ (b : Bool). ((idFits && ltb (g .«reserved_members») (2 ^ 3)) && b) && defaultFits) (count-fits (g .members .count))
+      ap (λ (b : Bool). ((idFits && ltb (g .«reserved_members») (2 ^ 3)) && b) && defaultFits) (less-one-fits (g .members .count) 5)
       ∙ regroup idFits (ltb (g .«reserved_members») (2 ^ 3)) (ltb (g .members .count - 1) (2 ^ 5)) defaultFits
     where
       regroup : (a b c d : Bool) → ((a && b) && c) && d ≡ (a && ((b && (c && true)) && true)) && (d && true)

@@ -1,17 +1,17 @@
 -- Rows that are plain, counted by a loop; the row that stopped it is looked at after the loop.
-use Prim.Native.Nat.{ℕ, zero, suc, _+_, _-_, _*_, _^_, _≤_, _<_}
+use Prim.Native.Nat.{ℕ, zero, suc, _+_, _-_, _*_, _≤_, _<_}
 use mathlib.Core.Path.{_≡_, refl, sym, ap, subst, _∙_}
 use mathlib.Core.List.{List, [], _∷_, _++_, append-nil, map, flatten}
-use mathlib.Core.Bool.{Bool, true, false, _&&_, and-true, and-assoc}
+use mathlib.Core.Bool.{Bool, true, false, _&&_, and-true}
 use native.Mathlib.Omega.{arith}
 use native.Mathlib.Nat.{add-zero, sub-zero, mul-suc, mul-le-mul-left}
 use native.Mathlib.Numerals.{add-one}
 use lib.ListN.{length}
 use lib.Seq.{length-sets}
-use lib.Dec.{eqb, ltb}
+use lib.Dec.{eqb}
 use borrow.Author.Tests.{ne-eqb, leb-true}
 use Rattle.wire.specs.Lists.{each}
-use Rattle.wire.specs.Bits.{Field, field, isFlag, fit}
+use Rattle.wire.specs.Bits.{Field, isFlag, fit}
 use Rattle.wire.specs.Act.{Act, demand, byte, when, pick, rows}
 use Rattle.wire.specs.Pen.{look, glance, looks, Checked, Quick, Ready, Filled, clean, bytes}
 use Rattle.wire.specs.declared.pen.Fault.{Fault}
@@ -19,6 +19,7 @@ use Rattle.wire.specs.declared.pen.Fault.the-variants as F
 use Rattle.wire.specs.declared.pen.Pen.{Pen}
 use Rattle.wire.specs.declared.pen.Pen.the-variants.{At, Stop}
 use Rattle.wire.specs.Spell.{PlainRows, PlainRun, fitAll, Spelt, ChecksAll, ReadyAll, FillsAll}
+use Rattle.wire.proofs.Fields.{fit-append}
 use Rattle.wire.proofs.writing.Passes.{looks-append, then, more, rows-turn, rows-end, Checking, check-odd, check-end, quick-clean, quick-odd, Filling, fill-start, fill-demand, fill-row, fill-turn, fill-end}
 use Rattle.wire.proofs.writing.Spelling.{spelt-long}
 
@@ -91,10 +92,6 @@ pub fit-flat : (fss : List (List Field)) → fit (flatten fss) ≡ fitAll fss
 unfolding fit fitAll flatten
 fit-flat [] = refl
 fit-flat (fs ∷ fss) = fit-append fs (flatten fss) ∙ ap (λ (b : Bool). fit fs && b) (fit-flat fss)
-  where
-    fit-append : (fs gs : List Field) → fit (fs ++ gs) ≡ fit fs && fit gs
-    fit-append [] gs = refl
-    fit-append (field w v ∷ fs) gs = ap (λ (b : Bool). ltb v (2 ^ w) && b) (fit-append fs gs) ∙ sym (and-assoc (ltb v (2 ^ w)) (fit fs) (fit gs))
 
 -- a line of bytes is clean if all fit
 pub clean-all : (fss : List (List Field)) → clean (map byte fss) ≡ fitAll fss
