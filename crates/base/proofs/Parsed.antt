@@ -37,11 +37,11 @@ use Rattle.base.specs.Contract.{sized}
 use Rattle.base.proofs.Mirrored.{turned, mirrored}
 
 -- a program whose last part is this one ends where that ends
-end-last : {A B : Type 0} (p : Prog A) (g : A → B) {whole-byte : Prog B} {s : List ℕ} {start at : ℕ} → From whole-byte s start (p >>= λ a. ret (g a)) at
-    → endOf (run p s at) ≡ endOf (run whole-byte s start)
-end-last {A} p g {whole-byte} {s} {start} {at} w = go (run p s at) refl
+end-last : {A B : Type 0} (p : Prog A) (g : A → B) {whole : Prog B} {s : List ℕ} {start at : ℕ} → From whole s start (p >>= λ a. ret (g a)) at
+    → endOf (run p s at) ≡ endOf (run whole s start)
+end-last {A} p g {whole} {s} {start} {at} w = go (run p s at) refl
   where
-    go : (o : Out A) → run p s at ≡ o → endOf o ≡ endOf (run whole-byte s start)
+    go : (o : Out A) → run p s at ≡ o → endOf o ≡ endOf (run whole s start)
     go (done a n) e = ap endOf (finished (onward p (λ a. ret (g a)) w refl e) refl)
     go (short x) e = ap endOf (cut-off p (λ a. ret (g a)) w refl e (sym (ap shortOf e)))
 
