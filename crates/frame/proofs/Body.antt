@@ -15,14 +15,14 @@ use Rattle.wire.specs.Prog.{Prog, ret, span, Within, _>>=_}
 use Rattle.wire.specs.Act.{Act, demand, byte, copy, pick, rows}
 use Rattle.wire.specs.declared.pen.Fault.the-variants as F
 use Rattle.wire.specs.declared.rows.Payload.{Payload}
-use Rattle.wire.specs.Pen.{clean, bytes}
+use Rattle.wire.specs.Pen.{clean}
 use Rattle.wire.specs.Layout.{Cell, Columns, of, row, set, cells, every, flagged, columns, has, kept, blank, demands}
 use Rattle.wire.proofs.Lists.{every-right}
 use Rattle.wire.proofs.writing.Acts.{and-both}
 use Rattle.wire.proofs.reading.Takes.{Takes, map-takes}
 use Rattle.wire.proofs.layouts.Codec.{Codec, Spells}
 use Rattle.wire.proofs.layouts.Cells.{On, sound, clash, mix-in, mix-all}
-use Rattle.wire.proofs.layouts.Forms.{Form, form-read, form-goes, form-means, form-shown, form-all, form-proper, form-in-bytes, form-shown-in, below, row-of, rows-of, Row-fits, means-as, means-same, alike, row-ready, row-bytes, Faultless}
+use Rattle.wire.proofs.layouts.Forms.{Form, form-read, form-goes, form-means, form-shown, form-all, form-proper, form-in-bytes, form-shown-in, below, row-of, rows-of, Row-fits, means-as, means-same, row-ready, row-bytes, Faultless}
 use Rattle.wire.proofs.layouts.Rowed.{row-on, on-all}
 use Rattle.frame.specs.Kind.{Lent, Rows, Held}
 use Rattle.frame.specs.Claims.{Agree}

@@ -10,7 +10,7 @@ use lib.Seq.{sets}
 use borrow.Author.Tests.{eq-eqb}
 use Rattle.wire.specs.Lists.{each, sum}
 use Rattle.wire.specs.Bits.{part, total, split, zeros}
-use Rattle.wire.specs.Prog.{Prog, ret, Out, done, short, span, run, u8, many, _>>=_}
+use Rattle.wire.specs.Prog.{Prog, ret, Out, done, span, run, u8, many, _>>=_}
 use Rattle.wire.specs.Reads.{mapOut, endOf, isDone, posOf, rowsOf, shortOf, byteOut, endsOut, ByteRead, Summed}
 use Rattle.wire.specs.Layout.{of, put, has, shown, cells, tally, Borne, bearing, borneRow, borneTally}
 use Rattle.wire.specs.Straight.{ends, ones, putsAt, took}

@@ -11,7 +11,7 @@ use lib.Count.{ones, onesIn}
 use Rattle.wire.specs.Lists.{Every, all-nil, all-cons, each, sum, firsts, Byte}
 use Rattle.wire.specs.Bits.{split, total}
 use Rattle.wire.specs.Prog.{run, u8, pass, many, _>>=_}
-use Rattle.wire.specs.Layout.{of, reads, put, puts, shown, cells, tally}
+use Rattle.wire.specs.Layout.{reads, put, puts, shown, cells, tally}
 use Rattle.wire.proofs.Lists.{every-each}
 use Rattle.frame.specs.Kind.{Lent}
 use Rattle.frame.specs.Numbers.{accepted, refuses}

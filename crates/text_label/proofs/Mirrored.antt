@@ -5,8 +5,7 @@ use native.Mathlib.Nat.{add-zero}
 use mathlib.Core.Path.{_≡_, refl, sym, ap, _∙_}
 use mathlib.Core.List.{List, [], _∷_, _++_, append-nil, map, flatten}
 use mathlib.Core.Bool.{Bool, true, _&&_}
-use lib.ListN.{length, getD, drop}
-use lib.Seq.{getD-drop}
+use lib.ListN.{length, getD}
 use lib.Dec.{leb}
 use Rattle.wire.specs.Lists.{each}
 use Rattle.wire.specs.Bits.{part, total, split}

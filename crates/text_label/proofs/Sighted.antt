@@ -1,7 +1,7 @@
 -- What is known of a body that was measured: its sizes, its record, its tally, and that filling tables 6 and 7 gives the rows of the tree.
 use Prim.Native.Nat.{ℕ, _+_, _*_, _/_, _≤_, _<_}
 use mathlib.Core.Path.{_≡_, refl, sym, ap, subst, _∙_}
-use mathlib.Core.List.{List, [], _∷_, _++_, map, flatten, flatMap}
+use mathlib.Core.List.{List, [], _∷_, _++_, flatten, flatMap}
 use mathlib.Core.Bool.{Bool, true, false}
 use mathlib.Core.Option.{none}
 use native.Mathlib.Omega.{arith}

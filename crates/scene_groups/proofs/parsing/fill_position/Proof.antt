@@ -2,7 +2,6 @@
 use mathlib.Core.Path.{ap}
 use Rattle.wire.proofs.layouts.Straight.{size-there}
 use Rattle.wire.specs.Straight.{blanks}
-use Rattle.scene_groups.specs.Layout.{position}
 use Rattle.scene_groups.specs.Rows.{positionRow}
 use Rattle.scene_groups.proofs.Groups.{position-there, put-there, put-none}
 use borrow.Author.Needs.{needs}
