@@ -1,4 +1,6 @@
 // The base body (kind 1; H.222.0 2.6.106, Table 2-121): read, measure, tally and write.
+#![tactic(auto)]
+
 pub mod parsing;
 pub mod rows;
 mod writing;
@@ -18,19 +20,19 @@ use wire::bits::{idle_bits, wide};
 use wire::reads::Ends;
 
 // What reading answers: the top record, its trailing run included.
-#[derive(Drop)]
+#[derive(Clone, Copy)]
 pub enum Reading {
     Done(MpegH3dAudio),
     Refused(Refusal),
 }
 
 // What a body needs: the base has no tables, so only k, the bytes before the trailing run.
-#[derive(Drop)]
+#[derive(Clone, Copy)]
 pub struct Sizes {
     pub k: usize,
 }
 
-#[derive(Drop)]
+#[derive(Clone, Copy)]
 pub enum Measured {
     Done(Sizes),
     Refused(Refusal),

@@ -6,7 +6,7 @@ ghost use Rattle.bench.specs.Line.{line_of, base_line, scene_line, text_label_li
 use frame::{Refusal, Tallied};
 
 // number, first returned number, k, tally
-#[derive(Drop)]
+#[derive(Clone, Copy)]
 pub struct Line {
     pub number: u16,
     pub first: usize,

@@ -1,4 +1,6 @@
 // The bench program: reads one kind byte and a body from standard input, and prints number, first returned number, k and tally.
+#![tactic(auto)]
+
 mod line;
 
 fn main() {

@@ -3,7 +3,7 @@ use super::tables;
 use super::tables::{Bytes, Columns};
 
 // The bytes of the line so far, the kind, the bytes of the body, the columns that are lent of the top record and the five tables, and the bytes of the output.
-#[derive(Drop)]
+#[derive(Clone, Copy)]
 pub struct State {
     pub line: usize,
     pub kind: usize,
@@ -29,7 +29,7 @@ pub fn is_hex(letter: u8) -> bool {
 }
 
 // A number that is being read, and how many were read before.
-#[derive(Drop)]
+#[derive(Clone, Copy)]
 struct Digits {
     value: usize,
     digits: usize,

@@ -133,7 +133,7 @@ fn detail_from(body: &[u8], at: usize) -> PresetConditionDetail
 }
 
 // A condition, and the next position.
-#[derive(Drop)]
+#[derive(Clone, Copy)]
 pub struct Placed {
     pub condition: PresetCondition,
     pub next: usize,

@@ -34,7 +34,7 @@ fn condition_zeros(c: PresetCondition) -> u32
 }
 
 // The reserved bits at 0 of conditions, and the next position.
-#[derive(Drop)]
+#[derive(Clone, Copy)]
 pub struct Tallied {
     pub zeros: u32,
     pub next: usize,

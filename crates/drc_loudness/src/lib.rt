@@ -1,4 +1,6 @@
 // The DRC and loudness body (kind 5; H.222.0 2.6.116, Table 2-126): read, measure, tally and write. Its rows are those of tables 9 to 12.
+#![tactic(auto)]
+
 pub mod parsing;
 pub mod rows;
 mod tallying;
@@ -22,21 +24,21 @@ use rows::MpegH3dAudioDrcLoudness;
 use wire::reads::Ends;
 
 // What reading answers: the top record, its trailing run included.
-#[derive(Drop)]
+#[derive(Clone, Copy)]
 pub enum Reading {
     Done(MpegH3dAudioDrcLoudness),
     Refused(Refusal),
 }
 
 // What opening a body gives: its places, its rows being in the tables; or why it is refused.
-#[derive(Drop)]
+#[derive(Clone, Copy)]
 pub enum Opening {
     At(Places),
     Refused(Refusal),
 }
 
 // What a body needs: the rows of tables 9 to 12, and k, the bytes before the trailing run.
-#[derive(Drop)]
+#[derive(Clone, Copy)]
 pub struct Sizes {
     pub instructions: u16,
     pub additional: u16,
@@ -45,7 +47,7 @@ pub struct Sizes {
     pub k: usize,
 }
 
-#[derive(Drop)]
+#[derive(Clone, Copy)]
 pub enum Measured {
     Done(Sizes),
     Refused(Refusal),

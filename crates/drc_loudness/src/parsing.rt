@@ -22,7 +22,7 @@ use wire::reads::{Ends, Short, Sum};
 use wire::rows::trailing_run;
 
 // Where the second and the third list of a body begin, how many additional IDs it has, and k.
-#[derive(Drop)]
+#[derive(Clone, Copy)]
 pub struct Places {
     pub loudness: usize,
     pub downmixes: usize,
@@ -30,7 +30,7 @@ pub struct Places {
     pub k: usize,
 }
 
-#[derive(Drop)]
+#[derive(Clone, Copy)]
 pub enum Walk {
     Done(Places),
     Short(Short),

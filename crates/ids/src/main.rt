@@ -1,5 +1,7 @@
 // The four ID types in use: a call that hands one for another is rejected at build time.
 // In code the compiler rejects it (mismatched types), in a contract the prover: must-fail/ has an edit for each pair.
+#![tactic(auto)]
+
 ghost use Rattle.std.specs.Prelude.{◌≡◌, ◌&&◌};
 ghost use Rattle.ids.specs.Ids.{same_group, same_switch_group, same_group_preset, same_drc_set};
 

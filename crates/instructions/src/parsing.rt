@@ -95,7 +95,7 @@ fn limiter_at(body: &[u8], at: usize, present: u16) -> LimiterPeakTarget
 }
 
 // What stands behind the additional IDs, and the next position.
-#[derive(Drop)]
+#[derive(Clone, Copy)]
 struct Effect {
     drc_set_effect: u16,
     limiter_peak_target: LimiterPeakTarget,
@@ -141,7 +141,7 @@ fn effect_at(body: &[u8], at: usize, limiter: u16, loud: u16) -> Effect
 }
 
 // An instruction, where its additional IDs begin, and the next position.
-#[derive(Drop)]
+#[derive(Clone, Copy)]
 pub struct Placed {
     pub instruction: DrcInstructions,
     pub begins: usize,

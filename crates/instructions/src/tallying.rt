@@ -26,7 +26,7 @@ fn own_zeros(d: DrcInstructions) -> u32
 }
 
 // The reserved bits at 0, and the next position.
-#[derive(Drop)]
+#[derive(Clone, Copy)]
 struct Tallied {
     zeros: u32,
     next: usize,

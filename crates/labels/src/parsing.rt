@@ -68,7 +68,7 @@ pub fn list_rows(body: &[u8], at: usize, w: u32) -> Sum
 // ---- taken, once measured
 
 // An entry, and the next position.
-#[derive(Drop)]
+#[derive(Clone, Copy)]
 pub struct Placed {
     pub row: TextLabelEntry,
     pub next: usize,
@@ -118,7 +118,7 @@ fn fill_entries(
 }
 
 // A list, and the next position.
-#[derive(Drop)]
+#[derive(Clone, Copy)]
 pub struct PlacedList {
     pub list: Descriptions,
     pub next: usize,

@@ -12,7 +12,7 @@ use super::parsing::entry_at;
 use wire::bits::{idle_bits, part, wide};
 
 // What was summed, and the next position.
-#[derive(Drop)]
+#[derive(Clone, Copy)]
 pub struct Tally {
     pub zeros: u32,
     pub next: usize,

@@ -52,7 +52,7 @@ pub fn measure_entries(body: &[u8], at: usize, count: usize) -> Ends
 // ---- taken, once measured
 
 // An entry, and the next position.
-#[derive(Drop)]
+#[derive(Clone, Copy)]
 pub struct Placed {
     pub row: LoudnessInfoEntry,
     pub next: usize,

@@ -8,7 +8,7 @@ use wire::bits::{ones, wide};
 use wire::rows::Payload;
 
 // What the loudness of a scope is: its bytes are not looked into.
-#[derive(Drop)]
+#[derive(Clone, Copy)]
 pub struct LoudnessInfoEntry {
     pub reserved_type: u16,
     pub scope: DrcScope,

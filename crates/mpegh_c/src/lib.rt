@@ -1,4 +1,6 @@
 // The library for C and Rust hosts: each entry point of each kind on numbers and slices, its answer one number (include/mpegh.h).
+#![tactic(auto)]
+
 pub mod base_body;
 pub mod codes;
 pub mod drc_loudness_body;

@@ -1,4 +1,6 @@
 // The multi-stream body (kind 4; H.222.0 2.6.114, Table 2-125): read, measure, tally and write. Its groups are the rows of table 8.
+#![tactic(auto)]
+
 mod parsing;
 pub mod rows;
 mod writing;
@@ -15,20 +17,20 @@ use wire::bits::{idle_bits, wide};
 use wire::reads::Sum;
 
 // What reading answers: the top record, its trailing run included.
-#[derive(Drop)]
+#[derive(Clone, Copy)]
 pub enum Reading {
     Done(MpegH3dAudioMultiStream),
     Refused(Refusal),
 }
 
 // What a body needs: the rows of table 8, and k, the bytes before the trailing run.
-#[derive(Drop)]
+#[derive(Clone, Copy)]
 pub struct Sizes {
     pub groups: u16,
     pub k: usize,
 }
 
-#[derive(Drop)]
+#[derive(Clone, Copy)]
 pub enum Measured {
     Done(Sizes),
     Refused(Refusal),

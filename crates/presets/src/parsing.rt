@@ -85,7 +85,7 @@ pub fn preset_from(body: &[u8], at: usize, first: u16) -> GroupPreset
 }
 
 // A preset, and the next position.
-#[derive(Drop)]
+#[derive(Clone, Copy)]
 struct Placed {
     preset: GroupPreset,
     next: usize,

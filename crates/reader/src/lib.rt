@@ -1,4 +1,6 @@
 // A reader that keeps the body and a position together (document 01, "Reader"): thin, over the reads of `reads` on a slice and a number.
+#![tactic(auto)]
+
 ghost use Rattle.std.specs.Prelude.{◌≡◌};
 ghost use Rattle.reader.specs.Reading.{ReadsByte, TakesRun, GivesRest, second_byte};
 ghost use Rattle.wire.specs.Prog.{run};

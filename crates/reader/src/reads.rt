@@ -5,13 +5,13 @@ ghost use Rattle.reader.specs.Reading.{SteppedByte, SteppedRun};
 use wire::reads::{Byte, Run, Short};
 
 // A read's answer, and where the reader stands after it.
-#[derive(Drop)]
+#[derive(Clone, Copy)]
 pub struct ByteStep {
     pub byte: Byte,
     pub next: usize,
 }
 
-#[derive(Drop)]
+#[derive(Clone, Copy)]
 pub struct RunStep {
     pub run: Run,
     pub next: usize,

@@ -5,7 +5,7 @@ use cases::tables::{Columns, copy_columns, front_mut};
 use mpegh_c::{base_body, drc_loudness_body, multi_stream_body, scene_body, text_label_body};
 
 // What the three entry points answer, and a digest of the lent memory afterwards: top record, tables, and what measuring was lent.
-#[derive(Drop)]
+#[derive(Clone, Copy)]
 pub struct Answers {
     pub read: u64,
     pub measured: u64,

@@ -1,4 +1,6 @@
 // The scene body (kind 2; H.222.0 2.6.110, Table 2-123): read, measure, tally and write. Its rows are those of tables 1 to 5.
+#![tactic(auto)]
+
 pub mod parsing;
 pub mod rows;
 mod tallying;
@@ -22,21 +24,21 @@ use scene_writing::writing;
 use switch_groups::rows::{MEMBER_COLUMNS, SWITCH_GROUP_COLUMNS};
 
 // What reading answers: the top record, its trailing run included.
-#[derive(Drop)]
+#[derive(Clone, Copy)]
 pub enum Reading {
     Done(MpegH3dAudioScene),
     Refused(Refusal),
 }
 
 // What opening a body gives: its places, its rows being in the tables; or why it is refused.
-#[derive(Drop)]
+#[derive(Clone, Copy)]
 pub enum Opening {
     At(Places),
     Refused(Refusal),
 }
 
 // What a body needs: the rows of tables 1 to 5, and k, the bytes before the trailing run.
-#[derive(Drop)]
+#[derive(Clone, Copy)]
 pub struct Sizes {
     pub groups: u16,
     pub switch_groups: u16,
@@ -46,7 +48,7 @@ pub struct Sizes {
     pub k: usize,
 }
 
-#[derive(Drop)]
+#[derive(Clone, Copy)]
 pub enum Measured {
     Done(Sizes),
     Refused(Refusal),

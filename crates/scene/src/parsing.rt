@@ -29,7 +29,7 @@ use wire::reads::{Ends, Short, Sum, head};
 use wire::rows::trailing_run;
 
 // Where the second and the third section of a body begin, the rows of the tables below theirs, and k.
-#[derive(Drop)]
+#[derive(Clone, Copy)]
 pub struct Places {
     pub switch_groups: usize,
     pub presets: usize,
@@ -38,7 +38,7 @@ pub struct Places {
     pub k: usize,
 }
 
-#[derive(Drop)]
+#[derive(Clone, Copy)]
 pub enum Walk {
     Done(Places),
     Short(Short),
@@ -93,7 +93,7 @@ fn presets_rows(body: &[u8], at: usize, flag: u16) -> Sum
 }
 
 // What the first bytes of a body tell: it is cut there; or its sections have no rows, so that it needs no table; or it may have rows.
-#[derive(Drop)]
+#[derive(Clone, Copy)]
 pub enum Look {
     Bare(Places),
     Short(Short),

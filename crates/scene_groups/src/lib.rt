@@ -1,4 +1,6 @@
 // The groups of the scene body (kind 2; H.222.0 Table 2-123), the rows of table 1: measured, taken, tallied and written over their layout.
+#![tactic(auto)]
+
 pub mod parsing;
 pub mod rows;
 pub mod tallying;

@@ -68,7 +68,7 @@ pub fn measure_groups(body: &[u8], at: usize, count: usize) -> Ends
 // ---- taken, once measured
 
 // A group, and the next position.
-#[derive(Drop)]
+#[derive(Clone, Copy)]
 pub struct Placed {
     pub group: SceneGroup,
     pub next: usize,

@@ -45,7 +45,7 @@ pub fn id_bytes(types: &[u16], kind: u16) -> usize
 }
 
 // A scope with the reserved bits of its type byte.
-#[derive(Drop)]
+#[derive(Clone, Copy)]
 pub struct Typed {
     pub reserved_type: u16,
     pub scope: DrcScope,

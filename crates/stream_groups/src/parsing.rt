@@ -30,7 +30,7 @@ fn group_end(body: &[u8], at: usize) -> Ends
 }
 
 // How far groups were passed: the next position, and the groups that are left.
-#[derive(Drop)]
+#[derive(Clone, Copy)]
 struct Reached {
     pos: usize,
     left: usize,
@@ -93,7 +93,7 @@ pub fn measure_groups(body: &[u8], at: usize, count: usize) -> Ends
 // ---- taken, once measured
 
 // A group, and the next position.
-#[derive(Drop)]
+#[derive(Clone, Copy)]
 struct Placed {
     group: MultiStreamGroup,
     next: usize,

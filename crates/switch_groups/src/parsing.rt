@@ -65,7 +65,7 @@ pub fn measure_switch_groups(body: &[u8], at: usize, count: usize) -> Sum
 // ---- filling: nothing is left to test
 
 // A switch group that is known to be there, and the next position.
-#[derive(Drop)]
+#[derive(Clone, Copy)]
 struct Placed {
     switch_group: SwitchGroup,
     next: usize,

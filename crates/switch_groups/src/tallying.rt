@@ -11,7 +11,7 @@ use pairs::tallying::pairs_zeros;
 use wire::bits::{idle_bits, part, wide};
 
 // The reserved bits at 0, and the next position.
-#[derive(Drop)]
+#[derive(Clone, Copy)]
 struct Tallied {
     zeros: u32,
     next: usize,

@@ -1,4 +1,6 @@
 // The text label body (kind 3; H.222.0 2.6.112, Table 2-124): read, measure, tally and write. Its languages are the rows of table 6, their entries those of table 7.
+#![tactic(auto)]
+
 pub mod parsing;
 pub mod rows;
 mod tallying;
@@ -15,21 +17,21 @@ use rows::{ENTRY_COLUMNS, LANGUAGE_COLUMNS, MpegH3dAudioTextLabel};
 use wire::reads::Sum;
 
 // What reading answers: the top record, its trailing run included.
-#[derive(Drop)]
+#[derive(Clone, Copy)]
 pub enum Reading {
     Done(MpegH3dAudioTextLabel),
     Refused(Refusal),
 }
 
 // What a body needs: the rows of tables 6 and 7, and k, the bytes before the trailing run.
-#[derive(Drop)]
+#[derive(Clone, Copy)]
 pub struct Sizes {
     pub languages: u16,
     pub entries: u16,
     pub k: usize,
 }
 
-#[derive(Drop)]
+#[derive(Clone, Copy)]
 pub enum Measured {
     Done(Sizes),
     Refused(Refusal),

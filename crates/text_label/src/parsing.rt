@@ -139,7 +139,7 @@ fn fill_language(body: &[u8], at: usize, entries: &mut [u16], first: usize) -> P
 }
 
 // A language, and the next position.
-#[derive(Drop)]
+#[derive(Clone, Copy)]
 struct PlacedLanguage {
     language: TextLabelLanguage,
     next: usize,

@@ -1,5 +1,7 @@
 // Answers the list of cases on standard input, a line of answers for each case, by calling the library for hosts. docs/ORACLE.md says what the
 // letters of the list mean, and where the answers come from that these are compared with.
+#![tactic(auto)]
+
 mod reads;
 mod show;
 mod writes;
