@@ -11,7 +11,6 @@ use lib.Seq.{slice, drop_at}
 use Rattle.wire.specs.Lists.{Every, all_nil, all_cons, each, Byte}
 use Rattle.wire.specs.Bits.{part, Field, field, fit, join, total, split, widths}
 use Rattle.wire.specs.Prog.{Prog, ret, done, run, ◌>>=◌, u8, pass, many, span, passed}
-use Rattle.wire.specs.Prog as P
 use Rattle.wire.specs.declared.rows.Payload.{Payload}
 use Rattle.wire.specs.Act.{Act, byte, copy, rows}
 use Rattle.wire.specs.Pen.{clean, bytes}

@@ -1,0 +1,31 @@
+-- `base::write` meets its contract: without sets the head and the trailing run; else what is answered after the check pass, and the fill pass.
+use mathlib.Core.List.{[]}
+use mathlib.Core.Path.{◌∙◌}
+use native.Mathlib.Omega.{arith}
+use Rattle.frame.proofs.Bare.{heads, bare-writes}
+use Rattle.frame.proofs.Entries.{writes-refused, fillable, writes-done}
+use Rattle.base.specs.Write.{head_fields}
+use Rattle.base.specs.Kind.{kind}
+use Rattle.base.proofs.Mirrored.{written-so, bare-acts}
+use borrow.Author.Rules.{rules}
+use Rattle.base.proofs.write.Goals as goal
+
+pub write_bare-requires : goal.write_bare-requires
+write_bare-requires c =
+    heads (head_fields c.args.m) c.head_bytes.ensures (omega arith)
+
+pub returns-then-not-m : goal.returns-then-not-m
+unfolding kind
+returns-then-not-m c =
+    let m = c.args.m in
+    bare-writes kind m [] c.args.store.now _ (head_fields m) (written-so m c.args.store.now [] ∙ bare-acts m c.args.store.now c.if-not-m.true)
+    (c.write_bare.ensures.of (head_fields m) c.head_bytes.ensures)
+
+pub returns-in_default : goal.returns-in_default
+returns-in_default c = writes-refused kind _ _ _ c.check.ensures _ c.judge-w.ensures c.in_default.keys2
+
+pub fill-requires : goal.fill-requires
+fill-requires c = search fillable
+
+pub returns : goal.returns
+returns c = search writes-done

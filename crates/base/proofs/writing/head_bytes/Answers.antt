@@ -1,0 +1,9 @@
+-- `base::writing::head_bytes` meets its contract.
+use Rattle.wire.specs.Spell.{none, more}
+use borrow.Author.Rules.{rules}
+use Rattle.base.proofs.writing.head_bytes.Goals as goal
+
+pub returns : goal.returns
+returns c =
+    more (rw c.wide.ensures at c.one.ensures)
+    (more c.flags_byte.ensures (more (rw (c.wide-2.ensures, c.wide-3.ensures) at c.two.ensures) none))

@@ -1,0 +1,35 @@
+-- `parsing::condition_at` meets its contract.
+use mathlib.Core.Path.{◌∙◌, ap}
+use native.Mathlib.Omega.{arith}
+use Rattle.wire.proofs.Layouts.Straight.{Whole, flat-done}
+use Rattle.wire.specs.Straight.{blanks}
+use Rattle.conditions.specs.Layout.{condition}
+use Rattle.conditions.specs.Rows.{behind}
+use Rattle.conditions.proofs.Taken.{condition-long, long-with, condition-with, condition-without}
+use borrow.Author.Rules.{rules}
+use Rattle.conditions.proofs.parsing.condition_at.Goals as goal
+
+whole : (c : goal.Start) → Whole 13 condition c.args.body.now c.args.at
+whole c = flat-done 13 condition _ _ c.requires.0 c.requires.1
+
+pub bounds-body-at : goal.bounds-body-at
+bounds-body-at c =
+    omega (arith, (whole c.before.before).there, condition-long c.args.body.now c.args.at)
+
+pub detail_from-detail-requires : goal.detail_from-detail-requires
+detail_from-detail-requires c =
+    let z = c.before.before.before.before.before.before in
+    omega (arith, (whole z).there, long-with z.args.body.now z.args.at c.wide-b.ensures c.part-2.ensures c.if-part-eq1.true)
+
+pub bounds-body-at-then-part-eq1 : goal.bounds-body-at-then-part-eq1
+bounds-body-at-then-part-eq1 c =
+    let z = c.before.before.before.before.before.before.before.before in
+    omega (arith, (whole z).there, long-with z.args.body.now z.args.at c.wide-b.ensures c.part-2.ensures c.if-part-eq1.true)
+
+pub returns-then-part-eq1 : goal.returns-then-part-eq1
+returns-then-part-eq1 c =
+    search (condition-with, whole, c.behind.ensures.0 ∙ ap behind c.wide.ensures)
+
+pub returns-else-part-eq1 : goal.returns-else-part-eq1
+unfolding blanks
+returns-else-part-eq1 c = rw c.absent-detail.ensures (search (condition-without, whole))

@@ -1,0 +1,30 @@
+use mathlib.Core.Path.{refl, ap, sym, ◌∙◌}
+use Rattle.wire.specs.Layout.{flat}
+use Rattle.wire.specs.Reads.{ends_out}
+use Rattle.wire.proofs.Reading.Walk.{as-done, as_short}
+use Rattle.wire.proofs.Reading.Loops.{Measuring, carry-turn, carry-cut, carry-end}
+use Rattle.conditions.specs.Layout.{condition}
+use borrow.Author.Rules.{rules}
+use Rattle.conditions.proofs.parsing.measure_conditions.Goals as goal
+
+pub loop-left-init : goal.loop-left-init
+loop-left-init c =
+    record { inside = c.requires; same = refl }
+
+pub condition_end-a-requires : goal.condition_end-a-requires
+condition_end-a-requires c =
+    c.loop-left.invariant.inside
+
+pub returns-in_default : goal.returns-in_default
+returns-in_default c =
+    let q = as_short (λ g. tt) _ (sym c.condition_end-a.ensures ∙ ap ends_out c.in_default.is) in
+    ap ends_out c.in_default.is ∙ carry-cut c.loop-left.invariant c.loop-left-test.true q
+
+pub loop-left-preserved : goal.loop-left-preserved
+loop-left-preserved c =
+    let (g, e, q) = as-done (λ g. tt) _ (sym c.condition_end-a.ensures ∙ ap ends_out c.in-At.is) in
+    carry-turn c.loop-left.invariant c.loop-left-test.true e (λ l. refl)
+
+pub returns : goal.returns
+returns c =
+    carry-end c.loop-left.invariant c.loop-left-test.false

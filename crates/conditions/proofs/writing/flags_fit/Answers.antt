@@ -1,0 +1,19 @@
+-- `writing::flags_fit` meets its contract.
+use Prim.Native.Nat.{◌^◌}
+use lib.Dec.{ltb}
+use mathlib.Core.Bool.{Bool, ◌&&◌}
+use mathlib.Core.Path.{refl, sym, ap, ◌∙◌}
+use Rattle.conditions.proofs.Writes.{flags-fit}
+use borrow.Author.Rules.{rules}
+use Rattle.conditions.proofs.writing.flags_fit.Goals as goal
+
+pub returns-then-four_fit : goal.returns-then-four_fit
+returns-then-four_fit c =
+    let a = c.args in
+    ap (λ (b : Bool). b && c.fits2.result) (sym c.if-four_fit.true)
+    ∙ flags-fit a.reserved a.no-gain a.no-position a.gain a.position c.four_fit.ensures c.fits2.ensures
+
+pub returns-else-four_fit : goal.returns-else-four_fit
+returns-else-four_fit c =
+    let a = c.args in
+    ap (λ (b : Bool). b && ltb a.position (2 ^ 1)) (sym c.if-four_fit.false) ∙ flags-fit a.reserved a.no-gain a.no-position a.gain a.position c.four_fit.ensures refl

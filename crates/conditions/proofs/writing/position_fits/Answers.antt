@@ -1,0 +1,16 @@
+-- `writing::position_fits` meets its contract.
+use Prim.Native.Nat.{◌^◌}
+use lib.Dec.{ltb}
+use mathlib.Core.Bool.{Bool, ◌&&◌}
+use mathlib.Core.Path.{refl, sym, ap, ◌∙◌}
+use Rattle.conditions.proofs.Writes.{position-fit}
+use borrow.Author.Rules.{rules}
+use Rattle.conditions.proofs.writing.position_fits.Goals as goal
+
+pub returns-then-four_fit : goal.returns-then-four_fit
+returns-then-four_fit c =
+    ap (λ (b : Bool). b && c.fits2.result) (sym c.if-four_fit.true) ∙ position-fit c.args.p c.four_fit.ensures c.fits2.ensures
+
+pub returns-else-four_fit : goal.returns-else-four_fit
+returns-else-four_fit c =
+    ap (λ (b : Bool). b && ltb c.args.p.dist_factor (2 ^ 4)) (sym c.if-four_fit.false) ∙ position-fit c.args.p c.four_fit.ensures refl

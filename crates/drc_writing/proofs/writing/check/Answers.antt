@@ -1,0 +1,26 @@
+-- `drc_writing::writing::check` meets its contract: the fields, and the trailing run behind them.
+use mathlib.Core.List.{[], ◌∷◌}
+use mathlib.Core.Path.{sym, ◌∙◌}
+use native.Mathlib.Omega.{arith}
+use Rattle.wire.proofs.Writing.Passes.{more}
+use Rattle.frame.proofs.Passes.{run-outside, all-looked}
+use Rattle.drc_kind.specs.Kind.{kind}
+use Rattle.drc_writing.proofs.Writes.{drc-acts}
+use borrow.Author.Rules.{rules}
+use Rattle.drc_writing.proofs.writing.check.Goals as goal
+
+pub payload_run-requires : goal.payload_run-requires
+payload_run-requires c =
+    omega (arith, c.check_fields-p.ensures.near)
+
+pub returns-then-in_store : goal.returns-then-in_store
+unfolding kind
+returns-then-in_store c =
+    let e = sym c.in_store.ensures ∙ c.if-in_store.true in
+    more 82989
+    (all-looked kind (drc-acts c.args.m (c.args.instructions.now ∷ c.args.additional.now ∷ c.args.loudness.now ∷ c.args.downmixes.now ∷ []) c.args.store.now) e c.check_fields-p.ensures c.payload_run.ensures.0)
+    (omega (arith, c.payload_run.ensures.1))
+
+pub returns-else-in_store : goal.returns-else-in_store
+unfolding kind
+returns-else-in_store c = run-outside kind _ _ _ (sym c.in_store.ensures ∙ c.if-in_store.false) _

@@ -1,0 +1,27 @@
+-- `frame::fill_bare` meets its contract: the head, and the trailing run behind it.
+use Rattle.frame.proofs.Bare.{head-ready, bare-run-ready, bare-filled}
+use borrow.Author.Rules.{rules}
+use Rattle.frame.proofs.fill_bare.Reads as reads
+use Rattle.frame.proofs.fill_bare.Lts as lts
+use Rattle.wire.proofs.pen.copy_payload.Reads as copy-payload-reads
+use Rattle.wire.proofs.spell.fill_all.Reads as fill-all-reads
+use Rattle.frame.proofs.fill_bare.Goals as goal
+
+pub fill_all-n-requires : goal.fill_all-n-requires
+fill_all-n-requires c =
+    let h = c.requires in
+    record { fss = h.fields; spelt = h.spelt; ready = head-ready h.fields c.args.run c.args.store.now h.ready }
+
+pub copy_payload-requires : goal.copy_payload-requires
+copy_payload-requires c =
+    let h = c.requires in
+    let r = head-ready h.fields c.args.run c.args.store.now h.ready in
+    bare-run-ready h.fields c.args.run c.args.store.now h.ready c.fill_all-n.auto.0 (c.fill_all-n.ensures.of h.fields h.spelt r.sound)
+
+pub returns : goal.returns
+returns c =
+    record {
+      of = λ fss s ready.
+          let r = head-ready fss c.args.run c.args.store.now ready in
+          bare-filled fss c.args.run c.args.store.now ready c.fill_all-n.auto.0 (c.fill_all-n.ensures.of fss s r.sound) c.copy_payload.ensures;
+    }

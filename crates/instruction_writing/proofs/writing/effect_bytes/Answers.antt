@@ -1,0 +1,8 @@
+-- `writing::effect_bytes` meets its contract.
+use Rattle.wire.specs.Spell.{none, more}
+use borrow.Author.Rules.{rules}
+use Rattle.instruction_writing.proofs.writing.effect_bytes.Goals as goal
+
+pub returns : goal.returns
+returns c =
+    more c.one.ensures (more c.one-2.ensures none)

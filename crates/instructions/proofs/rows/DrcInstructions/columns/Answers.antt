@@ -1,0 +1,7 @@
+-- `rows::DrcInstructions::columns` meets its contract.
+use borrow.Author.Rules.{rules}
+use Rattle.instructions.proofs.rows.DrcInstructions.columns.Goals as goal
+
+pub returns : goal.returns
+returns c =
+    rw c.columns-s.ensures

@@ -1,0 +1,14 @@
+-- `parsing::fill_entries` meets its contract: what is still to store from here is what was to store from the start.
+use mathlib.Core.Path.{refl}
+use Rattle.wire.specs.Layout.{borne_row}
+use Rattle.wire.proofs.Reading.Loops.{fill-as, Filling, fill_end, first_done}
+use Rattle.labels.specs.Layout.{label}
+use Rattle.labels.proofs.Taken.{an_entry}
+use borrow.Author.Rules.{rules}
+use Rattle.labels.proofs.parsing.fill_entries.Given as goal
+
+abbrev pub invariant-loop-left : goal.invariant-loop-left
+invariant-loop-left l = Filling (an_entry l.w) (borne_row (label l.w)) 4 l.body l.at l.count l.initial.entries l.column l.entries l.pos l.left l.to
+
+abbrev pub decreases-loop-left : goal.decreases-loop-left
+decreases-loop-left l = l.left

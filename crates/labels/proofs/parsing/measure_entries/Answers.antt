@@ -1,0 +1,28 @@
+use Prim.Native.Nat.{ℕ}
+use mathlib.Core.Path.{refl, ap, sym, ◌∙◌}
+use Rattle.wire.specs.Reads.{ends_out}
+use Rattle.wire.proofs.Reading.Walk.{as-done, as_short}
+use Rattle.wire.proofs.Reading.Loops.{Measuring, carry-turn, carry-cut, carry-end}
+use Rattle.labels.proofs.Taken.{an_entry}
+use borrow.Author.Rules.{rules}
+use Rattle.labels.proofs.parsing.measure_entries.Goals as goal
+
+pub loop-left-init : goal.loop-left-init
+loop-left-init c = λ w. record { inside = c.requires; same = refl }
+
+pub entry_end-a-requires : goal.entry_end-a-requires
+entry_end-a-requires c = (c.loop-left.invariant 0).inside
+
+pub returns-in_default : goal.returns-in_default
+returns-in_default c =
+    let e = ap ends_out c.in_default.is in
+    record { of = λ w. e ∙ carry-cut (c.loop-left.invariant w) c.loop-left-test.true (as_short (λ x. tt) _ (sym (c.entry_end-a.ensures.of w) ∙ e)) }
+
+pub loop-left-preserved : goal.loop-left-preserved
+loop-left-preserved c =
+    λ w.
+    let (_, e, _) = as-done (λ x. tt) _ (sym (c.entry_end-a.ensures.of w) ∙ ap ends_out c.in-At.is) in
+    carry-turn (c.loop-left.invariant w) c.loop-left-test.true e (λ l. refl)
+
+pub returns : goal.returns
+returns c = record { of = λ w. carry-end (c.loop-left.invariant w) c.loop-left-test.false }

@@ -1,0 +1,6 @@
+-- `labels::rows::TextLabelEntry::preset` meets its contract.
+use borrow.Author.Rules.{rules}
+use Rattle.labels.proofs.rows.TextLabelEntry.preset.Goals as goal
+
+pub returns : goal.returns
+returns c = rw (c.wide.ensures, c.ones.ensures)

@@ -1,0 +1,7 @@
+-- `rows::LoudnessInfoEntry::columns` meets its contract.
+use borrow.Author.Rules.{rules}
+use Rattle.loudness.proofs.rows.LoudnessInfoEntry.columns.Goals as goal
+
+pub returns : goal.returns
+returns c =
+    rw c.columns-s.ensures

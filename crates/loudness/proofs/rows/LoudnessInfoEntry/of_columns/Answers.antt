@@ -1,0 +1,7 @@
+-- `rows::LoudnessInfoEntry::of_columns` meets its contract.
+use borrow.Author.Rules.{rules}
+use Rattle.loudness.proofs.rows.LoudnessInfoEntry.of_columns.Goals as goal
+
+pub returns : goal.returns
+returns c =
+    rw c.of_columns.ensures

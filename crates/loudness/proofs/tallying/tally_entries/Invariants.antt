@@ -1,0 +1,17 @@
+-- `tallying::tally_entries` meets its contract: what is summed up, and what is left, come to the whole.
+use mathlib.Core.Path.{sym, ◌∙◌}
+use Rattle.wire.specs.Prog.{run}
+use Rattle.wire.specs.Layout.{borne_row, borne_tally}
+use Rattle.wire.proofs.Reading.Walk.{as-done}
+use Rattle.wire.proofs.Reading.Loops.{first_done}
+use Rattle.wire.proofs.Reading.Adding.{Adding, adding-start, adding-turn, adding-end}
+use Rattle.loudness.specs.Layout.{entry, entries}
+use Rattle.loudness.proofs.Taken.{entry-tally}
+use borrow.Author.Rules.{rules}
+use Rattle.loudness.proofs.tallying.tally_entries.Given as goal
+
+abbrev pub invariant-loop-left : goal.invariant-loop-left
+invariant-loop-left l = Adding entries (borne_tally entry) 9 l.body l.at l.count l.pos l.left l.zeros
+
+abbrev pub decreases-loop-left : goal.decreases-loop-left
+decreases-loop-left l = l.left

@@ -1,0 +1,38 @@
+use Prim.Native.Nat.{◌-◌, ◌≤◌}
+use native.Mathlib.Omega.{arith}
+use native.Mathlib.Nat.{sub-zero}
+use Rattle.wire.specs.Act.{rows}
+use Rattle.wire.proofs.Writing.Passes.{Filling, rows-turn, rows_end, fill_start, fill-row, fill-turn, fill_end}
+use Rattle.wire.proofs.Writing.Plain.{filled-long}
+use Rattle.loudness.specs.Write.{row_acts}
+use Rattle.loudness.proofs.Written.{row-acts}
+use borrow.Author.Rules.{rules}
+use Rattle.loudness.proofs.writing.fill_entries.Goals as goal
+
+pub loop-i-init : goal.loop-i-init
+loop-i-init c =
+    (omega arith, rw sub-zero (fill_start c.requires.2))
+
+pub of_columns-e-requires : goal.of_columns-e-requires
+of_columns-e-requires c =
+    omega (arith, c.requires.0, c.loop-i-test.true)
+
+pub fill_entry-at-requires : goal.fill_entry-at-requires
+fill_entry-at-requires c =
+    rw (row-acts c.args.entries.now
+    c.args.store.now c.loop-i.i c.of_columns-e.ensures)
+    (fill-row _ _ c.loop-i.invariant.1 (rows-turn _ _ _ c.loop-i-test.true))
+
+pub loop-i-preserved : goal.loop-i-preserved
+loop-i-preserved c =
+    let w = rw (row-acts c.args.entries.now
+    c.args.store.now c.loop-i.i c.of_columns-e.ensures) at c.fill_entry-at.ensures in
+    (omega arith, fill-turn c.loop-i.invariant.1 (rows-turn _ _ _ c.loop-i-test.true) (filled-long w) w)
+
+pub shape_of-out : goal.shape_of-out
+shape_of-out c =
+    c.loop-i.invariant.1.size
+
+pub returns : goal.returns
+returns c =
+    fill_end c.loop-i.invariant.1 (rows_end _ _ _ c.loop-i-test.false)

@@ -1,0 +1,18 @@
+-- `multi_stream::writing::fill` meets its contract: the fields, and the trailing run behind them.
+use Rattle.frame.proofs.Passes.{fields-ready, run-ready, all-filled}
+use Rattle.multi_stream.specs.Kind.{kind}
+use Rattle.multi_stream.proofs.Mirrored.{acts-are}
+use borrow.Author.Rules.{rules}
+use Rattle.multi_stream.proofs.writing.fill.Goals as goal
+
+pub fill_fields-n-requires : goal.fill_fields-n-requires
+fill_fields-n-requires c = search (fields-ready, acts-are)
+
+pub copy-requires : goal.copy-requires
+unfolding kind
+copy-requires c =
+    run-ready kind (acts-are c.args.m c.args.groups.now c.args.store.now) c.requires c.fill_fields-n.auto.1.1.0 c.fill_fields-n.ensures
+
+pub returns : goal.returns
+unfolding kind
+returns c = search (all-filled, acts-are)

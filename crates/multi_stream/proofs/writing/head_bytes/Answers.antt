@@ -1,0 +1,8 @@
+-- `multi_stream::writing::head_bytes` meets its contract.
+use Rattle.wire.specs.Spell.{none, more}
+use borrow.Author.Rules.{rules}
+use Rattle.multi_stream.proofs.writing.head_bytes.Goals as goal
+
+pub returns : goal.returns
+returns c =
+    more (rw (c.wide.ensures, c.flag.ensures) at c.two.ensures) none

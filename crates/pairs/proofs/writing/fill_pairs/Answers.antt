@@ -1,0 +1,38 @@
+use Prim.Native.Nat.{◌-◌, ◌≤◌}
+use native.Mathlib.Omega.{arith}
+use native.Mathlib.Nat.{add-sub_cancel_left}
+use Rattle.wire.specs.Act.{rows}
+use Rattle.wire.proofs.Writing.Passes.{Filling, rows-turn, rows_end, all-filled, fill_start, fill-row, fill-turn, fill_end}
+use Rattle.wire.proofs.Writing.Plain.{filled-long}
+use Rattle.pairs.specs.Write.{pair_acts}
+use Rattle.pairs.proofs.Pairs.{pair-ready, pair-filled}
+use borrow.Author.Rules.{rules}
+use Rattle.pairs.proofs.writing.fill_pairs.Goals as goal
+
+pub loop-i-init : goal.loop-i-init
+loop-i-init c =
+    (omega arith, omega arith, rw add-sub_cancel_left (fill_start c.requires.1))
+
+pub pair_byte-requires : goal.pair_byte-requires
+pair_byte-requires c =
+    omega (arith, c.requires.0)
+
+pub fill_all-at-requires : goal.fill_all-at-requires
+fill_all-at-requires c =
+    pair-ready c.args.table.now c.loop-i.i
+    c.pair_byte.ensures (fill-row _ _ c.loop-i.invariant.2 (rows-turn _ _ _ c.loop-i-test.true))
+
+pub loop-i-preserved : goal.loop-i-preserved
+loop-i-preserved c =
+    let r = fill-row _ _ c.loop-i.invariant.2 (rows-turn _ _ _ c.loop-i-test.true) in
+    let w = pair-filled c.args.table.now c.loop-i.i
+    c.pair_byte.ensures r c.fill_all-at.ensures in
+    (omega arith, omega arith, search (fill-turn, rows-turn, filled-long))
+
+pub shape_of-out : goal.shape_of-out
+shape_of-out c =
+    c.loop-i.invariant.2.size
+
+pub returns : goal.returns
+returns c =
+    all-filled _ _ _ (fill_end c.loop-i.invariant.2 (rows_end _ _ _ c.loop-i-test.false))

@@ -1,0 +1,17 @@
+-- `writing::fill_pairs` meets its contract: what is left to store from a row on.
+use Prim.Native.Nat.{◌-◌, ◌≤◌}
+use native.Mathlib.Omega.{arith}
+use native.Mathlib.Nat.{add-sub_cancel_left}
+use Rattle.wire.specs.Act.{rows}
+use Rattle.wire.proofs.Writing.Passes.{Filling, rows-turn, rows_end, all-filled, fill_start, fill-row, fill-turn, fill_end}
+use Rattle.wire.proofs.Writing.Plain.{filled-long}
+use Rattle.pairs.specs.Write.{pair_acts}
+use Rattle.pairs.proofs.Pairs.{pair-ready, pair-filled}
+use borrow.Author.Rules.{rules}
+use Rattle.pairs.proofs.writing.fill_pairs.Given as goal
+
+abbrev pub invariant-loop-i : goal.invariant-loop-i
+invariant-loop-i l = (l.initial.i ≤ l.i) × (l.i ≤ l.end) × Filling (rows (pair_acts l.table) l.initial.i (l.end - l.initial.i)) (rows (pair_acts l.table) l.i (l.end - l.i)) l.initial.at l.initial.out l.at l.out
+
+abbrev pub decreases-loop-i : goal.decreases-loop-i
+decreases-loop-i l = l.end - l.i

@@ -1,0 +1,7 @@
+-- `parsing::preset_from` meets its contract.
+use borrow.Author.Rules.{rules}
+use Rattle.presets.proofs.parsing.preset_from.Goals as goal
+
+pub returns : goal.returns
+returns c =
+    cc

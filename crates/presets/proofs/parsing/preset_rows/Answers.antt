@@ -1,0 +1,28 @@
+-- `parsing::preset_rows` meets its contract.
+use native.Mathlib.Omega.{arith}
+use mathlib.Core.Path.{ap}
+use Rattle.wire.specs.Reads.{ends_out}
+use Rattle.presets.proofs.Taken.{Three, three, three-lack, preset-lacks, preset-got}
+use borrow.Author.Rules.{rules}
+use Rattle.presets.proofs.parsing.preset_rows.Goals as goal
+
+after-1 : (c : goal.In-At)
+    → Three c.args.body.now c.args.at c.in-At.n
+after-1 c = three _ _ c.requires c.head-a.ensures (ap ends_out c.in-At.is)
+
+pub returns-in_default : goal.returns-in_default
+returns-in_default c = search (three-lack, ap ends_out c.in_default.is)
+
+pub bounds-body-at : goal.bounds-body-at
+bounds-body-at c =
+    omega (arith, (after-1 c.before).there)
+
+pub measure_conditions-b-requires : goal.measure_conditions-b-requires
+measure_conditions-b-requires c =
+    (after-1 c.before.before).inside
+
+pub returns-in_default-b : goal.returns-in_default-b
+returns-in_default-b c = search (preset-lacks, after-1, ap ends_out c.in_default-b.is)
+
+pub returns : goal.returns
+returns c = search (preset-got, after-1, ap ends_out c.in-At-b.is)

@@ -1,0 +1,32 @@
+use Prim.Native.Nat.{◌+◌, ◌-◌, ◌*◌, ◌≤◌}
+use mathlib.Core.Path.{◌≡◌}
+use native.Mathlib.Omega.{arith}
+use Rattle.wire.specs.Layout.{family_acts}
+use Rattle.conditions.specs.Layout.{condition}
+use Rattle.conditions.proofs.Counted.{Left, start_left, turn-ready, turn-left, end-left}
+use Rattle.presets.specs.Layout.{preset}
+use Rattle.presets.proofs.Writes.{row_at}
+use borrow.Author.Rules.{rules}
+use Rattle.presets.proofs.writing.fill_presets.Goals as goal
+
+pub loop-left-init : goal.loop-left-init
+loop-left-init c =
+    (omega arith, omega arith, start_left _ _ _ c.requires.2)
+
+pub of_columns-p-requires : goal.of_columns-p-requires
+of_columns-p-requires c =
+    omega (arith, c.loop-left.invariant.0, c.loop-left.invariant.1, c.requires.0, c.loop-left-test.true)
+
+pub fill_preset-at-requires : goal.fill_preset-at-requires
+fill_preset-at-requires c = rw c.of_columns-p.ensures (search (turn-ready, row_at))
+
+pub loop-left-preserved : goal.loop-left-preserved
+loop-left-preserved c =
+    (omega arith, search rules, search (turn-left, row_at, rw c.of_columns-p.ensures at c.fill_preset-at.ensures))
+
+pub shape_of-out : goal.shape_of-out
+shape_of-out c =
+    c.loop-left.invariant.2.size
+
+pub returns : goal.returns
+returns c = search end-left

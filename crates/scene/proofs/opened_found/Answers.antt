@@ -1,0 +1,19 @@
+-- `scene::opened_found` meets its contract: the lowest table that is short, else the rows.
+use Rattle.frame.proofs.Tables.{reads-lowest, all-roomy, filled-opens}
+use Rattle.scene_kind.specs.Kind.{kind}
+use borrow.Author.Rules.{rules}
+use Rattle.scene.proofs.opened_found.Goals as goal
+
+pub fill-requires : goal.fill-requires
+fill-requires c =
+    let x = y.before.before.before.before.before.before.before in
+    (x.requires.0, x.requires.1, all-roomy kind _ c.sizes-at.ensures _ c.room-r.ensures c.in-Enough.is)
+
+pub returns-in-Lacks : goal.returns-in-Lacks
+returns-in-Lacks c =
+    record { gives = reads-lowest kind _ c.sizes-at.ensures _ c.room-r.ensures c.in-Lacks.is }
+
+pub returns-in-Enough : goal.returns-in-Enough
+returns-in-Enough c =
+    let w = x.before.before.before.before.before.before.before in
+    record { gives = filled-opens kind _ c.sizes-at.ensures _ c.room-r.ensures c.in-Enough.is w.requires.0 c.fill.ensures }

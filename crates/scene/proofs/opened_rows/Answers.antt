@@ -1,0 +1,15 @@
+-- `scene::opened_rows` meets its contract: the sections, or why there are none.
+use native.Mathlib.Omega.{arith}
+use Rattle.frame.proofs.Entries.{measures-short, reads-unmeasured}
+use Rattle.scene_kind.specs.Kind.{kind}
+use borrow.Author.Rules.{rules}
+use Rattle.scene.proofs.opened_rows.Goals as goal
+
+pub opened_found-requires : goal.opened_found-requires
+opened_found-requires c =
+    ((rw c.in-Done.is at c.find_sections-w.ensures).finds, c.requires)
+
+pub returns-in-Short : goal.returns-in-Short
+unfolding kind
+returns-in-Short c =
+    record { gives = reads-unmeasured kind _ (measures-short kind _ (omega (arith, c.requires)) (rw c.in-Short.is at c.find_sections-w.ensures).finds) _ }

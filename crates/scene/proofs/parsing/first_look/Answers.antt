@@ -1,0 +1,27 @@
+-- `scene::parsing::first_look` meets its contract: the first bytes tell that a body is cut, or has no rows.
+use mathlib.Core.Path.{sym, ap, ◌∙◌}
+use native.Mathlib.Omega.{arith}
+use Rattle.wire.specs.Prog.{short}
+use Rattle.wire.specs.Reads.{ends_out, short_of}
+use Rattle.wire.proofs.Layouts.Straight.{ones-past}
+use Rattle.scene.proofs.Walked.{head-cut}
+use Rattle.scene.proofs.Found.{flags-so}
+use Rattle.scene.proofs.Bare.{none_so}
+use borrow.Author.Rules.{rules}
+use Rattle.scene.proofs.parsing.first_look.Goals as goal
+
+pub returns-in_default : goal.returns-in_default
+returns-in_default c =
+    let d = ap ends_out c.in_default.is in record { sees = head-cut _ (sym c.head-a.ensures ∙ d) ∙ ap short (sym (c.short.ensures ∙ ap short_of d)) }
+
+pub bounds-body-0 : goal.bounds-body-0
+bounds-body-0 c =
+    let h = (ones-past 2 _ 0 (omega arith) c.head-a.ensures (ap ends_out c.in-At.is)).inside in omega arith
+
+pub returns-then-flags-lt32 : goal.returns-then-flags-lt32
+returns-then-flags-lt32 c =
+    record { sees = none_so (ones-past 2 _ 0 (omega arith) c.head-a.ensures (ap ends_out c.in-At.is)) c.wide-flags.ensures c.if-flags-lt32.true }
+
+pub first_section-requires : goal.first_section-requires
+first_section-requires c =
+    let i = (ones-past 2 _ 0 (omega arith) c.head-a.ensures (ap ends_out c.in-At.is)).inside in (i, flags-so c.wide-flags.ensures c.part.ensures c.part-2.ensures c.part-3.ensures, omega (arith, c.wide-flags.ensures, c.if-flags-lt32.false), omega (arith, c.shared_slice_known-2-1.given 0))

@@ -1,0 +1,14 @@
+-- `scene::tallying::presets_zeros` meets its contract: the byte of the section, and its rows.
+use Prim.Native.Nat.{◌+◌}
+use native.Mathlib.Omega.{arith}
+use borrow.Author.Rules.{rules}
+use Rattle.scene.proofs.tallying.presets_zeros.Goals as goal
+
+pub tally_presets-requires : goal.tally_presets-requires
+tally_presets-requires c =
+    rw (c.rows_at.ensures, c.count_at-count.ensures.0)
+    (c.requires.0, c.requires.1, rw (← c.count_at-count.ensures.0) c.count_at-count.ensures.1)
+
+pub returns : goal.returns
+returns c =
+    (rw (← c.rows_at.ensures, ← c.count_at-count.ensures.0) (λ i. c.reserved_zeros-reserved.ensures i + c.tally_presets.ensures.0 i), omega arith)

@@ -1,0 +1,13 @@
+-- `fill_groups` stores each row: what is still to store from here is what was to store from the start.
+use mathlib.Core.Path.{refl}
+use Rattle.wire.proofs.Reading.Loops.{Filling, fill-next, fill_end, first_done}
+use Rattle.wire.specs.Layout.{flat}
+use Rattle.scene_groups.specs.Layout.{group}
+use borrow.Author.Rules.{rules}
+use Rattle.scene_groups.proofs.parsing.fill_groups.Given as goal
+
+abbrev pub invariant-loop-left : goal.invariant-loop-left
+invariant-loop-left l = Filling (flat 27 group) (λ r. r) 27 l.body l.at l.count l.initial.groups 0 l.groups l.pos l.left l.to
+
+abbrev pub decreases-loop-left : goal.decreases-loop-left
+decreases-loop-left l = l.left

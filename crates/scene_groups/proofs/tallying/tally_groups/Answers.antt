@@ -1,0 +1,19 @@
+use mathlib.Core.List.{[], ◌∷◌}
+use Rattle.wire.specs.Layout.{flat, of, tally}
+use Rattle.wire.proofs.Reading.Loops.{first_done}
+use Rattle.wire.proofs.Reading.Adding.{Adding, adding-start, adding-turn, adding-end}
+use Rattle.scene_groups.specs.Layout.{group}
+use borrow.Author.Rules.{rules}
+use Rattle.scene_groups.proofs.tallying.tally_groups.Goals as goal
+
+pub loop-left-init : goal.loop-left-init
+loop-left-init c = adding-start (flat 27 group) _ 21 _ _ _ c.requires.0 c.requires.1
+
+pub group_at-p-requires : goal.group_at-p-requires
+group_at-p-requires c = (c.loop-left.invariant.inside, first_done (flat 27 group) _ _ _ c.loop-left-test.true c.loop-left.invariant.sound)
+
+pub loop-left-preserved : goal.loop-left-preserved
+loop-left-preserved c = search adding-turn
+
+pub returns : goal.returns
+returns c = adding-end (flat 27 group) _ 21 _ _ _ c.loop-left.invariant c.loop-left-test.false

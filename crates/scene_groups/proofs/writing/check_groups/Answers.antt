@@ -1,0 +1,11 @@
+-- `check_groups` counts the plain rows, and names the fault of the first that is not.
+use Rattle.wire.proofs.Writing.Plain.{plain-odd, plain_end}
+use Rattle.scene_groups.proofs.Writes.{row-acts}
+use borrow.Author.Rules.{rules}
+use Rattle.scene_groups.proofs.writing.check_groups.Goals as goal
+
+pub returns-then-i-count : goal.returns-then-i-count
+returns-then-i-count c = plain-odd _ 13 _ _ c.plain_rows-p.ensures c.if-i-count.true (rw row-acts at c.check_group.ensures)
+
+pub returns-else-i-count : goal.returns-else-i-count
+returns-else-i-count c = plain_end _ 13 _ _ c.plain_rows-p.ensures c.if-i-count.false

@@ -1,0 +1,26 @@
+-- `fill_language` stores the bytes of a language that is there.
+use mathlib.Core.Path.{◌≡◌, sym, ◌∙◌}
+use Rattle.wire.specs.Spell.{Spelt}
+use Rattle.scene_groups.specs.Rows.{language_of}
+use Rattle.scene_groups.specs.Write.{language_fields}
+use Rattle.scene_groups.proofs.Writes.{ready-there, filled-there, filled-absent}
+use borrow.Author.Rules.{rules}
+use Rattle.scene_groups.proofs.writing.fill_language.Goals as goal
+
+there : (c : goal.Then-column-eq1) → (language_of c.args.groups.now c.args.b).present ≡ 1
+there c = sym c.column.ensures ∙ c.if-column-eq1.true
+
+spelt : (c : goal.After-language_bytes-bytes)
+    → Spelt (language_fields (language_of c.args.groups.now c.args.b)) c.language_bytes-bytes.result
+spelt c = rw c.of_columns.ensures at c.language_bytes-bytes.ensures
+
+pub fill_all-requires : goal.fill_all-requires
+fill_all-requires c = search (ready-there, there, spelt)
+
+pub returns-then-column-eq1 : goal.returns-then-column-eq1
+returns-then-column-eq1 c = search (filled-there, there, spelt)
+
+pub returns-else-column-eq1 : goal.returns-else-column-eq1
+returns-else-column-eq1 c =
+    let s = c.args in filled-absent (language_fields (language_of s.groups.now s.b))
+    (λ x. c.if-column-eq1.false (c.column.ensures ∙ x))

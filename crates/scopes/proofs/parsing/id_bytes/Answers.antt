@@ -1,0 +1,13 @@
+-- `scopes::parsing::id_bytes` meets its contract.
+use native.Mathlib.Omega.{arith}
+use Rattle.scopes.proofs.Taken.{id-there, id-absent}
+use borrow.Author.Rules.{rules}
+use Rattle.scopes.proofs.parsing.id_bytes.Goals as goal
+
+pub returns-then-case_of-eq0 : goal.returns-then-case_of-eq0
+returns-then-case_of-eq0 c =
+    (id-absent _ _ c.case_of.ensures c.if-case_of-eq0.true, omega arith)
+
+pub returns-else-case_of-eq0 : goal.returns-else-case_of-eq0
+returns-else-case_of-eq0 c =
+    (id-there _ _ c.case_of.ensures c.if-case_of-eq0.false, omega arith)

@@ -1,0 +1,13 @@
+-- `scopes::writing::fill_scope` meets its contract: the type byte, then the ID byte where it has one.
+use Rattle.scopes.proofs.Written.{type-ready, id-ready, scope-filled}
+use borrow.Author.Rules.{rules}
+use Rattle.scopes.proofs.writing.fill_scope.Goals as goal
+
+pub fill_all-m-requires : goal.fill_all-m-requires
+fill_all-m-requires c = search type-ready
+
+pub fill_all-requires : goal.fill_all-requires
+fill_all-requires c = search id-ready
+
+pub returns : goal.returns
+returns c = search scope-filled

@@ -1,0 +1,29 @@
+-- `group_at` takes the fields of the first byte, and those of the second outside the main stream.
+use Rattle.wire.proofs.Layouts.Straight.{Whole, flat-done}
+use Rattle.stream_groups.specs.Layout.{group}
+use Rattle.stream_groups.proofs.Taken.{first-there, second-there, main-done, outside-done}
+use borrow.Author.Rules.{rules}
+use Rattle.stream_groups.proofs.parsing.group_at.Goals as goal
+
+whole : (c : goal.Start) → Whole 5 group c.args.body.now c.args.at
+whole c = flat-done 5 group _ _ c.requires.0 c.requires.1
+
+abbrev start : goal.After-part-2 → goal.Start
+start c = c.before.before.before.before.before
+
+pub bounds-body-at : goal.bounds-body-at
+bounds-body-at c = first-there (whole c.before.before)
+
+pub returns-then-part-eq1 : goal.returns-then-part-eq1
+returns-then-part-eq1 c =
+    let p = c.before.before in
+    rw (c.in_main_stream.ensures, p.part.ensures) (main-done (whole (start p)) p.wide-e.ensures p.part-2.ensures c.if-part-eq1.true)
+
+pub bounds-body-at-2 : goal.bounds-body-at-2
+bounds-body-at-2 c = let p = c.before.before in second-there (whole (start p)) p.wide-e.ensures p.part-2.ensures c.if-part-eq1.false
+
+pub returns : goal.returns
+returns c =
+    let p = c.before.before.before.before.before.before in
+    let d = outside-done (whole (start p)) p.wide-e.ensures p.part-2.ensures c.if-part-eq1.false c.wide-x.ensures in
+    rw (c.in_auxiliary_stream.ensures, p.part.ensures, c.part-3.ensures, c.part-4.ensures) d

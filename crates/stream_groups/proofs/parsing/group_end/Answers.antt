@@ -1,0 +1,32 @@
+-- `group_end` is where the reads of a group end: its first byte, and a second one outside the main stream.
+use mathlib.Core.Path.{ap}
+use native.Mathlib.Omega.{arith}
+use Rattle.wire.specs.Reads.{byte_out}
+use Rattle.wire.proofs.Layouts.Straight.{Behind}
+use Rattle.stream_groups.proofs.Taken.{group-cut, group-behind, group-main, group-outside}
+use borrow.Author.Rules.{rules}
+use Rattle.stream_groups.proofs.parsing.group_end.Goals as goal
+
+abbrev start : goal.In-Got → goal.Start
+start c = c.before.before.before
+
+-- behind the first byte
+after-1 : (c : goal.In-Got) → Behind c.args.body.now c.args.at c.in-Got.next
+after-1 c = group-behind _ _ c.byte_at-a.ensures.is c.requires (ap byte_out c.in-Got.is)
+
+pub returns-in_default : goal.returns-in_default
+returns-in_default c = group-cut _ _ c.byte_at-a.ensures.is (ap byte_out c.in_default.is) c.short.ensures
+
+pub head-requires : goal.head-requires
+head-requires c = ((after-1 c.before.before).inside, omega arith)
+
+pub returns-then-part-eq0 : goal.returns-then-part-eq0
+returns-then-part-eq0 c =
+    let d = c.before.before.before in
+    group-outside _ _ d.byte_at-a.ensures.is d.requires (ap byte_out d.in-Got.is) c.part.ensures
+    c.if-part-eq0.true c.head.ensures
+
+pub returns : goal.returns
+returns c =
+    let d = c.before.before in
+    group-main _ _ d.byte_at-a.ensures.is d.requires (ap byte_out d.in-Got.is) c.part.ensures c.if-part-eq0.false

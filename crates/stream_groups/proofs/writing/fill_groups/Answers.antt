@@ -1,0 +1,28 @@
+use Prim.Native.Nat.{◌-◌, ◌≤◌}
+use native.Mathlib.Omega.{arith}
+use native.Mathlib.Nat.{sub-zero}
+use Rattle.wire.specs.Act.{rows}
+use Rattle.wire.proofs.Writing.Passes.{Filling, rows-turn, rows_end, fill_start, fill-row, fill-turn, fill_end}
+use Rattle.wire.proofs.Writing.Plain.{filled-long}
+use Rattle.stream_groups.specs.Write.{row_acts}
+use Rattle.stream_groups.proofs.Writes.{row-acts}
+use borrow.Author.Rules.{rules}
+use Rattle.stream_groups.proofs.writing.fill_groups.Goals as goal
+
+pub loop-i-init : goal.loop-i-init
+loop-i-init c = (omega arith, rw sub-zero (fill_start c.requires.2))
+
+pub fill_group-at-requires : goal.fill_group-at-requires
+fill_group-at-requires c =
+    rw (c.of_columns-g.ensures, row-acts) (fill-row _ _ c.loop-i.invariant.1 (rows-turn _ _ _ c.loop-i-test.true))
+
+pub loop-i-preserved : goal.loop-i-preserved
+loop-i-preserved c =
+    let w = rw (c.of_columns-g.ensures, row-acts) at c.fill_group-at.ensures in
+    (omega arith, fill-turn c.loop-i.invariant.1 (rows-turn _ _ _ c.loop-i-test.true) (filled-long w) w)
+
+pub shape_of-out : goal.shape_of-out
+shape_of-out c = c.loop-i.invariant.1.size
+
+pub returns : goal.returns
+returns c = fill_end c.loop-i.invariant.1 (rows_end _ _ _ c.loop-i-test.false)

@@ -1,0 +1,35 @@
+use Prim.Native.Nat.{◌+◌, ◌-◌, ◌*◌}
+use mathlib.Core.Path.{◌≡◌}
+use native.Mathlib.Omega.{arith}
+use Rattle.wire.specs.Pen.{Quick}
+use Rattle.wire.proofs.Writing.Plain.{Going, going_start, going-turn, going-odd, going_end}
+use Rattle.stream_groups.specs.Write.{row_acts}
+use Rattle.stream_groups.proofs.Writes.{row-acts}
+use borrow.Author.Rules.{rules}
+use Rattle.stream_groups.proofs.writing.plain_rows.Goals as goal
+
+-- what the quick test says of a row
+quick : (c : goal.After-plain_bytes-k) → Quick (row_acts c.args.groups.now c.loop-i.i) 2 c.plain_bytes-k.result
+quick c = rw (c.loop-i.invariant.0, row-acts c.args.groups.now c.loop-i.i) at c.plain_bytes-k.ensures
+
+abbrev start : goal.Else-k-eq0 → goal.Start
+start c = c.before.before.before.before.before
+
+turn : (c : goal.Else-k-eq0) → Going (row_acts c.args.groups.now) 2 c.args.count (c.loop-i.i + 1)
+    (c.loop-i.bytes + c.plain_bytes-k.result)
+turn c = let l = c.if-k-eq0.false in going-turn c.loop-i.invariant.1 (quick c.before) c.loop-i-test.true (omega (arith, l))
+
+pub loop-i-init : goal.loop-i-init
+loop-i-init c = (omega arith, going_start _ 2 _)
+
+pub returns-then-k-eq0 : goal.returns-then-k-eq0
+returns-then-k-eq0 c = going-odd c.loop-i.invariant.1 (quick c.before) c.if-k-eq0.true
+
+pub overflow_add-bytes : goal.overflow_add-bytes
+overflow_add-bytes c = omega (arith, (turn c).few, c.loop-i-test.true, c.requires.1)
+
+pub loop-i-preserved : goal.loop-i-preserved
+loop-i-preserved c = (omega arith, turn c)
+
+pub returns : goal.returns
+returns c = going_end c.loop-i.invariant.1 c.loop-i-test.false

@@ -1,0 +1,16 @@
+-- `plain_rows` counts the rows before the first that is not plain, and their bytes.
+use Prim.Native.Nat.{◌+◌, ◌-◌, ◌*◌}
+use mathlib.Core.Path.{◌≡◌}
+use native.Mathlib.Omega.{arith}
+use Rattle.wire.specs.Pen.{Quick}
+use Rattle.wire.proofs.Writing.Plain.{Going, going_start, going-turn, going-odd, going_end}
+use Rattle.stream_groups.specs.Write.{row_acts}
+use Rattle.stream_groups.proofs.Writes.{row-acts}
+use borrow.Author.Rules.{rules}
+use Rattle.stream_groups.proofs.writing.plain_rows.Given as goal
+
+abbrev pub invariant-loop-i : goal.invariant-loop-i
+invariant-loop-i l = (l.b ≡ l.i * 5) × Going (row_acts l.groups) 2 l.count l.i l.bytes
+
+abbrev pub decreases-loop-i : goal.decreases-loop-i
+decreases-loop-i l = l.count - l.i

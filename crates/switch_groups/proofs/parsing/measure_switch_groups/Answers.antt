@@ -1,0 +1,29 @@
+use native.Mathlib.Omega.{arith}
+use lib.ListN.{length}
+use Rattle.wire.proofs.Reading.Loops.{Summing, sum-start, sum-turn, sum-cut, sum-end, sum-small, summed-as}
+use Rattle.wire.proofs.Layouts.Families.{kids-summed}
+use Rattle.switch_groups.specs.Layout.{switch_group_list}
+use borrow.Author.Rules.{rules}
+use Rattle.switch_groups.proofs.parsing.measure_switch_groups.Goals as goal
+
+pub loop-left-init : goal.loop-left-init
+loop-left-init c =
+    sum-start switch_group_list (λ x. length x.1) 32 _ _ _ c.requires.0
+
+pub switch_group_rows-a-requires : goal.switch_group_rows-a-requires
+switch_group_rows-a-requires c =
+    c.loop-left.invariant.carries.inside
+
+pub returns-in_default : goal.returns-in_default
+returns-in_default c = search (summed-as, kids-summed, sum-cut)
+
+pub overflow_add-rows : goal.overflow_add-rows
+overflow_add-rows c =
+    omega (arith, sum-small c.switch_group_rows-a.ensures c.in-Got.is, c.loop-left.invariant.small, c.requires.1)
+
+pub loop-left-preserved : goal.loop-left-preserved
+loop-left-preserved c = search sum-turn
+
+pub returns : goal.returns
+returns c =
+    summed-as kids-summed (sum-end switch_group_list (λ x. length x.1) 32 _ _ _ c.loop-left.invariant c.loop-left-test.false)

@@ -1,0 +1,8 @@
+-- `writing::default_bytes` meets its contract.
+use Rattle.wire.specs.Spell.{none, more}
+use borrow.Author.Rules.{rules}
+use Rattle.switch_groups.proofs.writing.default_bytes.Goals as goal
+
+pub returns : goal.returns
+returns c =
+    more c.two.ensures none

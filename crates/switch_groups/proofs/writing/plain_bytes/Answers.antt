@@ -1,0 +1,22 @@
+-- `writing::plain_bytes` meets its contract: a fault of its own, one of a member, or none.
+use mathlib.Core.Logic.{⊎_elim}
+use Rattle.switch_groups.proofs.Writes.{row-uncounted, row-odd, row-behind, row_plain, row-odd-kid}
+use borrow.Author.Rules.{rules}
+use Rattle.switch_groups.proofs.writing.plain_bytes.Goals as goal
+
+pub plain_pairs-requires : goal.plain_pairs-requires
+plain_pairs-requires c =
+    let a = c.args in
+    (row-behind a.members.now a.g c.in_table.ensures c.if-counted.true c.fields_fit.ensures c.if-fields_fit.true).inside
+
+pub returns-then-plain_pairs-count : goal.returns-then-plain_pairs-count
+returns-then-plain_pairs-count c = search row_plain
+
+pub returns-else-plain_pairs-count : goal.returns-else-plain_pairs-count
+returns-else-plain_pairs-count c = search row-odd-kid
+
+pub returns-else-counted : goal.returns-else-counted
+returns-else-counted c =
+    let a = c.args in
+    ⊎_elim (λ w. row-odd a.members.now a.g c.in_table.ensures w.0.taken w.1.ensures w.2.left)
+    (λ w. row-uncounted a.members.now a.g c.in_table.ensures w.left) c.else-counted.branch

@@ -1,0 +1,35 @@
+-- `parsing::target_end` meets its contract.
+use mathlib.Core.Path.{ap}
+use native.Mathlib.Omega.{arith}
+use Rattle.wire.specs.Bits.{part}
+use Rattle.wire.specs.Reads.{ends_out}
+use Rattle.wire.proofs.Layouts.Straight.{Behind, behind-one, one-cut, one_more}
+use Rattle.wire.proofs.Fields.{part-below}
+use Rattle.target_loudness.proofs.Taken.{there-ends, none-ends}
+use borrow.Author.Rules.{rules}
+use Rattle.target_loudness.proofs.parsing.target_end.Goals as goal
+
+after-1 : (c : goal.In-At)
+    → Behind c.args.body.now c.args.at c.in-At.n
+after-1 c = behind-one _ _ c.requires.0 c.head-a.ensures (ap ends_out c.in-At.is)
+
+pub returns-in_default : goal.returns-in_default
+returns-in_default c =
+    there-ends _ _ c.if-present-eq1.true (one-cut _ _ _ c.head-a.ensures (ap ends_out c.in_default.is))
+
+pub bounds-body-at : goal.bounds-body-at
+bounds-body-at c =
+    (after-1 c.before).there
+
+pub head-requires : goal.head-requires
+head-requires c =
+    ((after-1 c.before.before.before).inside, omega (arith, c.part.ensures, part-below 0 1 c.wide.result))
+
+pub returns-in-At : goal.returns-in-At
+returns-in-At c =
+    there-ends _ _ c.if-present-eq1.true
+    (one_more (after-1 c.before.before.before.before) (omega (arith, c.part.ensures, ap (part 0 1) c.wide.ensures)) c.head.ensures)
+
+pub returns-else-present-eq1 : goal.returns-else-present-eq1
+returns-else-present-eq1 c =
+    none-ends _ _ c.if-present-eq1.false

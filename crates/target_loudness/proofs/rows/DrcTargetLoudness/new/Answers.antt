@@ -1,0 +1,7 @@
+-- `rows::DrcTargetLoudness::new` meets its contract.
+use borrow.Author.Rules.{rules}
+use Rattle.target_loudness.proofs.rows.DrcTargetLoudness.new.Goals as goal
+
+pub returns : goal.returns
+returns c =
+    cc

@@ -1,0 +1,13 @@
+-- `tallying::zero_bits` meets its contract: the bits of the second byte, and those of the languages.
+use Rattle.text_label.proofs.Sighted.{two-measured, languages-done, count-few, whole-body, tallies-are}
+use borrow.Author.Rules.{rules}
+use Rattle.text_label.proofs.tallying.zero_bits.Goals as goal
+
+pub bounds-body-1 : goal.bounds-body-1
+bounds-body-1 c = search (rules, two-measured)
+
+pub tally_languages-t-requires : goal.tally_languages-t-requires
+tally_languages-t-requires c = search (two-measured, whole-body, languages-done, count-few)
+
+pub returns : goal.returns
+returns c = search tallies-are

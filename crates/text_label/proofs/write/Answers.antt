@@ -1,0 +1,17 @@
+-- `text_label::write` meets its contract: what is answered after the check pass, and the fill pass.
+use Rattle.frame.proofs.Entries.{writes-refused, fillable, writes-done}
+use Rattle.text_label.specs.Kind.{kind}
+use borrow.Author.Rules.{rules}
+use Rattle.text_label.proofs.write.Goals as goal
+
+pub returns-in_default : goal.returns-in_default
+returns-in_default c = writes-refused kind _ _ _ c.check.ensures _ c.judge-w.ensures c.in_default.keys2
+
+pub fill-requires : goal.fill-requires
+fill-requires c =
+    fillable kind _ _ _ c.check.ensures _ c.judge-w.ensures c.in-Done.is
+
+pub returns : goal.returns
+returns c =
+    writes-done kind _ _ _ c.check.ensures _
+    c.judge-w.ensures c.in-Done.is c.fill.ensures

@@ -1,0 +1,17 @@
+-- `writing::check_languages` meets its contract: what is left to check from a row on; a fault ends it.
+use Prim.Native.Nat.{◌+◌, ◌-◌, ◌*◌, ◌≤◌}
+use native.Mathlib.Omega.{arith}
+use native.Mathlib.Nat.{sub-zero}
+use Rattle.wire.specs.Act.{rows}
+use Rattle.wire.specs.declared.pen.Pen.TheVariants.{At}
+use Rattle.wire.proofs.Writing.Passes.{Checking, rows-turn, rows_end, check-start, check-turn, check-stop, check-end}
+use Rattle.text_label.specs.Write.{row_acts}
+use borrow.Author.Rules.{rules}
+use Rattle.text_label.proofs.writing.check_languages.Given as goal
+
+abbrev pub invariant-loop-i : goal.invariant-loop-i
+invariant-loop-i l =
+    (l.i ≤ l.count) × Checking (rows (row_acts l.languages l.entries l.store) 0 l.count) (rows (row_acts l.languages l.entries l.store) l.i (l.count - l.i)) (48579 * l.i) (At l.initial.at) (At l.at)
+
+abbrev pub decreases-loop-i : goal.decreases-loop-i
+decreases-loop-i l = l.count - l.i

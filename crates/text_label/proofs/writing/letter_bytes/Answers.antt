@@ -1,0 +1,7 @@
+-- `writing::letter_bytes` meets its contract.
+use Rattle.wire.specs.Spell.{none, more}
+use borrow.Author.Rules.{rules}
+use Rattle.text_label.proofs.writing.letter_bytes.Goals as goal
+
+pub returns : goal.returns
+returns c = more c.one.ensures (more c.one-2.ensures (more c.one-3.ensures none))
