@@ -170,7 +170,7 @@ pub fn fill_conditions(
     to: usize,
 ) -> usize
     requires { (at ≤ length body.now) × (is_done (run (many count (flat 13 condition)) body.now at) ≡ true) × (to + 13 * count ≤ length conditions.old) }
-    ensures* { λ r. ⌜ (r ≡ pos_of (run (many count (flat 13 condition)) body.now at)) × (conditions.new ≡ sets conditions.old to (flat_map (λ r. r) (rows_of (run (many count (flat 13 condition)) body.now at)))) ⌝ }
+    ensures { (result ≡ pos_of (run (many count (flat 13 condition)) body.now at)) × (conditions.new ≡ sets conditions.old to (flat_map (λ r. r) (rows_of (run (many count (flat 13 condition)) body.now at)))) }
 {
     let mut pos = at;
     let mut left = count;

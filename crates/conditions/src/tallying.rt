@@ -43,7 +43,7 @@ pub struct Tallied {
 // The reserved bits at 0 of `count` conditions that were measured.
 pub fn tally_conditions(body: &[u8], at: usize, count: usize) -> Tallied
     requires { (at ≤ length body.now) × (is_done (run (many count (flat 13 condition)) body.now at) ≡ true) × (count < 2 ^ 16) }
-    ensures* { λ r. ⌜ (r.zeros ≡ sum (λ r. tally (condition ∷ []) (of r)) (rows_of (run (many count (flat 13 condition)) body.now at))) × (r.next ≡ pos_of (run (many count (flat 13 condition)) body.now at)) × (r.zeros ≤ 10 * count) ⌝ }
+    ensures { (result.zeros ≡ sum (λ r. tally (condition ∷ []) (of r)) (rows_of (run (many count (flat 13 condition)) body.now at))) × (result.next ≡ pos_of (run (many count (flat 13 condition)) body.now at)) × (result.zeros ≤ 10 * count) }
 {
     let mut pos = at;
     let mut left = count;

@@ -40,7 +40,7 @@ fn downmix_at(body: &[u8], at: usize) -> DownmixDefinition
 // Stores `count` downmix definitions that were measured as the first rows of table 12.
 pub fn fill_downmixes(body: &[u8], at: usize, count: usize, downmixes: &mut [u16])
     requires { (at ≤ length body.now) × (is_done (run (many count (flat 4 downmix)) body.now at) ≡ true) × (4 * count ≤ length downmixes.old) }
-    ensures* { λ r. ⌜ downmixes.new ≡ sets downmixes.old 0 (flat_map (λ r. r) (rows_of (run (many count (flat 4 downmix)) body.now at))) ⌝ }
+    ensures { downmixes.new ≡ sets downmixes.old 0 (flat_map (λ r. r) (rows_of (run (many count (flat 4 downmix)) body.now at))) }
 {
     let mut pos = at;
     let mut left = count;

@@ -10,7 +10,7 @@ use wire::bits::{idle_bits, part, wide};
 
 pub fn tally_downmixes(body: &[u8], at: usize, count: usize) -> u32
     requires { (at ≤ length body.now) × (is_done (run (many count (flat 4 downmix)) body.now at) ≡ true) × (count < 32) }
-    ensures* { λ r. ⌜ r ≡ sum (λ r. tally (downmix ∷ []) (of r)) (rows_of (run (many count (flat 4 downmix)) body.now at)) ⌝ }
+    ensures { result ≡ sum (λ r. tally (downmix ∷ []) (of r)) (rows_of (run (many count (flat 4 downmix)) body.now at)) }
 {
     let mut pos = at;
     let mut left = count;

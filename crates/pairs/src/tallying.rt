@@ -10,7 +10,7 @@ use wire::bits::{idle_bits, part, wide};
 
 pub fn pairs_zeros(body: &[u8], at: usize, count: usize) -> u32
     requires { (at ≤ length body.now) × (is_done (run (many count (flat 2 pair)) body.now at) ≡ true) × (count ≤ 32) }
-    ensures* { λ r. ⌜ (r ≡ sum (λ r. tally (pair ∷ []) (of r)) (rows_of (run (many count (flat 2 pair)) body.now at))) × (r ≤ count) ⌝ }
+    ensures { (result ≡ sum (λ r. tally (pair ∷ []) (of r)) (rows_of (run (many count (flat 2 pair)) body.now at))) × (result ≤ count) }
 {
     let mut pos = at;
     let mut left = count;

@@ -269,7 +269,7 @@ pub fn rows_at(at: usize, flag: u16) -> usize
 
 fn fill_groups_section(body: &[u8], at: usize, flag: u16, groups: &mut [u16])
     requires { (rows_at flag at ≤ length body.now) × (is_done (run (many (count_at 7 body.now flag at) (flat 27 group)) body.now (rows_at flag at)) ≡ true) × (27 * count_at 7 body.now flag at ≤ length groups.old) × (at < 2 ^ 32) }
-    ensures* { λ r. ⌜ groups.new ≡ sets groups.old 0 (flat_map (λ r. r) (rows_of (run (many (count_at 7 body.now flag at) (flat 27 group)) body.now (rows_at flag at)))) ⌝ }
+    ensures { groups.new ≡ sets groups.old 0 (flat_map (λ r. r) (rows_of (run (many (count_at 7 body.now flag at) (flat 27 group)) body.now (rows_at flag at)))) }
 {
     let count = count_at(body, at, flag, 7);
     fill_groups(body, rows_at(at, flag), count as usize, groups);

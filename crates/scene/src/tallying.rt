@@ -33,7 +33,7 @@ fn reserved_zeros(body: &[u8], at: usize, flag: u16, width: u32, low: u32) -> u3
 
 fn groups_zeros(body: &[u8], at: usize, flag: u16) -> usize
     requires { (rows_at flag at ≤ length body.now) × (is_done (run (many (count_at 7 body.now flag at) (flat 27 group)) body.now (rows_at flag at)) ≡ true) × (at < 2 ^ 32) }
-    ensures* { λ r. ⌜ (r ≡ reserved_zeros 1 7 body.now flag at + sum (λ r. tally (group ∷ []) (of r)) (rows_of (run (many (count_at 7 body.now flag at) (flat 27 group)) body.now (rows_at flag at)))) × (r < 2 ^ 33) ⌝ }
+    ensures { (result ≡ reserved_zeros 1 7 body.now flag at + sum (λ r. tally (group ∷ []) (of r)) (rows_of (run (many (count_at 7 body.now flag at) (flat 27 group)) body.now (rows_at flag at)))) × (result < 2 ^ 33) }
 {
     let reserved = reserved_zeros(body, at, flag, 1, 7) as usize;
     let count = count_at(body, at, flag, 7) as usize;

@@ -46,7 +46,7 @@ fn group_zeros(g: SceneGroup) -> u32
 // The reserved bits at 0 of `count` groups that were measured.
 pub fn tally_groups(body: &[u8], at: usize, count: usize) -> u32
     requires { (at ≤ length body.now) × (is_done (run (many count (flat 27 group)) body.now at) ≡ true) × (count < 2 ^ 16) }
-    ensures* { λ r. ⌜ r ≡ sum (λ r. tally (group ∷ []) (of r)) (rows_of (run (many count (flat 27 group)) body.now at)) ⌝ }
+    ensures { result ≡ sum (λ r. tally (group ∷ []) (of r)) (rows_of (run (many count (flat 27 group)) body.now at)) }
 {
     let mut pos = at;
     let mut left = count;

@@ -126,7 +126,7 @@ fn group_at(body: &[u8], at: usize) -> Placed
 // Stores `count` groups that were measured as the first rows of table 8.
 pub fn fill_groups(body: &[u8], at: usize, count: usize, groups: &mut [u16])
     requires { (at ≤ length body.now) × (is_done (run (many count (flat 5 group)) body.now at) ≡ true) × (5 * count ≤ length groups.old) }
-    ensures* { λ r. ⌜ groups.new ≡ sets groups.old 0 (flat_map (λ r. r) (rows_of (run (many count (flat 5 group)) body.now at))) ⌝ }
+    ensures { groups.new ≡ sets groups.old 0 (flat_map (λ r. r) (rows_of (run (many count (flat 5 group)) body.now at))) }
 {
     let mut pos = at;
     let mut left = count;

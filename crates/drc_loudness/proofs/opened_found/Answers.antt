@@ -11,14 +11,12 @@ returns-then-s c =
 
 pub fill-requires : goal.fill-requires
 fill-requires c =
-    let x = y.before.before.before.before.before.before in
-    (x.requires.0, x.requires.1, all-roomy kind _ c.sizes-at.ensures _ c.room-r.ensures c.in-Enough.is)
+    (c.requires.0, c.requires.1, all-roomy kind _ c.sizes_at-s.ensures _ c.room-r.ensures c.in-Enough.is)
 
 pub returns-in-Lacks : goal.returns-in-Lacks
 returns-in-Lacks c =
-    record { gives = reads-lowest kind _ c.sizes-at.ensures _ c.room-r.ensures c.in-Lacks.is }
+    record { gives = reads-lowest kind _ c.sizes_at-s.ensures _ c.room-r.ensures c.in-Lacks.is }
 
 pub returns-in-Enough : goal.returns-in-Enough
 returns-in-Enough c =
-    let w = x.before.before.before.before.before.before in
-    record { gives = filled-opens kind _ c.sizes-at.ensures _ c.room-r.ensures c.in-Enough.is w.requires.0 c.fill.ensures }
+    record { gives = filled-opens kind _ c.sizes_at-s.ensures _ c.room-r.ensures c.in-Enough.is c.requires.0 c.fill.ensures }

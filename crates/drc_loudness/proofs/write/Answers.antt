@@ -24,7 +24,7 @@ returns-then-not-m c =
     (c.write_bare.ensures.of (head_fields m) c.head_bytes.ensures)
 
 pub returns-in_default : goal.returns-in_default
-returns-in_default c = writes-refused kind _ _ _ c.check-p.ensures _ c.judge-w.ensures c.in_default.keys2
+returns-in_default c = writes-refused kind _ _ _ c.check-p.ensures _ c.judge-w.ensures c.in_default.in_default-own.keys2
 
 pub fill-requires : goal.fill-requires
 fill-requires c =

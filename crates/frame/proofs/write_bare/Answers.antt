@@ -12,7 +12,7 @@ use Rattle.frame.proofs.write_bare.Goals as goal
 
 pub returns-in_default : goal.returns-in_default
 returns-in_default c =
-    record { of = λ fss s. writes-refused (head_kind fss) c.args.run [] c.args.store.now (c.check_bare.ensures.of fss s) _ c.judge-w.ensures c.in_default.keys2 }
+    record { of = λ fss s. writes-refused (head_kind fss) c.args.run [] c.args.store.now (c.check_bare.ensures.of fss s) _ c.judge-w.ensures c.in_default.in_default-own.keys2 }
 
 pub fill_bare-requires : goal.fill_bare-requires
 fill_bare-requires c =

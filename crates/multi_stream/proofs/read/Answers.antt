@@ -8,11 +8,11 @@ use Rattle.multi_stream.proofs.read.Goals as goal
 
 pub fill-requires : goal.fill-requires
 fill-requires c =
-    (rw c.m2.given.1 at c.measure.ensures, (has_room _ _ c.and_table-r.ensures c.in-Enough.is).1)
+    (rw c.in-Done.is at c.measure-m.ensures, (has_room _ _ c.and_table-r.ensures c.in-Enough.is).1)
 
 pub record_at-requires : goal.record_at-requires
 record_at-requires c =
-    rw c.m2.given.1 at c.measure.ensures
+    rw c.in-Done.is at c.measure-m.ensures
 
 pub returns-in-Refused : goal.returns-in-Refused
 returns-in-Refused c =
@@ -20,9 +20,9 @@ returns-in-Refused c =
 
 pub returns-in-Lacks : goal.returns-in-Lacks
 returns-in-Lacks c =
-    search (reads-lowest, room-so, rw c.m2.given.1 at c.measure.ensures)
+    search (reads-lowest, room-so, rw c.in-Done.is at c.measure-m.ensures)
 
 pub returns-in-Enough : goal.returns-in-Enough
 returns-in-Enough c =
-    reads-filled kind _ (rw c.m2.given.1 at c.measure.ensures) _ _ (has_room _ _ c.and_table-r.ensures
+    reads-filled kind _ (rw c.in-Done.is at c.measure-m.ensures) _ _ (has_room _ _ c.and_table-r.ensures
     c.in-Enough.is).0 c.fill.ensures c.record_at.ensures

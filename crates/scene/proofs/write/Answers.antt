@@ -19,12 +19,12 @@ pub returns-then-not-sections : goal.returns-then-not-sections
 unfolding kind
 returns-then-not-sections c =
     let m = c.args.m in
-    let t : Lent = c.args.groups.now ∷ c.args.switch-groups.now ∷ c.args.members.now ∷ c.args.presets.now ∷ c.args.conditions.now ∷ [] in
+    let t : Lent = c.args.groups.now ∷ c.args.switch_groups.now ∷ c.args.members.now ∷ c.args.presets.now ∷ c.args.conditions.now ∷ [] in
     bare-writes kind m t c.args.store.now _ (head_bytes m) (scene-acts m t c.args.store.now ∙ bare-acts m t c.if-not-sections.true)
     (c.write_bare.ensures.of (head_bytes m) c.head_bytes.ensures)
 
 pub returns-in_default : goal.returns-in_default
-returns-in_default c = writes-refused kind _ _ _ c.check-p.ensures _ c.judge-w.ensures c.in_default.keys2
+returns-in_default c = writes-refused kind _ _ _ c.check-p.ensures _ c.judge-w.ensures c.in_default.in_default-own.keys2
 
 pub fill-requires : goal.fill-requires
 fill-requires c =

@@ -11,7 +11,7 @@ returns-then-is_bare c = search bare-reads
 
 pub fill-requires : goal.fill-requires
 fill-requires c =
-    (search well-measured, both-roomy c.measure.ensures c.m2.given.1 c.and-table.ensures c.and_table-r.ensures c.in-Enough.is)
+    (search well-measured, both-roomy c.measure-m.ensures c.in-Done.is c.and_table-a.ensures c.and_table-r.ensures c.in-Enough.is)
 
 pub record_at-requires-in-Enough : goal.record_at-requires-in-Enough
 record_at-requires-in-Enough c = search well-measured

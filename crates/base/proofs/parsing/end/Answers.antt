@@ -9,22 +9,20 @@ use Rattle.base.proofs.Parsed.{three-cut, three-there, three-sets}
 use borrow.Author.Rules.{rules}
 use Rattle.base.proofs.parsing.end.Goals as goal
 
-abbrev start : goal.In-At → goal.Start
-start c = c.before.before.before
-
-there : (c : goal.In-At) → Past c.args.body.now 0 3 c.in-At.n
-there c = three-there _ c.head_end-a.ensures (ap ends_out c.in-At.is)
-
 pub returns-in_default : goal.returns-in_default
 returns-in_default c =
     let d = ap ends_out c.in_default.is in
     ap short (c.short.ensures ∙ ap short_of d) ∙ sym d ∙ three-cut _ c.head_end-a.ensures d
 
 pub bounds-body-1 : goal.bounds-body-1
-bounds-body-1 c = omega (arith, (there c.before).inside)
+bounds-body-1 c =
+    let there : Past c.args.body.now 0 3 c.in-At.n = three-there _ c.head_end-a.ensures (ap ends_out c.in-At.is) in
+    omega (arith, there.inside)
 
 pub sets_end-requires : goal.sets_end-requires
-sets_end-requires c = let h = there c.before.before.before in omega (arith, h.is, h.inside)
+sets_end-requires c =
+    let there : Past c.args.body.now 0 3 c.in-At.n = three-there _ c.head_end-a.ensures (ap ends_out c.in-At.is) in
+    let h = there in omega (arith, h.is, h.inside)
 
 pub returns : goal.returns
 returns c =

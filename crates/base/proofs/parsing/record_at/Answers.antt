@@ -32,5 +32,5 @@ pub returns : goal.returns
 returns c =
     let b1 = c.wide-b1.ensures in
     let b2 = c.wide-b2.ensures in tops_are _ c.requires _
-    (omega (arith, c.shared_slice_known-4-1.given 0)) (rw (c.part-2.ensures, b1) at c.sets_at.ensures)
+    (omega (arith, c.type_inv.body 0)) (rw (c.part-2.ensures, b1) at c.sets_at.ensures)
     c.trailing_run.ensures (rw (c.part.ensures, c.part-3.ensures, c.part-4.ensures, c.part-5.ensures, b1, b2) refl)

@@ -16,14 +16,6 @@ begun : {absent : Bool} (s : List ℕ) (at : ℕ) → absent ≡ false → at �
 unfolding sets
 begun s at e h = record { same = ap (λ (b : Bool). run (sets b) s at) e; inside = h }
 
-abbrev start-1 : goal.In-Got → goal.Start
-start-1 c = c.before.before.before.before
-
-counted : (c : goal.In-Got)
-    → From (sets c.args.absent) c.args.body.now c.args.at (after_count c.in-Got.count) c.in-Got.first
-counted c =
-    onward u8 _ (begun _ _ c.if-absent.false c.requires) c.byte_at-a.ensures.is (ap byte_out c.in-Got.is)
-
 pub returns-then-absent : goal.returns-then-absent
 unfolding sets run
 returns-then-absent c =
@@ -36,14 +28,17 @@ returns-in_default c =
 
 pub run_at-b-requires : goal.run_at-b-requires
 run_at-b-requires c =
-    ((counted c).inside, search rules)
+    let counted : From (sets c.args.absent) c.args.body.now c.args.at (after_count c.in-Got.count) c.in-Got.first = onward u8 _ (begun _ _ c.if-absent.false c.requires) c.byte_at-a.ensures.is (ap byte_out c.in-Got.is) in
+    (counted.inside, search rules)
 
 pub returns-in_default-b : goal.returns-in_default-b
 returns-in_default-b c =
-    ap end_of (cut_off (pass _) _ (counted c.before.before.before) c.run_at-b.ensures (ap run_out c.in_default-b.is)
+    let counted : From (sets c.args.absent) c.args.body.now c.args.at (after_count c.in-Got.count) c.in-Got.first = onward u8 _ (begun _ _ c.if-absent.false c.requires) c.byte_at-a.ensures.is (ap byte_out c.in-Got.is) in
+    ap end_of (cut_off (pass _) _ counted c.run_at-b.ensures (ap run_out c.in_default-b.is)
     c.short-in_default-b.ensures)
 
 pub returns : goal.returns
 returns c =
-    ap end_of (finished (onward (pass _) _ (counted c.before.before) c.run_at-b.ensures
+    let counted : From (sets c.args.absent) c.args.body.now c.args.at (after_count c.in-Got.count) c.in-Got.first = onward u8 _ (begun _ _ c.if-absent.false c.requires) c.byte_at-a.ensures.is (ap byte_out c.in-Got.is) in
+    ap end_of (finished (onward (pass _) _ counted c.run_at-b.ensures
     (ap run_out c.in-Got-b.is)) refl)

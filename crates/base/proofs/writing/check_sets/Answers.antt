@@ -11,18 +11,17 @@ use Rattle.base.specs.Write.{sets_acts}
 use borrow.Author.Rules.{rules}
 use Rattle.base.proofs.writing.check_sets.Goals as goal
 
-counted : (c : goal.After-byte-p1)
-    → Checked (byte (field 8 c.args.sets.indications.length ∷ []) ∷ []) 1 c.args.p c.byte-p1.result
-counted c = c.byte-p1.ensures.of (field 8 _ ∷ []) (c.fits2.ensures ∙ fit-one 8 _)
-
 pub run-requires : goal.run-requires
-run-requires c = (search rules, omega (arith, (counted c).near, c.requires))
+run-requires c =
+    let counted : Checked (byte (field 8 c.args.sets.indications.length ∷ []) ∷ []) 1 c.args.p c.byte-p1.result = c.byte-p1.ensures.of (field 8 _ ∷ []) (c.fits.ensures ∙ fit-one 8 _) in
+    (search rules, omega (arith, counted.near, c.requires))
 
 pub returns-then-sets : goal.returns-then-sets
 unfolding sets_acts
 returns-then-sets c =
+    let counted : Checked (byte (field 8 c.args.sets.indications.length ∷ []) ∷ []) 1 c.args.p c.byte-p1.result = c.byte-p1.ensures.of (field 8 _ ∷ []) (c.fits.ensures ∙ fit-one 8 _) in
     record {
-      of = λ l e. rw c.if-sets.true (more 65536 (then (counted c.before)
+      of = λ l e. rw c.if-sets.true (more 65536 (then counted
           (c.run.ensures.of l (rw c.if-sets.true at e))) (omega arith));
     }
 

@@ -8,28 +8,28 @@ use Rattle.base.specs.Write.{head_fields, listed, sets_acts, base_acts}
 use borrow.Author.Rules.{rules}
 use Rattle.base.proofs.writing.fill_fields.Goals as goal
 
-abbrev all : goal.Start → List Act
-all c = base_acts c.args.m c.args.store.now
-
-abbrev in-sets : goal.Start → List Act
-in-sets c = sets_acts c.args.m.compatible_sets (listed c.args.m.compatible_sets c.args.store.now)
-
-begin : (c : goal.Start) → Filling (all c) (when true (map byte (head_fields c.args.m)) ++ in-sets c) 0 c.args.out.now 0 c.args.out.now
-unfolding base_acts
-begin c = fill-demand (fill-demand (fill-demand (fill_start c.requires)))
-
-abbrev start : goal.After-fill_all-n → goal.Start
-start c = c.before.before.before.before.before.before
-
-behind : (c : goal.After-fill_all-n) → Filling (all (start c)) (in-sets (start c)) 0 c.args.out.now c.fill_all-n.result c.fill_all-n.new.out
-behind c = fill-part _ c.head_bytes.ensures (begin (start c)) c.fill_all-n.ensures
-
 pub fill_all-n-requires : goal.fill_all-n-requires
-fill_all-n-requires c = ready-part _ c.head_bytes.ensures (begin c.before.before.before.before.before)
+unfolding base_acts
+fill_all-n-requires c =
+    let all : List Act = base_acts c.args.m c.args.store.now in
+    let in-sets : List Act = sets_acts c.args.m.compatible_sets (listed c.args.m.compatible_sets c.args.store.now) in
+    let begin : Filling all (when true (map byte (head_fields c.args.m)) ++ in-sets) 0 c.args.out.now 0 c.args.out.now = fill-demand (fill-demand (fill-demand (fill_start c.requires))) in
+    ready-part _ c.head_bytes.ensures begin
 
 pub fill_sets-requires : goal.fill_sets-requires
 unfolding base_acts
-fill_sets-requires c = let d = c.before.before.before in (demanded d.requires, (behind d).ready)
+fill_sets-requires c =
+    let all : List Act = base_acts c.args.m c.args.store.now in
+    let in-sets : List Act = sets_acts c.args.m.compatible_sets (listed c.args.m.compatible_sets c.args.store.now) in
+    let begin : Filling all (when true (map byte (head_fields c.args.m)) ++ in-sets) 0 c.args.out.now 0 c.args.out.now = fill-demand (fill-demand (fill-demand (fill_start c.requires))) in
+    let behind : Filling all in-sets c.args.out.now c.fill_all-n.result c.fill_all-n.new.out = fill-part _ c.head_bytes.ensures begin c.fill_all-n.ensures in
+    let d = c.before.before.before in (demanded d.requires, behind.ready)
 
 pub returns : goal.returns
-returns c = fill-last (behind c.before.before.before.before.before.before) c.fill_sets.ensures
+unfolding base_acts
+returns c =
+    let all : List Act = base_acts c.args.m c.args.store.now in
+    let in-sets : List Act = sets_acts c.args.m.compatible_sets (listed c.args.m.compatible_sets c.args.store.now) in
+    let begin : Filling all (when true (map byte (head_fields c.args.m)) ++ in-sets) 0 c.args.out.now 0 c.args.out.now = fill-demand (fill-demand (fill-demand (fill_start c.requires))) in
+    let behind : Filling all in-sets c.args.out.now c.fill_all-n.result c.fill_all-n.new.out = fill-part _ c.head_bytes.ensures begin c.fill_all-n.ensures in
+    fill-last behind c.fill_sets.ensures

@@ -7,9 +7,6 @@ use Rattle.wire.specs.Spell.{Spells}
 use borrow.Author.Rules.{rules}
 use Rattle.base.proofs.writing.flags_byte.Goals as goal
 
-abbrev first : goal.After-spelt → goal.After-field
-first c = c.before.before.before.before.before.before
-
 pub returns : goal.returns
 unfolding total widths
 returns c =

@@ -9,27 +9,28 @@ use Rattle.conditions.proofs.Taken.{condition-long, long-with, condition-with, c
 use borrow.Author.Rules.{rules}
 use Rattle.conditions.proofs.parsing.condition_at.Goals as goal
 
-whole : (c : goal.Start) → Whole 13 condition c.args.body.now c.args.at
-whole c = flat-done 13 condition _ _ c.requires.0 c.requires.1
-
 pub bounds-body-at : goal.bounds-body-at
 bounds-body-at c =
-    omega (arith, (whole c.before.before).there, condition-long c.args.body.now c.args.at)
+    let whole : Whole 13 condition c.args.body.now c.args.at = flat-done 13 condition _ _ c.requires.0 c.requires.1 in
+    omega (arith, whole.there, condition-long c.args.body.now c.args.at)
 
 pub detail_from-detail-requires : goal.detail_from-detail-requires
 detail_from-detail-requires c =
-    let z = c.before.before.before.before.before.before in
-    omega (arith, (whole z).there, long-with z.args.body.now z.args.at c.wide-b.ensures c.part-2.ensures c.if-part-eq1.true)
+    let whole : Whole 13 condition c.args.body.now c.args.at = flat-done 13 condition _ _ c.requires.0 c.requires.1 in
+    omega (arith, whole.there, long-with c.args.body.now c.args.at c.wide-b.ensures c.part-2.ensures c.if-part-eq1.true)
 
 pub bounds-body-at-then-part-eq1 : goal.bounds-body-at-then-part-eq1
 bounds-body-at-then-part-eq1 c =
-    let z = c.before.before.before.before.before.before.before.before in
-    omega (arith, (whole z).there, long-with z.args.body.now z.args.at c.wide-b.ensures c.part-2.ensures c.if-part-eq1.true)
+    let whole : Whole 13 condition c.args.body.now c.args.at = flat-done 13 condition _ _ c.requires.0 c.requires.1 in
+    omega (arith, whole.there, long-with c.args.body.now c.args.at c.wide-b.ensures c.part-2.ensures c.if-part-eq1.true)
 
 pub returns-then-part-eq1 : goal.returns-then-part-eq1
 returns-then-part-eq1 c =
+    let whole : Whole 13 condition c.args.body.now c.args.at = flat-done 13 condition _ _ c.requires.0 c.requires.1 in
     search (condition-with, whole, c.behind.ensures.0 ∙ ap behind c.wide.ensures)
 
 pub returns-else-part-eq1 : goal.returns-else-part-eq1
 unfolding blanks
-returns-else-part-eq1 c = rw c.absent-detail.ensures (search (condition-without, whole))
+returns-else-part-eq1 c =
+    let whole : Whole 13 condition c.args.body.now c.args.at = flat-done 13 condition _ _ c.requires.0 c.requires.1 in
+    rw c.absent-detail.ensures (search (condition-without, whole))

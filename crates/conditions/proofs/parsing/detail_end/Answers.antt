@@ -7,22 +7,21 @@ use Rattle.conditions.specs.Rows.{behind}
 use borrow.Author.Rules.{rules}
 use Rattle.conditions.proofs.parsing.detail_end.Goals as goal
 
-after-1 : (c : goal.In-At)
-    → Behind c.args.body.now c.args.at c.in-At.n
-after-1 c = behind-one _ _ c.requires c.head-a.ensures (ap ends_out c.in-At.is)
-
 pub returns-in_default : goal.returns-in_default
 returns-in_default c =
     one-cut _ _ _ c.head-a.ensures (ap ends_out c.in_default.is)
 
 pub bounds-body-at : goal.bounds-body-at
 bounds-body-at c =
-    (after-1 c.before).there
+    let after-1 : Behind c.args.body.now c.args.at c.in-At.n = behind-one _ _ c.requires c.head-a.ensures (ap ends_out c.in-At.is) in
+    after-1.there
 
 pub head-requires : goal.head-requires
 head-requires c =
-    ((after-1 c.before.before.before).inside, omega (arith, c.behind.ensures.1))
+    let after-1 : Behind c.args.body.now c.args.at c.in-At.n = behind-one _ _ c.requires c.head-a.ensures (ap ends_out c.in-At.is) in
+    (after-1.inside, omega (arith, c.behind.ensures.1))
 
 pub returns : goal.returns
 returns c =
+    let after-1 : Behind c.args.body.now c.args.at c.in-At.n = behind-one _ _ c.requires c.head-a.ensures (ap ends_out c.in-At.is) in
     search (one_more, after-1, c.behind.ensures.0 ∙ ap behind c.wide.ensures)

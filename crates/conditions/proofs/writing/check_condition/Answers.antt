@@ -15,23 +15,22 @@ use Rattle.conditions.proofs.Writes.{condition-acts, id_bytes, when-there, when-
 use borrow.Author.Rules.{rules}
 use Rattle.conditions.proofs.writing.check_condition.Goals as goal
 
-step-1 : (c : goal.After-check_all-p1)
-    → Checked (demand F.Field (flags_of (condition_cols c.args.c)) ∷ demand F.Empty true ∷ map byte (id_bytes (condition_cols c.args.c))) 1 (At c.args.n) c.check_all-p1.result
-step-1 c =
-    then (rw c.flags_hold.ensures at c.demand-p0.ensures)
-    (then (met F.Empty _) (all-checked (more c.two.ensures none) c.check_all-p1.ensures))
-
 pub check_detail-requires : goal.check_detail-requires
 check_detail-requires c =
-    omega (arith, (step-1 c.before.before).near, c.requires)
+    let step-1 : Checked (demand F.Field (flags_of (condition_cols c.args.c)) ∷ demand F.Empty true ∷ map byte (id_bytes (condition_cols c.args.c))) 1 (At c.args.n) c.check_all-p1.result = then (rw c.flags_hold.ensures at c.demand-p0.ensures)
+    (then (met F.Empty _) (all-checked (more c.two.ensures none) c.check_all-p1.ensures)) in
+    omega (arith, step-1.near, c.requires)
 
 pub returns-then-d-eq1 : goal.returns-then-d-eq1
 returns-then-d-eq1 c =
-    let z = c.before.before.before in
-    rw (condition-acts (condition_cols z.args.c), when-there _ _ c.if-d-eq1.true)
-    (then (step-1 z) c.check_detail.ensures)
+    let step-1 : Checked (demand F.Field (flags_of (condition_cols c.args.c)) ∷ demand F.Empty true ∷ map byte (id_bytes (condition_cols c.args.c))) 1 (At c.args.n) c.check_all-p1.result = then (rw c.flags_hold.ensures at c.demand-p0.ensures)
+    (then (met F.Empty _) (all-checked (more c.two.ensures none) c.check_all-p1.ensures)) in
+    rw (condition-acts (condition_cols c.args.c), when-there _ _ c.if-d-eq1.true)
+    (then step-1 c.check_detail.ensures)
 
 pub returns-else-d-eq1 : goal.returns-else-d-eq1
 returns-else-d-eq1 c =
+    let step-1 : Checked (demand F.Field (flags_of (condition_cols c.args.c)) ∷ demand F.Empty true ∷ map byte (id_bytes (condition_cols c.args.c))) 1 (At c.args.n) c.check_all-p1.result = then (rw c.flags_hold.ensures at c.demand-p0.ensures)
+    (then (met F.Empty _) (all-checked (more c.two.ensures none) c.check_all-p1.ensures)) in
     rw (condition-acts (condition_cols c.args.c), when-absent _ _ c.if-d-eq1.false)
-    (then (step-1 c.before.before) (nothing 5 _))
+    (then step-1 (nothing 5 _))

@@ -12,23 +12,20 @@ use Rattle.conditions.specs.Write.{detail_cols}
 use borrow.Author.Rules.{rules}
 use Rattle.conditions.proofs.writing.check_detail.Goals as goal
 
-step-1 : (c : goal.After-check_all-p1)
-    → Checked (map byte (fields_of (detail_cols c.args.d) (flag_cells ∷ []))) 1 c.args.p c.check_all-p1.result
-step-1 c = all-checked (more c.flags_of.ensures none) c.check_all-p1.ensures
-
-step-2 : (c : goal.After-check_all-p2)
-    → Checked (when (eqb c.args.d.gain.present 1) (map byte (fields_of (detail_cols c.args.d) gain_cells))) 1 c.check_all-p1.result c.check_all-p2.result
-step-2 c = all-checked (more c.one.ensures none) c.check_all-p2.ensures
-
 pub check_all-p2-requires : goal.check_all-p2-requires
 check_all-p2-requires c =
-    (omega (arith, (step-1 c.before.before.before).near, c.requires), search rules)
+    let step-1 : Checked (map byte (fields_of (detail_cols c.args.d) (flag_cells ∷ []))) 1 c.args.p c.check_all-p1.result = all-checked (more c.flags_of.ensures none) c.check_all-p1.ensures in
+    (omega (arith, step-1.near, c.requires), search rules)
 
 pub check_all-requires : goal.check_all-requires
 check_all-requires c =
-    (search (rules, step-1 c.before.before.before.before.before.before.before, step-2 c.before.before.before), search rules)
+    let step-1 : Checked (map byte (fields_of (detail_cols c.args.d) (flag_cells ∷ []))) 1 c.args.p c.check_all-p1.result = all-checked (more c.flags_of.ensures none) c.check_all-p1.ensures in
+    let step-2 : Checked (when (eqb c.args.d.gain.present 1) (map byte (fields_of (detail_cols c.args.d) gain_cells))) 1 c.check_all-p1.result c.check_all-p2.result = all-checked (more c.one.ensures none) c.check_all-p2.ensures in
+    (search (rules, step-1, step-2), search rules)
 
 pub returns : goal.returns
 returns c =
-    then (step-1 c.before.before.before.before.before.before.before.before) (then (step-2 c.before.before.before.before)
+    let step-1 : Checked (map byte (fields_of (detail_cols c.args.d) (flag_cells ∷ []))) 1 c.args.p c.check_all-p1.result = all-checked (more c.flags_of.ensures none) c.check_all-p1.ensures in
+    let step-2 : Checked (when (eqb c.args.d.gain.present 1) (map byte (fields_of (detail_cols c.args.d) gain_cells))) 1 c.check_all-p1.result c.check_all-p2.result = all-checked (more c.one.ensures none) c.check_all-p2.ensures in
+    then step-1 (then step-2
     (then (all-checked c.position_bytes.ensures c.check_all.ensures) (nothing 0 _)))

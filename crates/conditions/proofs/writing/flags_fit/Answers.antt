@@ -10,8 +10,8 @@ use Rattle.conditions.proofs.writing.flags_fit.Goals as goal
 pub returns-then-four_fit : goal.returns-then-four_fit
 returns-then-four_fit c =
     let a = c.args in
-    ap (λ (b : Bool). b && c.fits2.result) (sym c.if-four_fit.true)
-    ∙ flags-fit a.reserved a.no-gain a.no-position a.gain a.position c.four_fit.ensures c.fits2.ensures
+    ap (λ (b : Bool). b && c.fits.result) (sym c.if-four_fit.true)
+    ∙ flags-fit a.reserved a.no-gain a.no-position a.gain a.position c.four_fit.ensures c.fits.ensures
 
 pub returns-else-four_fit : goal.returns-else-four_fit
 returns-else-four_fit c =

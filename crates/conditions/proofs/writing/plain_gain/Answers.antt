@@ -6,4 +6,4 @@ use borrow.Author.Rules.{rules}
 use Rattle.conditions.proofs.writing.plain_gain.Goals as goal
 
 pub returns-then-there : goal.returns-then-there
-returns-then-there c = rw c.if-there.true (rw c.of_columns-c.ensures at c.fits2.ensures ∙ fit-one 8 _ ∙ fit_line _)
+returns-then-there c = rw c.if-there.true (rw c.of_columns-c.ensures at c.fits.ensures ∙ fit-one 8 _ ∙ fit_line _)

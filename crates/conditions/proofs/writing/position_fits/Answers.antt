@@ -9,7 +9,7 @@ use Rattle.conditions.proofs.writing.position_fits.Goals as goal
 
 pub returns-then-four_fit : goal.returns-then-four_fit
 returns-then-four_fit c =
-    ap (λ (b : Bool). b && c.fits2.result) (sym c.if-four_fit.true) ∙ position-fit c.args.p c.four_fit.ensures c.fits2.ensures
+    ap (λ (b : Bool). b && c.fits.result) (sym c.if-four_fit.true) ∙ position-fit c.args.p c.four_fit.ensures c.fits.ensures
 
 pub returns-else-four_fit : goal.returns-else-four_fit
 returns-else-four_fit c =

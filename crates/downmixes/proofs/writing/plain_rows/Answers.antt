@@ -20,13 +20,13 @@ pub returns-then-not-fits_all : goal.returns-then-not-fits_all
 returns-then-not-fits_all c =
     going-odd c.loop-i.invariant
     (row-odd c.args.downmixes.now c.loop-i.i c.of_columns-d.ensures c.downmix_bytes.ensures
-    c.fits_all.ensures (not-true _ c.if-not-fits_all.true)) refl
+    c.fits_all.ensures c.if-not-fits_all.true) refl
 
 pub loop-i-preserved : goal.loop-i-preserved
 loop-i-preserved c =
     let e : 2 * c.loop-i.i + 2 ≡ 2 *
     (c.loop-i.i + 1) = omega arith in rw e at (going-turn c.loop-i.invariant (row_plain c.args.downmixes.now
-    c.loop-i.i c.of_columns-d.ensures c.downmix_bytes.ensures c.fits_all.ensures (not-false _ c.if-not-fits_all.false))
+    c.loop-i.i c.of_columns-d.ensures c.downmix_bytes.ensures c.fits_all.ensures c.if-not-fits_all.false)
     c.loop-i-test.true (omega arith))
 
 pub returns : goal.returns

@@ -7,21 +7,20 @@ use Rattle.drc_writing.proofs.Writes.{drc-acts}
 use borrow.Author.Rules.{rules}
 use Rattle.drc_writing.proofs.writing.fill.Goals as goal
 
-abbrev lent : goal.Start → Lent
-lent z = z.args.instructions.now ∷ z.args.additional.now ∷ z.args.loudness.now ∷ z.args.downmixes.now ∷ []
-
 pub fill_fields-n-requires : goal.fill_fields-n-requires
-fill_fields-n-requires c = let z = c.before.before.before.before.before.before.before in fields-ready kind (drc-acts z.args.m (lent z) z.args.store.now) z.requires
+fill_fields-n-requires c =
+    let lent : Lent = c.args.instructions.now ∷ c.args.additional.now ∷ c.args.loudness.now ∷ c.args.downmixes.now ∷ [] in
+    fields-ready kind (drc-acts c.args.m lent c.args.store.now) c.requires
 
 pub copy_payload-requires : goal.copy_payload-requires
 unfolding kind
 copy_payload-requires c =
-    let z = c.before.before.before.before.before.before.before.before.before.before.before in
-    run-ready kind (drc-acts z.args.m (lent z) z.args.store.now) z.requires c.fill_fields-n.auto.1.1.1.1.1.1.0 c.fill_fields-n.ensures
+    let lent : Lent = c.args.instructions.now ∷ c.args.additional.now ∷ c.args.loudness.now ∷ c.args.downmixes.now ∷ [] in
+    run-ready kind (drc-acts c.args.m lent c.args.store.now) c.requires c.fill_fields-n.auto.1.1.1.1.1.1.0 c.fill_fields-n.ensures
 
 pub returns : goal.returns
 unfolding kind
 returns c =
-    let z = c.before.before.before.before.before.before.before.before.before.before.before.before.before.before in
-    all-filled kind (drc-acts z.args.m (lent z) z.args.store.now) z.requires c.fill_fields-n.auto.1.1.1.1.1.1.0 c.fill_fields-n.ensures
+    let lent : Lent = c.args.instructions.now ∷ c.args.additional.now ∷ c.args.loudness.now ∷ c.args.downmixes.now ∷ [] in
+    all-filled kind (drc-acts c.args.m lent c.args.store.now) c.requires c.fill_fields-n.auto.1.1.1.1.1.1.0 c.fill_fields-n.ensures
     c.copy_payload.ensures

@@ -10,36 +10,28 @@ use Rattle.drc_writing.proofs.Writes.{listed, info-begins, info-clean}
 use borrow.Author.Rules.{rules}
 use Rattle.drc_writing.proofs.writing.fill_info.Goals as goal
 
-abbrev lent : goal.Start → Lent
-lent c = c.args.instructions.now ∷ c.args.additional.now ∷ c.args.loudness.now ∷ c.args.downmixes.now ∷ []
-
-abbrev all : goal.Start → List Act
-all c = info_acts c.args.i (lent c) c.args.store.now
-
-abbrev start : goal.After-fill_all-n1 → goal.Start
-start c = c.before.before.before.before.before.before.before.before.before.before.before.before
-
-behind : (c : goal.After-fill_all-n1)
-    → Filling (all (start c)) (lists_acts c.args.i.part (lent (start c)) c.args.store.now) c.args.n c.args.out.now
-    c.fill_all-n1.result c.fill_all-n1.new.out
-behind c =
-    fill-part _ c.count_bytes.ensures
-    (info-begins c.args.i (lent (start c)) c.args.store.now c.if-i.true c.requires.1) c.fill_all-n1.ensures
-
 pub fill_all-n1-requires : goal.fill_all-n1-requires
 fill_all-n1-requires c =
-    let x = c.before.before.before.before.before.before.before.before.before.before.before in
-    ready-part _ c.count_bytes.ensures (info-begins x.args.i (lent x) x.args.store.now c.if-i.true x.requires.1)
+    let lent : Lent = c.args.instructions.now ∷ c.args.additional.now ∷ c.args.loudness.now ∷ c.args.downmixes.now ∷ [] in
+    ready-part _ c.count_bytes.ensures (info-begins c.args.i lent c.args.store.now c.if-i.true c.requires.1)
 
 pub fill_lists-requires : goal.fill_lists-requires
 fill_lists-requires c =
+    let lent : Lent = c.args.instructions.now ∷ c.args.additional.now ∷ c.args.loudness.now ∷ c.args.downmixes.now ∷ [] in
+    let all : List Act = info_acts c.args.i lent c.args.store.now in
+    let behind : Filling all (lists_acts c.args.i.part lent c.args.store.now) c.args.n c.args.out.now c.fill_all-n1.result c.fill_all-n1.new.out = fill-part _ c.count_bytes.ensures
+    (info-begins c.args.i lent c.args.store.now c.if-i.true c.requires.1) c.fill_all-n1.ensures in
     let d = c.before.before.before in
-    let z = d.before.before.before.before.before.before.before.before.before.before.before.before in
     let t = d.if-i.true in
-    (listed z.args.i _ _ _ t z.pre.0 (info-clean z.args.i (lent z) z.args.store.now t z.pre.1), (behind d).ready)
+    (listed d.args.i _ _ _ t d.requires.0 (info-clean d.args.i lent d.args.store.now t d.requires.1), behind.ready)
 
 pub returns-then-i : goal.returns-then-i
-returns-then-i c = fill-last (behind c.before.before.before.before.before.before) c.fill_lists.ensures
+returns-then-i c =
+    let lent : Lent = c.args.instructions.now ∷ c.args.additional.now ∷ c.args.loudness.now ∷ c.args.downmixes.now ∷ [] in
+    let all : List Act = info_acts c.args.i lent c.args.store.now in
+    let behind : Filling all (lists_acts c.args.i.part lent c.args.store.now) c.args.n c.args.out.now c.fill_all-n1.result c.fill_all-n1.new.out = fill-part _ c.count_bytes.ensures
+    (info-begins c.args.i lent c.args.store.now c.if-i.true c.requires.1) c.fill_all-n1.ensures in
+    fill-last behind c.fill_lists.ensures
 
 pub returns-else-i : goal.returns-else-i
 unfolding info_acts

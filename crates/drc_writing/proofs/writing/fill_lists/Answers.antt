@@ -14,59 +14,58 @@ use Rattle.drc_writing.proofs.Writes.{instructions-stand, entries-stand, downmix
 use borrow.Author.Rules.{rules}
 use Rattle.drc_writing.proofs.writing.fill_lists.Goals as goal
 
--- ---- the actions, list by list
-abbrev lent : goal.Start → Lent
-lent c = c.args.instructions.now ∷ c.args.additional.now ∷ c.args.loudness.now ∷ c.args.downmixes.now ∷ []
-
-abbrev all : goal.Start → List Act
-all c = lists_acts c.args.i (lent c) c.args.store.now
-
-abbrev in-instructions : goal.Start → List Act
-in-instructions c = rows (I.row_acts c.args.instructions.now c.args.additional.now) 0 c.args.i.drc_instructions
-
-abbrev in-entries : goal.Start → List Act
-in-entries c = rows (L.row_acts c.args.loudness.now c.args.store.now) 0 c.args.i.loudness_infos
-
-abbrev in-downmixes : goal.Start → List Act
-in-downmixes c = rows (D.row_acts c.args.downmixes.now) 0 c.args.i.downmix_definitions
-
-begin : (c : goal.Start) → Filling (all c) (in-instructions c ++ (in-entries c ++ in-downmixes c)) c.args.n c.args.out.now c.args.n c.args.out.now
-unfolding first_table other_tables
-begin c = fill_start c.requires.1
-
--- ---- places
-abbrev start : goal.After-fill_instructions-n1 → goal.Start
-start c = c.before.before.before.before.before.before.before.before.before
-
-behind-instructions : (c : goal.After-fill_instructions-n1)
-    → Filling (all (start c)) (in-entries (start c) ++ in-downmixes (start c)) c.args.n c.args.out.now c.fill_instructions-n1.result
-    c.fill_instructions-n1.new.additional.1.1.0
-behind-instructions c = fill-turn (begin (start c)) refl c.fill_instructions-n1.auto.1.1.1.0 c.fill_instructions-n1.ensures
-
-abbrev back : goal.After-fill_entries-n2 → goal.After-fill_instructions-n1
-back c = c.before.before.before.before.before
-
-behind-entries : (c : goal.After-fill_entries-n2)
-    → Filling (all (start (back c))) (in-downmixes (start (back c))) (start (back c)).args.n (start (back c)).args.out.now c.fill_entries-n2.result
-    c.fill_entries-n2.new.1.1.1.0
-behind-entries c = fill-turn (behind-instructions (back c)) refl c.fill_entries-n2.auto.1.1.1.0 c.fill_entries-n2.ensures
-
 pub fill_instructions-n1-requires : goal.fill_instructions-n1-requires
+unfolding first_table other_tables
 fill_instructions-n1-requires c =
-    let z = c.before.before.before.before.before.before.before.before in
-    (instructions-stand z.requires.0, omega (arith, z.requires.0.instructions-few), fill-row (in-instructions z) _ (begin z) refl)
+    let in-instructions : List Act = rows (I.row_acts c.args.instructions.now c.args.additional.now) 0 c.args.i.drc_instructions in
+    -- ---- the actions, list by list
+    let lent : Lent = c.args.instructions.now ∷ c.args.additional.now ∷ c.args.loudness.now ∷ c.args.downmixes.now ∷ [] in
+    let all : List Act = lists_acts c.args.i lent c.args.store.now in
+    let in-entries : List Act = rows (L.row_acts c.args.loudness.now c.args.store.now) 0 c.args.i.loudness_infos in
+    let in-downmixes : List Act = rows (D.row_acts c.args.downmixes.now) 0 c.args.i.downmix_definitions in
+    let begin : Filling all (in-instructions ++ (in-entries ++ in-downmixes)) c.args.n c.args.out.now c.args.n c.args.out.now = fill_start c.requires.1 in
+    (instructions-stand c.requires.0, omega (arith, c.requires.0.instructions-few), fill-row in-instructions _ begin refl)
 
 pub fill_entries-n2-requires : goal.fill_entries-n2-requires
+unfolding first_table other_tables
 fill_entries-n2-requires c =
+    let in-entries : List Act = rows (L.row_acts c.args.loudness.now c.args.store.now) 0 c.args.i.loudness_infos in
+    -- ---- the actions, list by list
+    let lent : Lent = c.args.instructions.now ∷ c.args.additional.now ∷ c.args.loudness.now ∷ c.args.downmixes.now ∷ [] in
+    let all : List Act = lists_acts c.args.i lent c.args.store.now in
+    let in-downmixes : List Act = rows (D.row_acts c.args.downmixes.now) 0 c.args.i.downmix_definitions in
+    let in-instructions : List Act = rows (I.row_acts c.args.instructions.now c.args.additional.now) 0 c.args.i.drc_instructions in
+    let begin : Filling all (in-instructions ++ (in-entries ++ in-downmixes)) c.args.n c.args.out.now c.args.n c.args.out.now = fill_start c.requires.1 in
+    let behind-instructions : Filling all (in-entries ++ in-downmixes) c.args.n c.args.out.now c.fill_instructions-n1.result c.fill_instructions-n1.new.additional.1.1.0 = fill-turn begin c.fill_instructions-n1.auto.1.1.1.0 c.fill_instructions-n1.ensures in
     let d = c.before.before.before.before in
-    let z = d.before.before.before.before.before.before.before.before.before in
-    (entries-stand z.pre.0, omega (arith, z.pre.0.entries-few), fill-row (in-entries z) _ (behind-instructions d) refl)
+    (entries-stand d.requires.0, omega (arith, d.requires.0.entries-few), fill-row in-entries _ behind-instructions refl)
 
 pub fill_downmixes-requires : goal.fill_downmixes-requires
+unfolding first_table other_tables
 fill_downmixes-requires c =
+    -- ---- the actions, list by list
+    let lent : Lent = c.args.instructions.now ∷ c.args.additional.now ∷ c.args.loudness.now ∷ c.args.downmixes.now ∷ [] in
+    let all : List Act = lists_acts c.args.i lent c.args.store.now in
+    let in-downmixes : List Act = rows (D.row_acts c.args.downmixes.now) 0 c.args.i.downmix_definitions in
+    let in-entries : List Act = rows (L.row_acts c.args.loudness.now c.args.store.now) 0 c.args.i.loudness_infos in
+    let in-instructions : List Act = rows (I.row_acts c.args.instructions.now c.args.additional.now) 0 c.args.i.drc_instructions in
+    let begin : Filling all (in-instructions ++ (in-entries ++ in-downmixes)) c.args.n c.args.out.now c.args.n c.args.out.now = fill_start c.requires.1 in
+    let behind-instructions : Filling all (in-entries ++ in-downmixes) c.args.n c.args.out.now c.fill_instructions-n1.result c.fill_instructions-n1.new.additional.1.1.0 = fill-turn begin c.fill_instructions-n1.auto.1.1.1.0 c.fill_instructions-n1.ensures in
+    let behind-entries : Filling (all (start (back c))) (in-downmixes (start (back c))) (start (back c)).args.n (start (back c)).args.out.now c.fill_entries-n2.result c.fill_entries-n2.new.store.1.1.0 = fill-turn behind-instructions c.fill_entries-n2.auto.1.1.1.0 c.fill_entries-n2.ensures in
     let d = c.before.before.before.before in
     let z = start (back d) in
-    (downmixes-stand z.pre.0, omega (arith, z.pre.0.downmixes-few), (behind-entries d).ready)
+    (downmixes-stand z.pre.0, omega (arith, z.pre.0.downmixes-few), behind-entries.ready)
 
 pub returns : goal.returns
-returns c = fill-last (behind-entries c.before.before.before.before.before.before.before) c.fill_downmixes.ensures
+unfolding first_table other_tables
+returns c =
+    -- ---- the actions, list by list
+    let lent : Lent = c.args.instructions.now ∷ c.args.additional.now ∷ c.args.loudness.now ∷ c.args.downmixes.now ∷ [] in
+    let all : List Act = lists_acts c.args.i lent c.args.store.now in
+    let in-downmixes : List Act = rows (D.row_acts c.args.downmixes.now) 0 c.args.i.downmix_definitions in
+    let in-entries : List Act = rows (L.row_acts c.args.loudness.now c.args.store.now) 0 c.args.i.loudness_infos in
+    let in-instructions : List Act = rows (I.row_acts c.args.instructions.now c.args.additional.now) 0 c.args.i.drc_instructions in
+    let begin : Filling all (in-instructions ++ (in-entries ++ in-downmixes)) c.args.n c.args.out.now c.args.n c.args.out.now = fill_start c.requires.1 in
+    let behind-instructions : Filling all (in-entries ++ in-downmixes) c.args.n c.args.out.now c.fill_instructions-n1.result c.fill_instructions-n1.new.additional.1.1.0 = fill-turn begin c.fill_instructions-n1.auto.1.1.1.0 c.fill_instructions-n1.ensures in
+    let behind-entries : Filling (all (start (back c))) (in-downmixes (start (back c))) (start (back c)).args.n (start (back c)).args.out.now c.fill_entries-n2.result c.fill_entries-n2.new.store.1.1.0 = fill-turn behind-instructions c.fill_entries-n2.auto.1.1.1.0 c.fill_entries-n2.ensures in
+    fill-last behind-entries c.fill_downmixes.ensures

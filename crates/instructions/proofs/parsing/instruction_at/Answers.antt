@@ -11,50 +11,54 @@ use Rattle.instructions.proofs.Taken.{id_of, settings-total, begins-are, setting
 use borrow.Author.Rules.{rules}
 use Rattle.instructions.proofs.parsing.instruction_at.Goals as goal
 
-abbrev start : goal.After-id_bytes → goal.Start
-start c = c.before.before.before.before.before.before
-
--- where the additional IDs begin
-begins-so : (c : goal.After-id_bytes) → c.args.at + 4 + c.id_bytes.result ≡ c.args.at + total (spans settings blank c.args.body.now c.args.at)
-begins-so c = begins-are _ _ c.wide.ensures c.part.ensures c.id_bytes.ensures.0
-
-there : (c : goal.Start) → c.args.at + (1 + (id_of c.args.body.now c.args.at + 3)) ≤ length c.args.body.now
-there c = settings-there _ _ c.requires.0 c.requires.1
-
-before-ids : (c : goal.After-id_bytes) → c.args.at + 4 + c.id_bytes.result ≤ length c.args.body.now
-before-ids c = omega (arith, there (start c), begins-so c, settings-total c.args.body.now c.args.at)
-
 pub bounds-body-at : goal.bounds-body-at
 bounds-body-at c =
-    omega (arith, there c.before.before.before)
+    let there : c.args.at + (1 + (id_of c.args.body.now c.args.at + 3)) ≤ length c.args.body.now = settings-there _ _ c.requires.0 c.requires.1 in
+    omega (arith, there)
 
 pub bounds-body-begins : goal.bounds-body-begins
 bounds-body-begins c =
-    omega (arith, before-ids c.before)
+    -- where the additional IDs begin
+    let begins-so : c.args.at + 4 + c.id_bytes.result ≡ c.args.at + total (spans settings blank c.args.body.now c.args.at) = begins-are _ _ c.wide.ensures c.part.ensures c.id_bytes.ensures.0 in
+    let there : c.args.at + (1 + (id_of c.args.body.now c.args.at + 3)) ≤ length c.args.body.now = settings-there _ _ c.requires.0 c.requires.1 in
+    let before-ids : c.args.at + 4 + c.id_bytes.result ≤ length c.args.body.now = omega (arith, there, begins-so, settings-total c.args.body.now c.args.at) in
+    omega (arith, before-ids)
 
 pub bare_effect_at-bare-requires : goal.bare_effect_at-bare-requires
 bare_effect_at-bare-requires c =
-    omega (arith, (effect-there _ _ c.requires.0 c.requires.1 (begins-so c.before.before.before.before) c.wide-c.ensures refl refl refl).0)
+    -- where the additional IDs begin
+    let begins-so : c.args.at + 4 + c.id_bytes.result ≡ c.args.at + total (spans settings blank c.args.body.now c.args.at) = begins-are _ _ c.wide.ensures c.part.ensures c.id_bytes.ensures.0 in
+    omega (arith, (effect-there _ _ c.requires.0 c.requires.1 begins-so c.wide-c.ensures refl refl refl).0)
 
 pub instruction_with-requires : goal.instruction_with-requires
 instruction_with-requires c =
+    -- where the additional IDs begin
+    let begins-so : c.args.at + 4 + c.id_bytes.result ≡ c.args.at + total (spans settings blank c.args.body.now c.args.at) = begins-are _ _ c.wide.ensures c.part.ensures c.id_bytes.ensures.0 in
     let (e, n) = bare-so c.wide-c.result c.part-2.ensures c.if-part-eq0.true _ _
     c.bare_effect_at-bare.ensures in (search rules, search rules, search begins-so, c.wide-c.ensures, e, n)
 
 pub returns-then-part-eq0 : goal.returns-then-part-eq0
 returns-then-part-eq0 c =
-    (c.instruction_with.ensures.0, c.instruction_with.ensures.1 ∙ begins-so c.before.before.before.before.before.before)
+    -- where the additional IDs begin
+    let begins-so : c.args.at + 4 + c.id_bytes.result ≡ c.args.at + total (spans settings blank c.args.body.now c.args.at) = begins-are _ _ c.wide.ensures c.part.ensures c.id_bytes.ensures.0 in
+    (c.instruction_with.ensures.0, c.instruction_with.ensures.1 ∙ begins-so)
 
 pub effect_at-e-requires : goal.effect_at-e-requires
 effect_at-e-requires c =
+    -- where the additional IDs begin
+    let begins-so : c.args.at + 4 + c.id_bytes.result ≡ c.args.at + total (spans settings blank c.args.body.now c.args.at) = begins-are _ _ c.wide.ensures c.part.ensures c.id_bytes.ensures.0 in
     effect-there _ _ c.requires.0
-    c.requires.1 (begins-so c.before.before.before.before.before.before.before) c.wide-c.ensures
+    c.requires.1 begins-so c.wide-c.ensures
     c.part-3.ensures c.part-4.ensures c.part-5.ensures
 
 pub instruction_with-requires-2 : goal.instruction_with-requires-2
 instruction_with-requires-2 c =
-    (c.requires.0, c.requires.1, begins-so c.before.before.before.before.before.before.before.before, c.wide-c.ensures, rw (c.part-3.ensures, c.part-4.ensures, c.part-5.ensures) at c.effect_at-e.ensures.0, rw (c.part-3.ensures, c.part-4.ensures, c.part-5.ensures) at c.effect_at-e.ensures.1)
+    -- where the additional IDs begin
+    let begins-so : c.args.at + 4 + c.id_bytes.result ≡ c.args.at + total (spans settings blank c.args.body.now c.args.at) = begins-are _ _ c.wide.ensures c.part.ensures c.id_bytes.ensures.0 in
+    (c.requires.0, c.requires.1, begins-so, c.wide-c.ensures, rw (c.part-3.ensures, c.part-4.ensures, c.part-5.ensures) at c.effect_at-e.ensures.0, rw (c.part-3.ensures, c.part-4.ensures, c.part-5.ensures) at c.effect_at-e.ensures.1)
 
 pub returns : goal.returns
 returns c =
-    (c.instruction_with-2.ensures.0, c.instruction_with-2.ensures.1 ∙ begins-so c.before.before.before.before.before.before.before.before.before)
+    -- where the additional IDs begin
+    let begins-so : c.args.at + 4 + c.id_bytes.result ≡ c.args.at + total (spans settings blank c.args.body.now c.args.at) = begins-are _ _ c.wide.ensures c.part.ensures c.id_bytes.ensures.0 in
+    (c.instruction_with-2.ensures.0, c.instruction_with-2.ensures.1 ∙ begins-so)

@@ -7,38 +7,48 @@ use Rattle.instructions.proofs.Taken.{Behind, behind, settings-lack, singles-lac
 use borrow.Author.Rules.{rules}
 use Rattle.instructions.proofs.parsing.instruction_rows.Goals as goal
 
--- behind the settings
-after-1 : (c : goal.In-At)
-    → Behind c.args.body.now c.args.at c.in-At.n
-after-1 c = behind _ _ c.requires c.settings_end-a.ensures (ap ends_out c.in-At.is)
-
 pub returns-in_default : goal.returns-in_default
 returns-in_default c = search (settings-lack, ap ends_out c.in_default.is)
 
 pub overflow_sub-n : goal.overflow_sub-n
 overflow_sub-n c =
-    omega (arith, (after-1 c).is)
+    -- behind the settings
+    let after-1 : Behind c.args.body.now c.args.at c.in-At.n = behind _ _ c.requires c.settings_end-a.ensures (ap ends_out c.in-At.is) in
+    omega (arith, after-1.is)
 
 pub bounds-body-n : goal.bounds-body-n
 bounds-body-n c =
-    omega (arith, (after-1 c.before).is, (after-1 c.before).inside)
+    -- behind the settings
+    let after-1 : Behind c.args.body.now c.args.at c.in-At.n = behind _ _ c.requires c.settings_end-a.ensures (ap ends_out c.in-At.is) in
+    omega (arith, after-1.is, after-1.inside)
 
 pub head-b-requires : goal.head-b-requires
 head-b-requires c =
-    (search (after-1 c.before.before.before.before).inside, search (rules, part-below 2 3 c.wide-c.result, part-below 1 1 c.wide-c.result))
+    -- behind the settings
+    let after-1 : Behind c.args.body.now c.args.at c.in-At.n = behind _ _ c.requires c.settings_end-a.ensures (ap ends_out c.in-At.is) in
+    (search after-1.inside, search (rules, part-below 2 3 c.wide-c.result, part-below 1 1 c.wide-c.result))
 
 pub returns-in_default-b : goal.returns-in_default-b
-returns-in_default-b c = search (singles-lack, after-1, ap ends_out c.in_default-b.is)
+returns-in_default-b c =
+    -- behind the settings
+    let after-1 : Behind c.args.body.now c.args.at c.in-At.n = behind _ _ c.requires c.settings_end-a.ensures (ap ends_out c.in-At.is) in
+    search (singles-lack, after-1, ap ends_out c.in_default-b.is)
 
 pub target_end-e-requires : goal.target_end-e-requires
 target_end-e-requires c =
-    loud-begun (after-1 c.before.before.before.before.before.before.before) c.wide-c.ensures
+    -- behind the settings
+    let after-1 : Behind c.args.body.now c.args.at c.in-At.n = behind _ _ c.requires c.settings_end-a.ensures (ap ends_out c.in-At.is) in
+    loud-begun after-1 c.wide-c.ensures
     c.part-count.ensures c.part.ensures c.head-b.ensures (ap ends_out c.in-At-b.is) c.part-2.ensures
 
 pub returns-in_default-e : goal.returns-in_default-e
 returns-in_default-e c =
+    -- behind the settings
+    let after-1 : Behind c.args.body.now c.args.at c.in-At.n = behind _ _ c.requires c.settings_end-a.ensures (ap ends_out c.in-At.is) in
     search (loud-lack, after-1, ap ends_out c.in-At-b.is, ap ends_out c.in_default-e.is)
 
 pub returns : goal.returns
 returns c =
+    -- behind the settings
+    let after-1 : Behind c.args.body.now c.args.at c.in-At.n = behind _ _ c.requires c.settings_end-a.ensures (ap ends_out c.in-At.is) in
     search (loud-got, after-1, ap ends_out c.in-At-b.is, ap ends_out c.in-At-e.is)

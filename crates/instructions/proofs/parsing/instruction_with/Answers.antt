@@ -7,33 +7,38 @@ use Rattle.instructions.proofs.Taken.{id_of, settings-total, settings-there, ins
 use borrow.Author.Rules.{rules}
 use Rattle.instructions.proofs.parsing.instruction_with.Goals as goal
 
-there : (c : goal.Start) → c.args.at + (1 + (id_of c.args.body.now c.args.at + 3)) ≤ length c.args.body.now
-there c = settings-there _ _ c.requires.0 c.requires.1
-
-long : (c : goal.Start) → (4 ≤ c.args.begins) × (c.args.begins ≤ length c.args.body.now)
-long c =
-    let n = settings-total c.args.body.now c.args.at in
-    (omega (arith, there c, n, c.requires.2), omega (arith, there c, n, c.requires.2))
-
 pub overflow_sub-begins : goal.overflow_sub-begins
 overflow_sub-begins c =
-    omega (arith, long c.before)
+    let there : c.args.at + (1 + (id_of c.args.body.now c.args.at + 3)) ≤ length c.args.body.now = settings-there _ _ c.requires.0 c.requires.1 in
+    let long : (4 ≤ c.args.begins) × (c.args.begins ≤ length c.args.body.now) = let n = settings-total c.args.body.now c.args.at in
+    (omega (arith, there, n, c.requires.2), omega (arith, there, n, c.requires.2)) in
+    omega (arith, long)
 
 pub bounds-body-begins : goal.bounds-body-begins
 bounds-body-begins c =
-    omega (arith, long c.before.before)
+    let there : c.args.at + (1 + (id_of c.args.body.now c.args.at + 3)) ≤ length c.args.body.now = settings-there _ _ c.requires.0 c.requires.1 in
+    let long : (4 ≤ c.args.begins) × (c.args.begins ≤ length c.args.body.now) = let n = settings-total c.args.body.now c.args.at in
+    (omega (arith, there, n, c.requires.2), omega (arith, there, n, c.requires.2)) in
+    omega (arith, long)
 
 pub overflow_sub-begins-2 : goal.overflow_sub-begins-2
 overflow_sub-begins-2 c =
-    omega (arith, long c.before.before.before)
+    let there : c.args.at + (1 + (id_of c.args.body.now c.args.at + 3)) ≤ length c.args.body.now = settings-there _ _ c.requires.0 c.requires.1 in
+    let long : (4 ≤ c.args.begins) × (c.args.begins ≤ length c.args.body.now) = let n = settings-total c.args.body.now c.args.at in
+    (omega (arith, there, n, c.requires.2), omega (arith, there, n, c.requires.2)) in
+    omega (arith, long)
 
 pub bounds-body-begins-2 : goal.bounds-body-begins-2
 bounds-body-begins-2 c =
-    omega (arith, long c.before.before.before.before)
+    let there : c.args.at + (1 + (id_of c.args.body.now c.args.at + 3)) ≤ length c.args.body.now = settings-there _ _ c.requires.0 c.requires.1 in
+    let long : (4 ≤ c.args.begins) × (c.args.begins ≤ length c.args.body.now) = let n = settings-total c.args.body.now c.args.at in
+    (omega (arith, there, n, c.requires.2), omega (arith, there, n, c.requires.2)) in
+    omega (arith, long)
 
 pub scope_at-t-requires : goal.scope_at-t-requires
 scope_at-t-requires c =
-    omega (arith, there c.before.before.before.before.before.before.before)
+    let there : c.args.at + (1 + (id_of c.args.body.now c.args.at + 3)) ≤ length c.args.body.now = settings-there _ _ c.requires.0 c.requires.1 in
+    omega (arith, there)
 
 pub returns : goal.returns
 returns c =

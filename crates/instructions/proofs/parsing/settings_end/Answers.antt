@@ -13,10 +13,6 @@ use Rattle.instructions.proofs.Taken.{settings-spans}
 use borrow.Author.Rules.{rules}
 use Rattle.instructions.proofs.parsing.settings_end.Goals as goal
 
-after-1 : (c : goal.In-At)
-    → Behind c.args.body.now c.args.at c.in-At.n
-after-1 c = behind-one _ _ c.requires c.head-a.ensures (ap ends_out c.in-At.is)
-
 pub returns-in_default : goal.returns-in_default
 returns-in_default c =
     one-cut _ _ _ c.head-a.ensures (ap ends_out c.in_default.is) ∙ ap
@@ -24,14 +20,17 @@ returns-in_default c =
 
 pub bounds-body-at : goal.bounds-body-at
 bounds-body-at c =
-    (after-1 c.before.before).there
+    let after-1 : Behind c.args.body.now c.args.at c.in-At.n = behind-one _ _ c.requires c.head-a.ensures (ap ends_out c.in-At.is) in
+    after-1.there
 
 pub head-requires : goal.head-requires
 head-requires c =
-    ((after-1 c.before.before.before.before.before).inside, omega (arith, c.id_bytes.ensures.1))
+    let after-1 : Behind c.args.body.now c.args.at c.in-At.n = behind-one _ _ c.requires c.head-a.ensures (ap ends_out c.in-At.is) in
+    (after-1.inside, omega (arith, c.id_bytes.ensures.1))
 
 pub returns : goal.returns
 returns c =
-    one_more (after-1 c.before.before.before.before.before.before) (ap (λ (k : ℕ). k + 3) (c.id_bytes.ensures.0 ∙ ap (id_bytes types)
+    let after-1 : Behind c.args.body.now c.args.at c.in-At.n = behind-one _ _ c.requires c.head-a.ensures (ap ends_out c.in-At.is) in
+    one_more after-1 (ap (λ (k : ℕ). k + 3) (c.id_bytes.ensures.0 ∙ ap (id_bytes types)
     (c.part.ensures ∙ ap (part 0 2) c.wide.ensures))) c.head.ensures ∙ ap
     (λ (l : List ℕ). ends l c.args.body.now c.args.at) (sym (settings-spans c.args.body.now c.args.at))

@@ -5,8 +5,8 @@ use Rattle.instructions.proofs.parsing.word_at.Goals as goal
 
 pub overflow_mul-result : goal.overflow_mul-result
 overflow_mul-result c =
-    search (rules, c.shared_slice_known-2-1.given c.args.at, c.shared_slice_known-2-1.given (c.args.at + 1))
+    search (rules, c.type_inv.body c.args.at, c.type_inv.body (c.args.at + 1))
 
 pub overflow_add-result : goal.overflow_add-result
 overflow_add-result c =
-    search (rules, c.shared_slice_known-2-1.given c.args.at, c.shared_slice_known-2-1.given (c.args.at + 1))
+    search (rules, c.type_inv.body c.args.at, c.type_inv.body (c.args.at + 1))

@@ -10,54 +10,60 @@ use Rattle.loudness.proofs.Taken.{ids_at, type-lacks, type-got, size-lacks, size
 use borrow.Author.Rules.{rules}
 use Rattle.loudness.proofs.parsing.entry_end.Goals as goal
 
-abbrev start : goal.After-id_bytes-ids → goal.Start
-start c = c.before.before.before.before.before.before.before.before.before
-
--- behind the type byte
-typed : (c : goal.In-At)
-    → (c.in-At.n ≡ c.args.at + 1) × (c.in-At.n ≤ length c.args.body.now)
-typed c = type-got _ _ c.head-a.ensures c.requires (ap ends_out c.in-At.is)
-
-ids : (c : goal.After-id_bytes-ids) → c.id_bytes-ids.result ≡ ids_at c.args.body.now c.args.at
-ids c =
-    c.id_bytes-ids.ensures.0
-    ∙ λ i. id_bytes (c.id_types.ensures i) ((c.part.ensures ∙ ap (part 0 2) c.wide.ensures) i)
-
--- behind the length
-behind : (c : goal.In-At-b)
-    → (c.in-At.n + c.id_bytes-ids.result + 1 ≡ c.in-At-b.m) × (c.in-At-b.m ≤ length (start c.before.before).args.body.now)
-behind c =
-    size-got _ _ c.head-a.ensures
-    (ap ends_out c.in-At.is) (ids c.before.before)
-    c.head-b.ensures (start c.before.before).requires (ap ends_out c.in-At-b.is)
-
 pub returns-in_default : goal.returns-in_default
 returns-in_default c =
     type-lacks _ _ c.head-a.ensures (ap ends_out c.in_default.is)
 
 pub bounds-body-at : goal.bounds-body-at
 bounds-body-at c =
-    let w = typed c.before.before.before in omega (arith, w)
+    -- behind the type byte
+    let typed : (c.in-At.n ≡ c.args.at + 1) × (c.in-At.n ≤ length c.args.body.now) = type-got _ _ c.head-a.ensures c.requires (ap ends_out c.in-At.is) in
+    let w = typed in omega (arith, w)
 
 pub head-b-requires : goal.head-b-requires
 head-b-requires c =
-    ((typed c.before.before.before.before.before.before).1, omega (arith, c.id_bytes-ids.ensures.1))
+    -- behind the type byte
+    let typed : (c.in-At.n ≡ c.args.at + 1) × (c.in-At.n ≤ length c.args.body.now) = type-got _ _ c.head-a.ensures c.requires (ap ends_out c.in-At.is) in
+    (typed.1, omega (arith, c.id_bytes-ids.ensures.1))
 
 pub returns-in_default-b : goal.returns-in_default-b
 returns-in_default-b c =
+    let ids : c.id_bytes-ids.result ≡ ids_at c.args.body.now c.args.at = c.id_bytes-ids.ensures.0
+    ∙ λ i. id_bytes (c.id_types.ensures i) ((c.part.ensures ∙ ap (part 0 2) c.wide.ensures) i) in
     search (size-lacks, ids, ap ends_out c.in-At.is, ap ends_out c.in_default-b.is)
 
 pub overflow_add-n : goal.overflow_add-n
 overflow_add-n c =
-    let w = behind (c) in omega (arith, w)
+    let ids : c.id_bytes-ids.result ≡ ids_at c.args.body.now c.args.at = c.id_bytes-ids.ensures.0
+    ∙ λ i. id_bytes (c.id_types.ensures i) ((c.part.ensures ∙ ap (part 0 2) c.wide.ensures) i) in
+    -- behind the length
+    let behind : (c.in-At.n + c.id_bytes-ids.result + 1 ≡ c.in-At-b.m) × (c.in-At-b.m ≤ length (start c.before.before).args.body.now) = size-got _ _ c.head-a.ensures
+    (ap ends_out c.in-At.is) ids
+    c.head-b.ensures (start c.before.before).requires (ap ends_out c.in-At-b.is) in
+    let w = behind in omega (arith, w)
 
 pub bounds-body-n : goal.bounds-body-n
 bounds-body-n c =
-    let w = behind c.before in omega (arith, w)
+    let ids : c.id_bytes-ids.result ≡ ids_at c.args.body.now c.args.at = c.id_bytes-ids.ensures.0
+    ∙ λ i. id_bytes (c.id_types.ensures i) ((c.part.ensures ∙ ap (part 0 2) c.wide.ensures) i) in
+    -- behind the length
+    let behind : (c.in-At.n + c.id_bytes-ids.result + 1 ≡ c.in-At-b.m) × (c.in-At-b.m ≤ length (start c.before.before).args.body.now) = size-got _ _ c.head-a.ensures
+    (ap ends_out c.in-At.is) ids
+    c.head-b.ensures (start c.before.before).requires (ap ends_out c.in-At-b.is) in
+    let w = behind in omega (arith, w)
 
 pub bytes_end-requires : goal.bytes_end-requires
-bytes_end-requires c = ((behind c.before.before).1, search rules)
+bytes_end-requires c =
+    let ids : c.id_bytes-ids.result ≡ ids_at c.args.body.now c.args.at = c.id_bytes-ids.ensures.0
+    ∙ λ i. id_bytes (c.id_types.ensures i) ((c.part.ensures ∙ ap (part 0 2) c.wide.ensures) i) in
+    -- behind the length
+    let behind : (c.in-At.n + c.id_bytes-ids.result + 1 ≡ c.in-At-b.m) × (c.in-At-b.m ≤ length (start c.before.before).args.body.now) = size-got _ _ c.head-a.ensures
+    (ap ends_out c.in-At.is) ids
+    c.head-b.ensures (start c.before.before).requires (ap ends_out c.in-At-b.is) in
+    (behind.1, search rules)
 
 pub returns : goal.returns
 returns c =
+    let ids : c.id_bytes-ids.result ≡ ids_at c.args.body.now c.args.at = c.id_bytes-ids.ensures.0
+    ∙ λ i. id_bytes (c.id_types.ensures i) ((c.part.ensures ∙ ap (part 0 2) c.wide.ensures) i) in
     search (entry-ends, ids, ap ends_out c.in-At.is, ap ends_out c.in-At-b.is)

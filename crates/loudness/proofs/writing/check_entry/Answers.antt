@@ -10,7 +10,7 @@ use Rattle.loudness.proofs.writing.check_entry.Goals as goal
 pub run-requires : goal.run-requires
 run-requires c =
     let w = (c.byte-p2.ensures.of
-    (field 8 c.args.e.loudness_info.length ∷ []) (c.fits2.ensures ∙ fit-one 8 c.args.e.loudness_info.length)).near in
+    (field 8 c.args.e.loudness_info.length ∷ []) (c.fits.ensures ∙ fit-one 8 c.args.e.loudness_info.length)).near in
     (search rules, search (rules, w))
 
 pub returns : goal.returns

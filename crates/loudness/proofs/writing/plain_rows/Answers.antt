@@ -7,21 +7,6 @@ use Rattle.loudness.proofs.Written.{row-acts}
 use borrow.Author.Rules.{rules}
 use Rattle.loudness.proofs.writing.plain_rows.Goals as goal
 
--- what the quick test says of a row
-quick : (c : goal.After-plain_bytes-k)
-    → Quick (row_acts c.args.entries.now c.args.store.now c.loop-i.i) 258 c.plain_bytes-k.result
-quick c =
-    rw
-    (row-acts c.args.entries.now c.args.store.now c.loop-i.i c.of_columns-e.ensures) at
-    c.plain_bytes-k.ensures
-
-abbrev start : goal.Else-k-eq0 → goal.Start
-start c = c.before.before.before.before.before.before.before
-
-turn : (c : goal.Else-k-eq0)
-    → Going (row_acts c.args.entries.now c.args.store.now) 258 c.args.count (c.loop-i.i + 1) (c.loop-i.bytes + c.plain_bytes-k.result)
-turn c = let l = c.if-k-eq0.false in going-turn c.loop-i.invariant (quick c.before) c.loop-i-test.true (omega (arith, l))
-
 pub loop-i-init : goal.loop-i-init
 loop-i-init c =
     going_start _ 258 _
@@ -32,15 +17,29 @@ of_columns-e-requires c =
 
 pub returns-then-k-eq0 : goal.returns-then-k-eq0
 returns-then-k-eq0 c =
-    going-odd c.loop-i.invariant (quick c.before) c.if-k-eq0.true
+    -- what the quick test says of a row
+    let quick : Quick (row_acts c.args.entries.now c.args.store.now c.loop-i.i) 258 c.plain_bytes-k.result = rw
+    (row-acts c.args.entries.now c.args.store.now c.loop-i.i c.of_columns-e.ensures) at
+    c.plain_bytes-k.ensures in
+    going-odd c.loop-i.invariant quick c.if-k-eq0.true
 
 pub overflow_add-bytes : goal.overflow_add-bytes
 overflow_add-bytes c =
-    omega (arith, (turn c).few, c.loop-i-test.true, c.requires.1)
+    -- what the quick test says of a row
+    let quick : Quick (row_acts c.args.entries.now c.args.store.now c.loop-i.i) 258 c.plain_bytes-k.result = rw
+    (row-acts c.args.entries.now c.args.store.now c.loop-i.i c.of_columns-e.ensures) at
+    c.plain_bytes-k.ensures in
+    let turn : Going (row_acts c.args.entries.now c.args.store.now) 258 c.args.count (c.loop-i.i + 1) (c.loop-i.bytes + c.plain_bytes-k.result) = let l = c.if-k-eq0.false in going-turn c.loop-i.invariant quick c.loop-i-test.true (omega (arith, l)) in
+    omega (arith, turn.few, c.loop-i-test.true, c.requires.1)
 
 pub loop-i-preserved : goal.loop-i-preserved
 loop-i-preserved c =
-    turn c
+    -- what the quick test says of a row
+    let quick : Quick (row_acts c.args.entries.now c.args.store.now c.loop-i.i) 258 c.plain_bytes-k.result = rw
+    (row-acts c.args.entries.now c.args.store.now c.loop-i.i c.of_columns-e.ensures) at
+    c.plain_bytes-k.ensures in
+    let turn : Going (row_acts c.args.entries.now c.args.store.now) 258 c.args.count (c.loop-i.i + 1) (c.loop-i.bytes + c.plain_bytes-k.result) = let l = c.if-k-eq0.false in going-turn c.loop-i.invariant quick c.loop-i-test.true (omega (arith, l)) in
+    turn
 
 pub returns : goal.returns
 returns c =

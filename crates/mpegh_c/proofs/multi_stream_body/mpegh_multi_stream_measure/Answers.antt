@@ -4,8 +4,6 @@ use Rattle.mpegh_c.proofs.Hosted.{measures-refused, measures-unroomed, measures-
 use borrow.Author.Rules.{rules}
 use Rattle.mpegh_c.proofs.multi_stream_body.mpegh_multi_stream_measure.Goals as goal
 
-}
-
 pub returns-then-rows-lt1 : goal.returns-then-rows-lt1
 returns-then-rows-lt1 c =
     measures-unroomed kind (rw c.in-Done.is at c.measure-m.ensures) c.if-rows-lt1.true c.room_code.ensures

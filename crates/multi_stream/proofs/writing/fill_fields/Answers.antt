@@ -8,28 +8,28 @@ use Rattle.multi_stream.specs.Write.{head_fields, main_acts, multi_stream_acts}
 use borrow.Author.Rules.{rules}
 use Rattle.multi_stream.proofs.writing.fill_fields.Goals as goal
 
-abbrev all : goal.Start → List Act
-all c = multi_stream_acts c.args.m c.args.groups.now
-
-abbrev in-main : goal.Start → List Act
-in-main c = main_acts c.args.m.main c.args.groups.now
-
-begin : (c : goal.Start) → Filling (all c) (when true (map byte (head_fields c.args.m)) ++ in-main c) 0 c.args.out.now 0 c.args.out.now
-unfolding multi_stream_acts
-begin c = fill-demand (fill-demand (fill-demand (fill_start c.requires)))
-
-abbrev start : goal.After-fill_all-n → goal.Start
-start c = c.before.before.before.before.before.before
-
-behind : (c : goal.After-fill_all-n) → Filling (all (start c)) (in-main (start c)) 0 c.args.out.now c.fill_all-n.result c.fill_all-n.new.out
-behind c = fill-part _ c.head_bytes.ensures (begin (start c)) c.fill_all-n.ensures
-
 pub fill_all-n-requires : goal.fill_all-n-requires
-fill_all-n-requires c = ready-part _ c.head_bytes.ensures (begin c.before.before.before.before.before)
+unfolding multi_stream_acts
+fill_all-n-requires c =
+    let all : List Act = multi_stream_acts c.args.m c.args.groups.now in
+    let in-main : List Act = main_acts c.args.m.main c.args.groups.now in
+    let begin : Filling all (when true (map byte (head_fields c.args.m)) ++ in-main) 0 c.args.out.now 0 c.args.out.now = fill-demand (fill-demand (fill-demand (fill_start c.requires))) in
+    ready-part _ c.head_bytes.ensures begin
 
 pub fill_main-requires : goal.fill_main-requires
 unfolding multi_stream_acts
-fill_main-requires c = let d = c.before.before.before in (demanded d.requires, (behind d).ready)
+fill_main-requires c =
+    let all : List Act = multi_stream_acts c.args.m c.args.groups.now in
+    let in-main : List Act = main_acts c.args.m.main c.args.groups.now in
+    let begin : Filling all (when true (map byte (head_fields c.args.m)) ++ in-main) 0 c.args.out.now 0 c.args.out.now = fill-demand (fill-demand (fill-demand (fill_start c.requires))) in
+    let behind : Filling all in-main c.args.out.now c.fill_all-n.result c.fill_all-n.new.out = fill-part _ c.head_bytes.ensures begin c.fill_all-n.ensures in
+    let d = c.before.before.before in (demanded d.requires, behind.ready)
 
 pub returns : goal.returns
-returns c = fill-last (behind c.before.before.before.before.before.before) c.fill_main.ensures
+unfolding multi_stream_acts
+returns c =
+    let all : List Act = multi_stream_acts c.args.m c.args.groups.now in
+    let in-main : List Act = main_acts c.args.m.main c.args.groups.now in
+    let begin : Filling all (when true (map byte (head_fields c.args.m)) ++ in-main) 0 c.args.out.now 0 c.args.out.now = fill-demand (fill-demand (fill-demand (fill_start c.requires))) in
+    let behind : Filling all in-main c.args.out.now c.fill_all-n.result c.fill_all-n.new.out = fill-part _ c.head_bytes.ensures begin c.fill_all-n.ensures in
+    fill-last behind c.fill_main.ensures

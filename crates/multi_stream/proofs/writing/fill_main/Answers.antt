@@ -12,35 +12,31 @@ use Rattle.multi_stream.specs.Write.{main_fields, main_acts}
 use borrow.Author.Rules.{rules}
 use Rattle.multi_stream.proofs.writing.fill_main.Goals as goal
 
-abbrev in-groups : goal.Start → List Act
-in-groups c = rows (row_acts c.args.groups.now) 0 c.args.main.part.groups
-
-begin : (c : goal.Start) → c.args.main.present ≡ true
-    → Filling (main_acts c.args.main c.args.groups.now) (when true (map byte (main_fields c.args.main.part)) ++ in-groups c) c.args.n c.args.out.now
-    c.args.n c.args.out.now
-unfolding main_acts
-begin c t = part-begins c.args.main.present (map byte (main_fields c.args.main.part)) (in-groups c) t c.requires.1
-
-abbrev start : goal.After-fill_all-n1 → goal.Start
-start c = c.before.before.before.before.before.before.before.before
-
-taken : (c : goal.After-fill_all-n1) → c.args.main.present ≡ true
-taken c = c.if-main.true
-
-behind : (c : goal.After-fill_all-n1)
-    → Filling (main_acts c.args.main c.args.groups.now) (in-groups (start c)) c.args.n c.args.out.now c.fill_all-n1.result c.fill_all-n1.new.out
-behind c = fill-part _ c.main_bytes.ensures (begin (start c) (taken c)) c.fill_all-n1.ensures
-
 pub fill_all-n1-requires : goal.fill_all-n1-requires
-fill_all-n1-requires c = search (ready-part, begin)
+unfolding main_acts
+fill_all-n1-requires c =
+    let in-groups : List Act = rows (row_acts c.args.groups.now) 0 c.args.main.part.groups in
+    let begin : c.args.main.present ≡ true → Filling (main_acts c.args.main c.args.groups.now) (when true (map byte (main_fields c.args.main.part)) ++ in-groups) c.args.n c.args.out.now c.args.n c.args.out.now = λ t. part-begins c.args.main.present (map byte (main_fields c.args.main.part)) in-groups t c.requires.1 in
+    search (ready-part, begin)
 
 pub fill_groups-requires : goal.fill_groups-requires
+unfolding main_acts
 fill_groups-requires c =
+    let taken : c.args.main.present ≡ true = c.if-main.true in
+    let in-groups : List Act = rows (row_acts c.args.groups.now) 0 c.args.main.part.groups in
+    let begin : c.args.main.present ≡ true → Filling (main_acts c.args.main c.args.groups.now) (when true (map byte (main_fields c.args.main.part)) ++ in-groups) c.args.n c.args.out.now c.args.n c.args.out.now = λ t. part-begins c.args.main.present (map byte (main_fields c.args.main.part)) in-groups t c.requires.1 in
+    let behind : Filling (main_acts c.args.main c.args.groups.now) in-groups c.args.n c.args.out.now c.fill_all-n1.result c.fill_all-n1.new.out = fill-part _ c.main_bytes.ensures (begin taken) c.fill_all-n1.ensures in
     let d = c.before.before.before in
-    (rows-there _ _ 5 _ (omega arith) d.requires.0 (taken d), omega (arith, d.well-formed), (behind d).ready)
+    (rows-there _ _ 5 _ (omega arith) d.requires.0 taken, omega (arith, d.well_formed), behind.ready)
 
 pub returns-then-main : goal.returns-then-main
-returns-then-main c = fill-last (behind c.before.before.before.before.before.before) c.fill_groups.ensures
+unfolding main_acts
+returns-then-main c =
+    let in-groups : List Act = rows (row_acts c.args.groups.now) 0 c.args.main.part.groups in
+    let begin : c.args.main.present ≡ true → Filling (main_acts c.args.main c.args.groups.now) (when true (map byte (main_fields c.args.main.part)) ++ in-groups) c.args.n c.args.out.now c.args.n c.args.out.now = λ t. part-begins c.args.main.present (map byte (main_fields c.args.main.part)) in-groups t c.requires.1 in
+    let taken : c.args.main.present ≡ true = c.if-main.true in
+    let behind : Filling (main_acts c.args.main c.args.groups.now) in-groups c.args.n c.args.out.now c.fill_all-n1.result c.fill_all-n1.new.out = fill-part _ c.main_bytes.ensures (begin taken) c.fill_all-n1.ensures in
+    fill-last behind c.fill_groups.ensures
 
 pub returns-else-main : goal.returns-else-main
 unfolding main_acts

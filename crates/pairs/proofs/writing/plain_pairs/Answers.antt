@@ -19,7 +19,7 @@ pair_fits-requires c =
 pub returns-then-not-pair_fits : goal.returns-then-not-pair_fits
 returns-then-not-pair_fits c =
     going-odd c.loop-i.invariant (pair-odd c.args.table.now
-    (c.args.r.first + c.loop-i.i) c.pair_fits.ensures (not-true _ c.if-not-pair_fits.true)) refl
+    (c.args.r.first + c.loop-i.i) c.pair_fits.ensures c.if-not-pair_fits.true) refl
 
 pub loop-i-preserved : goal.loop-i-preserved
 loop-i-preserved c = search (rules, going-turn, pair-plain, not-false)

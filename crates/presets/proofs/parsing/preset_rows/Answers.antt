@@ -6,23 +6,25 @@ use Rattle.presets.proofs.Taken.{Three, three, three-lack, preset-lacks, preset-
 use borrow.Author.Rules.{rules}
 use Rattle.presets.proofs.parsing.preset_rows.Goals as goal
 
-after-1 : (c : goal.In-At)
-    → Three c.args.body.now c.args.at c.in-At.n
-after-1 c = three _ _ c.requires c.head-a.ensures (ap ends_out c.in-At.is)
-
 pub returns-in_default : goal.returns-in_default
 returns-in_default c = search (three-lack, ap ends_out c.in_default.is)
 
 pub bounds-body-at : goal.bounds-body-at
 bounds-body-at c =
-    omega (arith, (after-1 c.before).there)
+    let after-1 : Three c.args.body.now c.args.at c.in-At.n = three _ _ c.requires c.head-a.ensures (ap ends_out c.in-At.is) in
+    omega (arith, after-1.there)
 
 pub measure_conditions-b-requires : goal.measure_conditions-b-requires
 measure_conditions-b-requires c =
-    (after-1 c.before.before).inside
+    let after-1 : Three c.args.body.now c.args.at c.in-At.n = three _ _ c.requires c.head-a.ensures (ap ends_out c.in-At.is) in
+    after-1.inside
 
 pub returns-in_default-b : goal.returns-in_default-b
-returns-in_default-b c = search (preset-lacks, after-1, ap ends_out c.in_default-b.is)
+returns-in_default-b c =
+    let after-1 : Three c.args.body.now c.args.at c.in-At.n = three _ _ c.requires c.head-a.ensures (ap ends_out c.in-At.is) in
+    search (preset-lacks, after-1, ap ends_out c.in_default-b.is)
 
 pub returns : goal.returns
-returns c = search (preset-got, after-1, ap ends_out c.in-At-b.is)
+returns c =
+    let after-1 : Three c.args.body.now c.args.at c.in-At.n = three _ _ c.requires c.head-a.ensures (ap ends_out c.in-At.is) in
+    search (preset-got, after-1, ap ends_out c.in-At-b.is)

@@ -13,23 +13,22 @@ use Rattle.presets.specs.Rows.{preset_cols}
 use borrow.Author.Rules.{rules}
 use Rattle.presets.proofs.writing.check_preset.Goals as goal
 
-abbrev start : goal.After-check_all-p2 → goal.Start
-start c = c.before.before.before.before.before.before.before.before.before.before
-
-step-1 : (c : goal.After-check_all-p2)
-    → Checked (front_acts preset (length c.args.conditions.now / 13) (preset_cols c.args.p)) 3 (At c.args.n) c.check_all-p2.result
-step-1 c =
-    rw front-acts
-    (then (rw c.in_table-inside.ensures at c.demand-p0.ensures) (then (met F.Field _) (then c.demand-p1.ensures (all-checked c.head_bytes.ensures c.check_all-p2.ensures))))
-
 pub returns-in_default : goal.returns-in_default
-returns-in_default c = search (preset-stopped, step-1)
+returns-in_default c =
+    let step-1 : Checked (front_acts preset (length c.args.conditions.now / 13) (preset_cols c.args.p)) 3 (At c.args.n) c.check_all-p2.result = rw front-acts
+    (then (rw c.in_table-inside.ensures at c.demand-p0.ensures) (then (met F.Field _) (then c.demand-p1.ensures (all-checked c.head_bytes.ensures c.check_all-p2.ensures)))) in
+    search (preset-stopped, step-1)
 
 pub check_conditions-requires : goal.check_conditions-requires
 check_conditions-requires c =
-    let f = preset-passed c.args.conditions.now (preset_cols c.args.p) (step-1 c.before.before.before) c.in-At.is in
-    let k = preset-near c.args.conditions.now (preset_cols c.args.p) (step-1 c.before.before.before) c.in-At.is in
+    let step-1 : Checked (front_acts preset (length c.args.conditions.now / 13) (preset_cols c.args.p)) 3 (At c.args.n) c.check_all-p2.result = rw front-acts
+    (then (rw c.in_table-inside.ensures at c.demand-p0.ensures) (then (met F.Field _) (then c.demand-p1.ensures (all-checked c.head_bytes.ensures c.check_all-p2.ensures)))) in
+    let f = preset-passed c.args.conditions.now (preset_cols c.args.p) step-1 c.in-At.is in
+    let k = preset-near c.args.conditions.now (preset_cols c.args.p) step-1 c.in-At.is in
     (f.inside, search rules, search (rules, k))
 
 pub returns : goal.returns
-returns c = search (preset-checked, step-1)
+returns c =
+    let step-1 : Checked (front_acts preset (length c.args.conditions.now / 13) (preset_cols c.args.p)) 3 (At c.args.n) c.check_all-p2.result = rw front-acts
+    (then (rw c.in_table-inside.ensures at c.demand-p0.ensures) (then (met F.Field _) (then c.demand-p1.ensures (all-checked c.head_bytes.ensures c.check_all-p2.ensures)))) in
+    search (preset-checked, step-1)

@@ -17,15 +17,6 @@ use Rattle.presets.proofs.Writes.{ready-few, ready-counted, filling}
 use borrow.Author.Rules.{rules}
 use Rattle.presets.proofs.writing.fill_preset.Goals as goal
 
-abbrev start : goal.After-fill_all-n1 → goal.Start
-start c = c.before.before.before.before.before.before.before
-
-step-1 : (c : goal.After-fill_all-n1)
-    → Filling (preset_acts c.args.p c.args.conditions.now)
-    (rows (row_acts c.args.conditions.now) c.args.p.conditions.first c.args.p.conditions.count ++ []) c.args.n c.args.out.now
-    c.fill_all-n1.result c.fill_all-n1.new.out
-step-1 c = fill-part _ c.head_bytes.ensures (filling c.args.conditions.now (preset_cols c.args.p) c.requires) c.fill_all-n1.ensures
-
 pub overflow_sub-p : goal.overflow_sub-p
 overflow_sub-p c =
     omega (arith, ready-counted c.args.conditions.now (preset_cols c.args.p) c.requires)
@@ -35,14 +26,16 @@ fill_all-n1-requires c = search (ready-part, filling)
 
 pub fill_conditions-requires : goal.fill_conditions-requires
 unfolding writes
-fill_conditions-requires c = (
-  (ready-few c.args.conditions.now (preset_cols c.args.p) c.requires).inside,
-  search rules,
-  kids-ready preset (length c.args.conditions.now / 13) (row_acts c.args.conditions.now) (preset_cols c.args.p) (step-1 c.before.before.before.before.before.before),
-)
+fill_conditions-requires c =
+    let step-1 : Filling (preset_acts c.args.p c.args.conditions.now) (rows (row_acts c.args.conditions.now) c.args.p.conditions.first c.args.p.conditions.count ++ []) c.args.n c.args.out.now c.fill_all-n1.result c.fill_all-n1.new.out = fill-part _ c.head_bytes.ensures (filling c.args.conditions.now (preset_cols c.args.p) c.requires) c.fill_all-n1.ensures in (
+      (ready-few c.args.conditions.now (preset_cols c.args.p) c.requires).inside,
+      search rules,
+      kids-ready preset (length c.args.conditions.now / 13) (row_acts c.args.conditions.now) (preset_cols c.args.p) step-1,
+    )
 
 pub returns : goal.returns
 unfolding writes
 returns c =
+    let step-1 : Filling (preset_acts c.args.p c.args.conditions.now) (rows (row_acts c.args.conditions.now) c.args.p.conditions.first c.args.p.conditions.count ++ []) c.args.n c.args.out.now c.fill_all-n1.result c.fill_all-n1.new.out = fill-part _ c.head_bytes.ensures (filling c.args.conditions.now (preset_cols c.args.p) c.requires) c.fill_all-n1.ensures in
     fill_end (kids-filled preset (length c.args.conditions.now / 13) (row_acts c.args.conditions.now) (preset_cols c.args.p)
-    (step-1 c.before.before.before.before.before.before.before.before.before) c.fill_conditions.ensures) refl
+    step-1 c.fill_conditions.ensures) refl

@@ -10,8 +10,8 @@ use Rattle.presets.proofs.writing.front_fits.Goals as goal
 pub returns-then-four_fit : goal.returns-then-four_fit
 returns-then-four_fit c =
     let p = c.args.p in
-    ap (λ (b : Bool). b && ((leb 1 p.conditions.count && leb p.conditions.count 16) && c.fits2.result)) (sym c.if-four_fit.true)
-    ∙ front_fits p c.four_fit.ensures c.fits2.ensures
+    ap (λ (b : Bool). b && ((leb 1 p.conditions.count && leb p.conditions.count 16) && c.fits.result)) (sym c.if-four_fit.true)
+    ∙ front_fits p c.four_fit.ensures c.fits.ensures
 
 pub returns-else-four_fit : goal.returns-else-four_fit
 returns-else-four_fit c =

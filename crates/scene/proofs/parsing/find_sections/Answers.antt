@@ -9,65 +9,61 @@ use Rattle.scene.proofs.Walked.{head-cut, InGroups, groups-found, groups-cut, In
 use borrow.Author.Rules.{rules}
 use Rattle.scene.proofs.parsing.find_sections.Goals as goal
 
-abbrev start : goal.In-At → goal.Start
-start c = c.before.before.before
-
-two : (c : goal.In-At) → Past c.args.body.now 0 2 c.in-At.n
-two c = ones-past 2 _ 0 (omega arith) c.head-a.ensures (ap ends_out c.in-At.is)
-
-abbrev back-1 : goal.After-groups_end-g → goal.In-At
-back-1 c = c.before.before.before.before
-
-groups : (c : goal.In-At-g) → InGroups (start (back-1 c.before)).args.body.now c.in-At-g.switch_groups
-groups c =
-    let d = c.before in
-    groups-found (two (back-1 d)) (d.part.ensures ∙ ap (part 7 1) d.wide-flags.ensures) d.groups_end-g.ensures (ap ends_out c.in-At-g.is)
-
-abbrev back-2 : goal.After-switch_groups_rows-s → goal.In-At-g
-back-2 c = c.before.before
-
-switches : (c : goal.In-Got)
-    → InSwitches (start (back-1 (back-2 c.before).before.before.before)).args.body.now
-    (back-2 c.before).before.g.given.0.0 c.in-Got.members c.in-Got.presets
-switches c =
-    let d = c.before in
-    switches-found (groups (back-2 d)) (d.part-2.ensures ∙ ap (part 6 1) d.wide-flags.ensures) d.switch_groups_rows-s.ensures c.in-Got.is
-
 pub returns-in_default : goal.returns-in_default
 returns-in_default c =
     let d = ap ends_out c.in_default.is in
     record { finds = head-cut _ (sym c.head-a.ensures ∙ d) ∙ ap short (sym (c.short.ensures ∙ ap short_of d)) }
 
 pub bounds-body-0 : goal.bounds-body-0
-bounds-body-0 c = let h = (two c.before).inside in omega arith
+bounds-body-0 c =
+    let two : Past c.args.body.now 0 2 c.in-At.n = ones-past 2 _ 0 (omega arith) c.head-a.ensures (ap ends_out c.in-At.is) in
+    let h = two.inside in omega arith
 
 pub groups_end-g-requires : goal.groups_end-g-requires
-groups_end-g-requires c = let h = two c.before.before.before in rw h.is h.inside
+groups_end-g-requires c =
+    let two : Past c.args.body.now 0 2 c.in-At.n = ones-past 2 _ 0 (omega arith) c.head-a.ensures (ap ends_out c.in-At.is) in
+    let h = two in rw h.is h.inside
 
 pub returns-in_default-g : goal.returns-in_default-g
 returns-in_default-g c =
-    let d = c.before.before in
-    record { finds = groups-cut (two (back-1 d)) (d.part.ensures ∙ ap (part 7 1) d.wide-flags.ensures) d.groups_end-g.ensures (ap ends_out c.in_default-g.is) c.short-in_default-g.ensures }
+    let two : Past c.args.body.now 0 2 c.in-At.n = ones-past 2 _ 0 (omega arith) c.head-a.ensures (ap ends_out c.in-At.is) in
+    record { finds = groups-cut two (c.part.ensures ∙ ap (part 7 1) c.wide-flags.ensures) c.groups_end-g.ensures (ap ends_out c.in_default-g.is) c.short-in_default-g.ensures }
 
 pub switch_groups_rows-s-requires : goal.switch_groups_rows-s-requires
-switch_groups_rows-s-requires c = (groups c.before).place.inside
+switch_groups_rows-s-requires c =
+    let two : Past c.args.body.now 0 2 c.in-At.n = ones-past 2 _ 0 (omega arith) c.head-a.ensures (ap ends_out c.in-At.is) in
+    let groups : InGroups (start (back-1 c.before)).args.body.now c.in-At-g.switch_groups = groups-found two (c.part.ensures ∙ ap (part 7 1) c.wide-flags.ensures) c.groups_end-g.ensures (ap ends_out c.in-At-g.is) in
+    groups.place.inside
 
 pub returns-in_default-s : goal.returns-in_default-s
 returns-in_default-s c =
+    let two : Past c.args.body.now 0 2 c.in-At.n = ones-past 2 _ 0 (omega arith) c.head-a.ensures (ap ends_out c.in-At.is) in
+    let groups : InGroups (start (back-1 c.before)).args.body.now c.in-At-g.switch_groups = groups-found two (c.part.ensures ∙ ap (part 7 1) c.wide-flags.ensures) c.groups_end-g.ensures (ap ends_out c.in-At-g.is) in
     let d = c.before.before in
-    record { finds = switches-cut (groups (back-2 d)) (d.part-2.ensures ∙ ap (part 6 1) d.wide-flags.ensures) d.switch_groups_rows-s.ensures c.in_default-s.is ∙ ap short (sym (c.short-in_default-s.ensures ∙ ap (λ r. short_of (sum_out r)) c.in_default-s.is)) }
+    record { finds = switches-cut groups (d.part-2.ensures ∙ ap (part 6 1) d.wide-flags.ensures) d.switch_groups_rows-s.ensures c.in_default-s.is ∙ ap short (sym (c.short-in_default-s.ensures ∙ ap (λ r. short_of (sum_out r)) c.in_default-s.is)) }
 
 pub presets_rows-p-requires : goal.presets_rows-p-requires
-presets_rows-p-requires c = (switches c.before).on.place.inside
+presets_rows-p-requires c =
+    let two : Past c.args.body.now 0 2 c.in-At.n = ones-past 2 _ 0 (omega arith) c.head-a.ensures (ap ends_out c.in-At.is) in
+    let groups : InGroups (start (back-1 c.before)).args.body.now c.in-At-g.switch_groups = groups-found two (c.part.ensures ∙ ap (part 7 1) c.wide-flags.ensures) c.groups_end-g.ensures (ap ends_out c.in-At-g.is) in
+    let switches : InSwitches (start (back-1 (back-2 c.before).before.before.before)).args.body.now (back-2 c.before).before.g.given.0.0 c.in-Got.members c.in-Got.presets = let d = c.before in
+    switches-found groups (d.part-2.ensures ∙ ap (part 6 1) d.wide-flags.ensures) d.switch_groups_rows-s.ensures c.in-Got.is in
+    switches.on.place.inside
 
 pub returns-in_default-p : goal.returns-in_default-p
 returns-in_default-p c =
-    let e = c.before.before.before.before in
-    let b = (back-2 e.before).before.before.before in
-    record { finds = presets-cut (switches e) (c.part-3.ensures ∙ ap (part 5 1) b.before.before.wide.ensures) c.presets_rows-p.ensures c.in_default-p.is ∙ ap short (sym (c.short-in_default-p.ensures ∙ ap (λ r. short_of (sum_out r)) c.in_default-p.is)) }
+    let two : Past c.args.body.now 0 2 c.in-At.n = ones-past 2 _ 0 (omega arith) c.head-a.ensures (ap ends_out c.in-At.is) in
+    let groups : InGroups (start (back-1 c.before)).args.body.now c.in-At-g.switch_groups = groups-found two (c.part.ensures ∙ ap (part 7 1) c.wide-flags.ensures) c.groups_end-g.ensures (ap ends_out c.in-At-g.is) in
+    let switches : InSwitches (start (back-1 (back-2 c.before).before.before.before)).args.body.now (back-2 c.before).before.g.given.0.0 c.in-Got.members c.in-Got.presets = let d = c.before in
+    switches-found groups (d.part-2.ensures ∙ ap (part 6 1) d.wide-flags.ensures) d.switch_groups_rows-s.ensures c.in-Got.is in
+    let b = (back-2 c.before.before.before.before.before).before.before.before in
+    record { finds = presets-cut switches (c.part-3.ensures ∙ ap (part 5 1) b.before.before.wide.ensures) c.presets_rows-p.ensures c.in_default-p.is ∙ ap short (sym (c.short-in_default-p.ensures ∙ ap (λ r. short_of (sum_out r)) c.in_default-p.is)) }
 
 pub returns : goal.returns
 returns c =
-    let e = c.before.before.before in
-    let b = (back-2 e.before).before.before.before in
-    record { finds = all_found (switches e) (c.part-3.ensures ∙ ap (part 5 1) b.before.before.wide.ensures) c.presets_rows-p.ensures (two (back-1 b)).inside c.in-Got-p.is }
+    let two : Past c.args.body.now 0 2 c.in-At.n = ones-past 2 _ 0 (omega arith) c.head-a.ensures (ap ends_out c.in-At.is) in
+    let groups : InGroups (start (back-1 c.before)).args.body.now c.in-At-g.switch_groups = groups-found two (c.part.ensures ∙ ap (part 7 1) c.wide-flags.ensures) c.groups_end-g.ensures (ap ends_out c.in-At-g.is) in
+    let switches : InSwitches (start (back-1 (back-2 c.before).before.before.before)).args.body.now (back-2 c.before).before.g.given.0.0 c.in-Got.members c.in-Got.presets = let d = c.before in
+    switches-found groups (d.part-2.ensures ∙ ap (part 6 1) d.wide-flags.ensures) d.switch_groups_rows-s.ensures c.in-Got.is in
+    let b = (back-2 c.before.before.before.before).before.before.before in
+    record { finds = all_found switches (c.part-3.ensures ∙ ap (part 5 1) b.before.before.wide.ensures) c.presets_rows-p.ensures two.inside c.in-Got-p.is }

@@ -24,4 +24,4 @@ returns-then-flags-lt32 c =
 
 pub first_section-requires : goal.first_section-requires
 first_section-requires c =
-    let i = (ones-past 2 _ 0 (omega arith) c.head-a.ensures (ap ends_out c.in-At.is)).inside in (i, flags-so c.wide-flags.ensures c.part.ensures c.part-2.ensures c.part-3.ensures, omega (arith, c.wide-flags.ensures, c.if-flags-lt32.false), omega (arith, c.shared_slice_known-2-1.given 0))
+    let i = (ones-past 2 _ 0 (omega arith) c.head-a.ensures (ap ends_out c.in-At.is)).inside in (i, flags-so c.wide-flags.ensures c.part.ensures c.part-2.ensures c.part-3.ensures, omega (arith, c.wide-flags.ensures, c.if-flags-lt32.false), omega (arith, c.type_inv.body 0))

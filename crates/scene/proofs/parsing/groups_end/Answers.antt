@@ -8,13 +8,6 @@ use Rattle.scene.proofs.Sections.{Begun, begins, size_small, section-cut-off, se
 use borrow.Author.Rules.{rules}
 use Rattle.scene.proofs.parsing.groups_end.Goals as goal
 
-abbrev start : goal.In-At → goal.Start
-start c = c.before.before.before.before
-
-began : (c : goal.In-At) → Begun c.args.body.now c.args.flag c.args.at c.in-At.n
-began c =
-    begins _ _ _ c.requires c.size.ensures c.head-a.ensures (ap ends_out c.in-At.is)
-
 pub head-a-requires : goal.head-a-requires
 head-a-requires c = (c.requires, size_small c.args.flag c.size.ensures)
 
@@ -22,10 +15,16 @@ pub returns-in_default : goal.returns-in_default
 returns-in_default c = section-cut-off (flat 27 group) 1 7 1 _ _ _ c.size.ensures c.head-a.ensures (ap ends_out c.in_default.is)
 
 pub count_at-requires : goal.count_at-requires
-count_at-requires c = ((began c).there-is, omega arith)
+count_at-requires c =
+    let began : Begun c.args.body.now c.args.flag c.args.at c.in-At.n = begins _ _ _ c.requires c.size.ensures c.head-a.ensures (ap ends_out c.in-At.is) in
+    (began.there-is, omega arith)
 
 pub measure_groups-requires : goal.measure_groups-requires
-measure_groups-requires c = (began c.before).inside
+measure_groups-requires c =
+    let began : Begun c.args.body.now c.args.flag c.args.at c.in-At.n = begins _ _ _ c.requires c.size.ensures c.head-a.ensures (ap ends_out c.in-At.is) in
+    began.inside
 
 pub returns : goal.returns
-returns c = section-ends (flat 27 group) 1 7 1 _ _ _ (began c.before.before) c.count_at.ensures.0 c.measure_groups.ensures
+returns c =
+    let began : Begun c.args.body.now c.args.flag c.args.at c.in-At.n = begins _ _ _ c.requires c.size.ensures c.head-a.ensures (ap ends_out c.in-At.is) in
+    section-ends (flat 27 group) 1 7 1 _ _ _ began c.count_at.ensures.0 c.measure_groups.ensures

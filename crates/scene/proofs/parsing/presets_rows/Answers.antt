@@ -9,13 +9,6 @@ use Rattle.scene.proofs.Sections.{Begun, begins, size_small, section-cut-sum, se
 use borrow.Author.Rules.{rules}
 use Rattle.scene.proofs.parsing.presets_rows.Goals as goal
 
-abbrev start : goal.In-At → goal.Start
-start c = c.before.before.before.before
-
-began : (c : goal.In-At) → Begun c.args.body.now c.args.flag c.args.at c.in-At.n
-began c =
-    begins _ _ _ c.requires c.size.ensures c.head-a.ensures (ap ends_out c.in-At.is)
-
 pub head-a-requires : goal.head-a-requires
 head-a-requires c = (c.requires, size_small c.args.flag c.size.ensures)
 
@@ -25,12 +18,17 @@ returns-in_default c =
     (ap ends_out c.in_default.is) c.short.ensures
 
 pub count_at-requires : goal.count_at-requires
-count_at-requires c = ((began c).there-is, omega arith)
+count_at-requires c =
+    let began : Begun c.args.body.now c.args.flag c.args.at c.in-At.n = begins _ _ _ c.requires c.size.ensures c.head-a.ensures (ap ends_out c.in-At.is) in
+    (began.there-is, omega arith)
 
 pub measure_presets-requires : goal.measure_presets-requires
-measure_presets-requires c = ((began c.before).inside, c.count_at.ensures.1)
+measure_presets-requires c =
+    let began : Begun c.args.body.now c.args.flag c.args.at c.in-At.n = begins _ _ _ c.requires c.size.ensures c.head-a.ensures (ap ends_out c.in-At.is) in
+    (began.inside, c.count_at.ensures.1)
 
 pub returns : goal.returns
 returns c =
-    section-sum presets 3 5 7 _ _ _ (λ l. length (kids l)) (began c.before.before) c.count_at.ensures.0 (omega (arith, c.count_at.ensures.1))
+    let began : Begun c.args.body.now c.args.flag c.args.at c.in-At.n = begins _ _ _ c.requires c.size.ensures c.head-a.ensures (ap ends_out c.in-At.is) in
+    section-sum presets 3 5 7 _ _ _ (λ l. length (kids l)) began c.count_at.ensures.0 (omega (arith, c.count_at.ensures.1))
     c.measure_presets.ensures

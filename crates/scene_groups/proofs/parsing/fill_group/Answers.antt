@@ -10,64 +10,56 @@ use Rattle.scene_groups.proofs.Groups.{fives, twos, threes, group-room, group-pu
 use borrow.Author.Rules.{rules}
 use Rattle.scene_groups.proofs.parsing.fill_group.Goals as goal
 
-whole : (c : goal.Start) → Whole 27 group c.args.body.now c.args.at
-whole c = flat-done 27 group _ _ c.requires.0 c.requires.1
-
--- the three bytes are there
-head : (c : goal.Start) → c.args.at + 3 ≤ length c.args.body.now
-head c = omega (arith, group-room (whole c) refl refl refl refl)
-
--- the entry from where the flags are known, these from where a position is stored, and each part's place from the next
-abbrev start : goal.After-part-l → goal.Start
-start c = c.before.before.before.before.before.before.before.before.before.before.before
-
-abbrev flags : goal.After-fill_position-arg-1 → goal.After-part-l
-flags c = c.before.before.before.before.before.before.before
-
-abbrev position : goal.After-fill_gain-arg-1 → goal.After-fill_position-arg-1
-position c = c.before.before.before.before
-
-abbrev gain : goal.After-fill_language-arg-1 → goal.After-fill_gain-arg-1
-gain c = c.before.before.before.before
-
-room : (c : goal.After-part-l)
-    → c.args.at + (3 + (fives c.part-p.result + (twos c.part-g.result + threes c.part-l.result))) ≤ length c.args.body.now
-room c = group-room (whole (start c)) c.wide-flags.ensures c.part-p.ensures c.part-g.ensures c.part-l.ensures
-
-head-so : (c : goal.After-fill_position-arg-1) → c.head_row.result
-    ≡ head_of (get_or (start (flags c)).args.body.now (start (flags c)).args.at 0) c.wide-flags.result
-    (get_or (start (flags c)).args.body.now ((start (flags c)).args.at + 2) 0)
-head-so c =
-    c.head_row.ensures
-    ∙ λ i. head_of (c.wide-id.ensures i) c.wide-flags.result
-    (c.wide-content.ensures i)
-
 pub bounds-body-at : goal.bounds-body-at
-bounds-body-at c = omega (arith, head c.before.before.before)
+bounds-body-at c =
+    let whole : Whole 27 group c.args.body.now c.args.at = flat-done 27 group _ _ c.requires.0 c.requires.1 in
+    -- the three bytes are there
+    let head : c.args.at + 3 ≤ length c.args.body.now = omega (arith, group-room whole refl refl refl refl) in
+    omega (arith, head)
 
 pub bounds-body-at-2 : goal.bounds-body-at-2
-bounds-body-at-2 c = omega (arith, head c.before.before.before.before.before)
+bounds-body-at-2 c =
+    let whole : Whole 27 group c.args.body.now c.args.at = flat-done 27 group _ _ c.requires.0 c.requires.1 in
+    -- the three bytes are there
+    let head : c.args.at + 3 ≤ length c.args.body.now = omega (arith, group-room whole refl refl refl refl) in
+    omega (arith, head)
 
 pub bounds-body-at-3 : goal.bounds-body-at-3
-bounds-body-at-3 c = omega (arith, head c.before.before.before.before.before.before.before)
+bounds-body-at-3 c =
+    let whole : Whole 27 group c.args.body.now c.args.at = flat-done 27 group _ _ c.requires.0 c.requires.1 in
+    -- the three bytes are there
+    let head : c.args.at + 3 ≤ length c.args.body.now = omega (arith, group-room whole refl refl refl refl) in
+    omega (arith, head)
 
 pub fill_position-at_gain-requires : goal.fill_position-at_gain-requires
-fill_position-at_gain-requires c = let f = c.before.before.before.before.before.before.before in (omega (arith, room f), flag-below 2 _ f.part-p.ensures, search rules)
+fill_position-at_gain-requires c =
+    let whole : Whole 27 group c.args.body.now c.args.at = flat-done 27 group _ _ c.requires.0 c.requires.1 in
+    let room : c.args.at + (3 + (fives c.part-p.result + (twos c.part-g.result + threes c.part-l.result))) ≤ length c.args.body.now = group-room whole c.wide-flags.ensures c.part-p.ensures c.part-g.ensures c.part-l.ensures in
+    (omega (arith, room), flag-below 2 _ c.part-p.ensures, search rules)
 
 pub fill_gain-at_language-requires : goal.fill_gain-at_language-requires
 fill_gain-at_language-requires c =
-    let f = flags (position c) in (search (rules, room f), flag-below 1 _ f.before.part2.ensures, search rules)
+    let whole : Whole 27 group c.args.body.now c.args.at = flat-done 27 group _ _ c.requires.0 c.requires.1 in
+    let room : c.args.at + (3 + (fives c.part-p.result + (twos c.part-g.result + threes c.part-l.result))) ≤ length c.args.body.now = group-room whole c.wide-flags.ensures c.part-p.ensures c.part-g.ensures c.part-l.ensures in
+    let f = flags (position c) in (search (rules, room), flag-below 1 _ f.before.part2.ensures, search rules)
 
 pub overflow_add-to-3 : goal.overflow_add-to-3
-overflow_add-to-3 c = let s = start (flags (position (gain c))) in omega (arith, s.pre.2, s.good)
+overflow_add-to-3 c =
+    let s = start (flags (position (gain c))) in omega (arith, s.pre.2, s.good)
 
 pub fill_language-requires : goal.fill_language-requires
 fill_language-requires c =
-    let f = flags (position (gain c)) in (search (rules, room f, gain c), flag-below 0 _ f.part3.ensures, search rules)
+    let whole : Whole 27 group c.args.body.now c.args.at = flat-done 27 group _ _ c.requires.0 c.requires.1 in
+    let room : c.args.at + (3 + (fives c.part-p.result + (twos c.part-g.result + threes c.part-l.result))) ≤ length c.args.body.now = group-room whole c.wide-flags.ensures c.part-p.ensures c.part-g.ensures c.part-l.ensures in
+    let f = flags (position (gain c)) in (search (rules, room, gain c), flag-below 0 _ f.part3.ensures, search rules)
 
 pub returns : goal.returns
 returns c =
-    let z = c.before.before.before in let y = z.before.before.before.before in let x = y.before.before.before.before in let f = x.before.before.before.before.before.before.before in group-put (whole (start f))
-    f.wide-flags.ensures f.part-p.ensures f.part-g.ensures f.part-l.ensures (head-so x)
+    let whole : Whole 27 group c.args.body.now c.args.at = flat-done 27 group _ _ c.requires.0 c.requires.1 in
+    let head-so : c.head_row.result ≡ head_of (get_or (start (flags c)).args.body.now (start (flags c)).args.at 0) c.wide-flags.result (get_or (start (flags c)).args.body.now ((start (flags c)).args.at + 2) 0) = c.head_row.ensures
+    ∙ λ i. head_of (c.wide-id.ensures i) c.wide-flags.result
+    (c.wide-content.ensures i) in
+    let z = c.before.before.before in let y = z.before.before.before.before in let x = y.before.before.before.before in group-put whole
+    x.wide-flags.ensures x.part-p.ensures x.part-g.ensures x.part-l.ensures head-so
     x.put_row.ensures y.fill_position-at_gain.ensures z.fill_gain-at_language.ensures
     c.fill_language.ensures

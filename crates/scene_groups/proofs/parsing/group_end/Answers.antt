@@ -10,42 +10,53 @@ use Rattle.scene_groups.proofs.Groups.{group-ends, Three, three, Singly, singly,
 use borrow.Author.Rules.{rules}
 use Rattle.scene_groups.proofs.parsing.group_end.Goals as goal
 
-abbrev start : goal.In-At → goal.Start
-start c = c.before.before.before
-
--- behind the three bytes
-after-1 : (c : goal.In-At) → Three c.args.body.now c.args.at c.in-At.n
-after-1 c = three _ _ c.requires c.head-a.ensures (ap ends_out c.in-At.is)
-
-abbrev first : goal.In-At-b → goal.In-At
-first c = c.before.before.before.before.before
-
-flags_of : (c : goal.In-At-b) → c.wide-flags.result ≡ get_or (start (first c)).args.body.now ((start (first c)).args.at + 1) 0
-flags_of c = c.wide-flags.ensures
-
--- behind the single bytes
-after-2 : (c : goal.In-At-b) → Singly (start (first c)).args.body.now (start (first c)).args.at c.in-At-b.m
-after-2 c =
-    singly _ (after-1 (first c)) (flags_of c) c.singles.ensures.0 c.head-b.ensures
-    (ap ends_out c.in-At-b.is)
-
 pub returns-in_default : goal.returns-in_default
 returns-in_default c = ends-cut (ones 3) _ _ _ c.head-a.ensures (ap ends_out c.in_default.is) ∙ sym (group-ends _ _)
 
 pub bounds-body-at : goal.bounds-body-at
-bounds-body-at c = let w = (after-1 c.before).there in omega arith
+bounds-body-at c =
+    -- behind the three bytes
+    let after-1 : Three c.args.body.now c.args.at c.in-At.n = three _ _ c.requires c.head-a.ensures (ap ends_out c.in-At.is) in
+    let w = after-1.there in omega arith
 
 pub head-b-requires : goal.head-b-requires
-head-b-requires c = let w = after-1 c.before.before.before in (w.inside, omega (arith, c.singles.ensures.1))
+head-b-requires c =
+    -- behind the three bytes
+    let after-1 : Three c.args.body.now c.args.at c.in-At.n = three _ _ c.requires c.head-a.ensures (ap ends_out c.in-At.is) in
+    let w = after-1 in (w.inside, omega (arith, c.singles.ensures.1))
 
 pub returns-in_default-b : goal.returns-in_default-b
-returns-in_default-b c = search (singly-cut, after-1, ap ends_out c.in_default-b.is)
+returns-in_default-b c =
+    -- behind the three bytes
+    let after-1 : Three c.args.body.now c.args.at c.in-At.n = three _ _ c.requires c.head-a.ensures (ap ends_out c.in-At.is) in
+    search (singly-cut, after-1, ap ends_out c.in_default-b.is)
 
 pub bytes_end-requires : goal.bytes_end-requires
-bytes_end-requires c = ((after-2 c.before.before).inside, omega arith)
+bytes_end-requires c =
+    -- behind the three bytes
+    let after-1 : Three c.args.body.now c.args.at c.in-At.n = three _ _ c.requires c.head-a.ensures (ap ends_out c.in-At.is) in
+    let flags_of : c.wide-flags.result ≡ get_or (start (first c)).args.body.now ((start (first c)).args.at + 1) 0 = c.wide-flags.ensures in
+    -- behind the single bytes
+    let after-2 : Singly (start (first c)).args.body.now (start (first c)).args.at c.in-At-b.m = singly _ after-1 c.singles.ensures.0 c.head-b.ensures
+    (ap ends_out c.in-At-b.is) in
+    (after-2.inside, omega arith)
 
 pub returns-then-part-eq1 : goal.returns-then-part-eq1
-returns-then-part-eq1 c = search (with-language, after-2, flags_of)
+returns-then-part-eq1 c =
+    let flags_of : c.wide-flags.result ≡ get_or (start (first c)).args.body.now ((start (first c)).args.at + 1) 0 = c.wide-flags.ensures in
+    -- behind the three bytes
+    let after-1 : Three c.args.body.now c.args.at c.in-At.n = three _ _ c.requires c.head-a.ensures (ap ends_out c.in-At.is) in
+    -- behind the single bytes
+    let after-2 : Singly (start (first c)).args.body.now (start (first c)).args.at c.in-At-b.m = singly _ after-1 c.singles.ensures.0 c.head-b.ensures
+    (ap ends_out c.in-At-b.is) in
+    search (with-language, after-2, flags_of)
 
 pub returns-else-part-eq1 : goal.returns-else-part-eq1
-returns-else-part-eq1 c = no-language (after-2 c.before.before) (flags_of c.before.before) c.part.ensures c.if-part-eq1.false refl
+returns-else-part-eq1 c =
+    let flags_of : c.wide-flags.result ≡ get_or (start (first c)).args.body.now ((start (first c)).args.at + 1) 0 = c.wide-flags.ensures in
+    -- behind the three bytes
+    let after-1 : Three c.args.body.now c.args.at c.in-At.n = three _ _ c.requires c.head-a.ensures (ap ends_out c.in-At.is) in
+    -- behind the single bytes
+    let after-2 : Singly (start (first c)).args.body.now (start (first c)).args.at c.in-At-b.m = singly _ after-1 c.singles.ensures.0 c.head-b.ensures
+    (ap ends_out c.in-At-b.is) in
+    no-language after-2 flags_of c.part.ensures c.if-part-eq1.false refl

@@ -4,13 +4,6 @@ use Rattle.wire.specs.Bits.{part}
 use borrow.Author.Rules.{rules}
 use Rattle.scene_groups.proofs.parsing.position_from.Goals as goal
 
--- behind the first five fields, and behind the five reads
-abbrev half : goal.After-part-10 → goal.After-part-5
-half c = c.before.before.before.before.before
-
-abbrev reads : goal.After-part-10 → goal.After-wide-dist
-reads c = c.before.before.before.before.before.before.before.before.before.before
-
 pub returns : goal.returns
 returns c =
     λ i. record {

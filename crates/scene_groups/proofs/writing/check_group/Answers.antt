@@ -18,63 +18,52 @@ use Rattle.scene_groups.specs.declared.rows.ContentLanguage.{ContentLanguage}
 use borrow.Author.Rules.{rules}
 use Rattle.scene_groups.proofs.writing.check_group.Goals as goal
 
--- each check, and the place before it
-abbrev first : goal.After-check_all-p1 → goal.Start
-first c = c.before.before.before.before.before.before.before
-
-abbrev second : goal.After-check_all-p2 → goal.After-check_all-p1
-second c = c.before.before.before.before
-
-abbrev third : goal.After-check_all-p3 → goal.After-check_all-p2
-third c = c.before.before.before.before
-
-abbrev fourth : goal.After-check_all → goal.After-check_all-p3
-fourth c = c.before.before.before.before
-
-abbrev of : goal.Start → SceneGroup
-of c = group_of c.args.groups.now c.args.b
-
-abbrev group : goal.After-check_all-p2 → SceneGroup
-group c = of (first (second c))
-
--- the row that was loaded
-same : (c : goal.After-check_all-p1) → c.of_columns-g.result ≡ of (first c)
-same c = c.of_columns-g.ensures
-
 abbrev head_acts : SceneGroup → List Act
 head_acts g = demand F.Field (group_flags g) ∷ demand F.Empty true ∷ map byte (head_fields g)
 
-step-1 : (c : goal.After-check_all-p1) → Checked (head_acts (of (first c))) 3 (At c.args.n) c.check_all-p1.result
-step-1 c =
-    let d = rw (c.flags_hold.ensures, same c) at c.demand-p0.ensures in
-    then d (then (met F.Empty _) (all-checked c.head_bytes.ensures c.check_all-p1.ensures))
-
-step-2 : (c : goal.After-check_all-p2)
-    → Checked (when (eqb (group c).position.present 1) (map byte (position_fields (group c).position))) 5 c.check_all-p1.result c.check_all-p2.result
-step-2 c = let e = same (second c) in all-checked (rw e at c.position_bytes.ensures) (rw e at c.check_all-p2.ensures)
-
-step-3 : (c : goal.After-check_all-p3)
-    → Checked (when (eqb (group (third c)).gain.present 1) (map byte (gain_fields (group (third c)).gain))) 2 c.check_all-p2.result c.check_all-p3.result
-step-3 c = let e = same (second (third c)) in all-checked (rw e at c.gain_bytes.ensures) (rw e at c.check_all-p3.ensures)
-
-abbrev language : goal.After-check_all → ContentLanguage
-language c = (group (third (fourth c))).content_language
-
-step-4 : (c : goal.After-check_all) → Checked (when (eqb (language c).present 1) (map byte (language_fields (language c)))) 3 c.check_all-p3.result c.check_all.result
-step-4 c = let e = same (second (third (fourth c))) in all-checked (rw e at c.language_bytes.ensures) (rw e at c.check_all.ensures)
-
 pub check_all-p2-requires : goal.check_all-p2-requires
-check_all-p2-requires c = let p = c.before.before.before in (omega (arith, (step-1 p).near, p.requires.0), search rules)
+check_all-p2-requires c =
+    let of : SceneGroup = group_of c.args.groups.now c.args.b in
+    -- the row that was loaded
+    let same : c.of_columns-g.result ≡ of = c.of_columns-g.ensures in
+    let step-1 : Checked (head_acts of) 3 (At c.args.n) c.check_all-p1.result = let d = rw (c.flags_hold.ensures, same) at c.demand-p0.ensures in
+    then d (then (met F.Empty _) (all-checked c.head_bytes.ensures c.check_all-p1.ensures)) in
+    let p = c.before.before.before in (omega (arith, step-1.near, p.requires.0), search rules)
 
 pub check_all-p3-requires : goal.check_all-p3-requires
 check_all-p3-requires c =
-    let p = c.before.before.before in (search (rules, step-2 p, step-1 (second p), first (second p)), search rules)
+    let of : SceneGroup = group_of c.args.groups.now c.args.b in
+    -- the row that was loaded
+    let same : c.of_columns-g.result ≡ of = c.of_columns-g.ensures in
+    let step-1 : Checked (head_acts of) 3 (At c.args.n) c.check_all-p1.result = let d = rw (c.flags_hold.ensures, same) at c.demand-p0.ensures in
+    then d (then (met F.Empty _) (all-checked c.head_bytes.ensures c.check_all-p1.ensures)) in
+    let group : SceneGroup = of (first (second c)) in
+    let step-2 : Checked (when (eqb group.position.present 1) (map byte (position_fields group.position))) 5 c.check_all-p1.result c.check_all-p2.result = let e = same in all-checked (rw e at c.position_bytes.ensures) (rw e at c.check_all-p2.ensures) in
+    let p = c.before.before.before in (search (rules, step-2, step-1, first (second p)), search rules)
 
 pub check_all-requires : goal.check_all-requires
 check_all-requires c =
-    let p = c.before.before.before in (search (rules, step-3 p, step-2 (third p), step-1 (second (third p)), first (second (third p))), search rules)
+    let of : SceneGroup = group_of c.args.groups.now c.args.b in
+    -- the row that was loaded
+    let same : c.of_columns-g.result ≡ of = c.of_columns-g.ensures in
+    let step-1 : Checked (head_acts of) 3 (At c.args.n) c.check_all-p1.result = let d = rw (c.flags_hold.ensures, same) at c.demand-p0.ensures in
+    then d (then (met F.Empty _) (all-checked c.head_bytes.ensures c.check_all-p1.ensures)) in
+    let group : SceneGroup = of (first (second c)) in
+    let step-2 : Checked (when (eqb group.position.present 1) (map byte (position_fields group.position))) 5 c.check_all-p1.result c.check_all-p2.result = let e = same in all-checked (rw e at c.position_bytes.ensures) (rw e at c.check_all-p2.ensures) in
+    let step-3 : Checked (when (eqb group.gain.present 1) (map byte (gain_fields group.gain))) 2 c.check_all-p2.result c.check_all-p3.result = let e = same (second (third c)) in all-checked (rw e at c.gain_bytes.ensures) (rw e at c.check_all-p3.ensures) in
+    let p = c.before.before.before in (search (rules, step-3, step-2, step-1 (second (third p)), first (second (third p))), search rules)
 
 pub returns : goal.returns
 returns c =
+    let of : SceneGroup = group_of c.args.groups.now c.args.b in
+    let group : SceneGroup = of (first (second c)) in
+    -- the row that was loaded
+    let same : c.of_columns-g.result ≡ of = c.of_columns-g.ensures in
+    let step-1 : Checked (head_acts of) 3 (At c.args.n) c.check_all-p1.result = let d = rw (c.flags_hold.ensures, same) at c.demand-p0.ensures in
+    then d (then (met F.Empty _) (all-checked c.head_bytes.ensures c.check_all-p1.ensures)) in
+    let step-2 : Checked (when (eqb group.position.present 1) (map byte (position_fields group.position))) 5 c.check_all-p1.result c.check_all-p2.result = let e = same in all-checked (rw e at c.position_bytes.ensures) (rw e at c.check_all-p2.ensures) in
+    let step-3 : Checked (when (eqb group.gain.present 1) (map byte (gain_fields group.gain))) 2 c.check_all-p2.result c.check_all-p3.result = let e = same (second (third c)) in all-checked (rw e at c.gain_bytes.ensures) (rw e at c.check_all-p3.ensures) in
+    let language : ContentLanguage = (group (third (fourth c))).content_language in
+    let step-4 : Checked (when (eqb language.present 1) (map byte (language_fields language))) 3 c.check_all-p3.result c.check_all.result = let e = same (second (third (fourth c))) in all-checked (rw e at c.language_bytes.ensures) (rw e at c.check_all.ensures) in
     let p = third (fourth c) in
-    rw (group-acts (group_cols (group p)), append-nil) (then (step-1 (second p)) (then (step-2 p) (then (step-3 (fourth c)) (step-4 c))))
+    rw (group-acts (group_cols group), append-nil) (then step-1 (then step-2 (then step-3)))

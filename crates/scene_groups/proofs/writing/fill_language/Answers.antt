@@ -7,18 +7,17 @@ use Rattle.scene_groups.proofs.Writes.{ready-there, filled-there, filled-absent}
 use borrow.Author.Rules.{rules}
 use Rattle.scene_groups.proofs.writing.fill_language.Goals as goal
 
-there : (c : goal.Then-column-eq1) → (language_of c.args.groups.now c.args.b).present ≡ 1
-there c = sym c.column.ensures ∙ c.if-column-eq1.true
-
-spelt : (c : goal.After-language_bytes-bytes)
-    → Spelt (language_fields (language_of c.args.groups.now c.args.b)) c.language_bytes-bytes.result
-spelt c = rw c.of_columns.ensures at c.language_bytes-bytes.ensures
-
 pub fill_all-requires : goal.fill_all-requires
-fill_all-requires c = search (ready-there, there, spelt)
+fill_all-requires c =
+    let there : (language_of c.args.groups.now c.args.b).present ≡ 1 = sym c.column.ensures ∙ c.if-column-eq1.true in
+    let spelt : Spelt (language_fields (language_of c.args.groups.now c.args.b)) c.language_bytes-bytes.result = rw c.of_columns.ensures at c.language_bytes-bytes.ensures in
+    search (ready-there, there, spelt)
 
 pub returns-then-column-eq1 : goal.returns-then-column-eq1
-returns-then-column-eq1 c = search (filled-there, there, spelt)
+returns-then-column-eq1 c =
+    let there : (language_of c.args.groups.now c.args.b).present ≡ 1 = sym c.column.ensures ∙ c.if-column-eq1.true in
+    let spelt : Spelt (language_fields (language_of c.args.groups.now c.args.b)) c.language_bytes-bytes.result = rw c.of_columns.ensures at c.language_bytes-bytes.ensures in
+    search (filled-there, there, spelt)
 
 pub returns-else-column-eq1 : goal.returns-else-column-eq1
 returns-else-column-eq1 c =

@@ -7,9 +7,6 @@ use Rattle.wire.specs.Spell.{Spells}
 use borrow.Author.Rules.{rules}
 use Rattle.scene_groups.proofs.writing.flags_byte.Goals as goal
 
-abbrev third : goal.After-spelt → goal.After-field-on_off
-third c = c.before.before.before.before.before.before.before
-
 pub returns : goal.returns
 unfolding total widths
 returns c =

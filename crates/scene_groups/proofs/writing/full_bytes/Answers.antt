@@ -8,23 +8,26 @@ use Rattle.scene_groups.proofs.Writes.{part-most, plain-so, odd-so}
 use borrow.Author.Rules.{rules}
 use Rattle.scene_groups.proofs.writing.full_bytes.Goals as goal
 
-abbrev start : goal.After-size-then-plain-2 → goal.Start
-start c = c.before.before.before.before.before.before.before.before.before
-
--- a row has at most ten bytes behind the first three
-most : (c : goal.After-size-then-plain-2) → c.size.result + (c.size-then-plain.result + c.size-then-plain-2.result) ≤ 10
-most c =
-    omega
-    (arith, part-most c.column.result 5 c.size.ensures, part-most c.column-then-plain.result 2 c.size-then-plain.ensures, part-most c.column-then-plain-2.result 3 c.size-then-plain-2.ensures)
-
 pub overflow_add-result : goal.overflow_add-result
-overflow_add-result c = omega (arith, most c)
+overflow_add-result c =
+    -- a row has at most ten bytes behind the first three
+    let most : c.size.result + (c.size-then-plain.result + c.size-then-plain-2.result) ≤ 10 = omega
+    (arith, part-most c.column.result 5 c.size.ensures, part-most c.column-then-plain.result 2 c.size-then-plain.ensures, part-most c.column-then-plain-2.result 3 c.size-then-plain-2.ensures) in
+    omega (arith, most)
 
 pub overflow_add-result-then-plain : goal.overflow_add-result-then-plain
-overflow_add-result-then-plain c = omega (arith, most c)
+overflow_add-result-then-plain c =
+    -- a row has at most ten bytes behind the first three
+    let most : c.size.result + (c.size-then-plain.result + c.size-then-plain-2.result) ≤ 10 = omega
+    (arith, part-most c.column.result 5 c.size.ensures, part-most c.column-then-plain.result 2 c.size-then-plain.ensures, part-most c.column-then-plain-2.result 3 c.size-then-plain-2.ensures) in
+    omega (arith, most)
 
 pub overflow_add-result-then-plain-2 : goal.overflow_add-result-then-plain-2
-overflow_add-result-then-plain-2 c = omega (arith, most c)
+overflow_add-result-then-plain-2 c =
+    -- a row has at most ten bytes behind the first three
+    let most : c.size.result + (c.size-then-plain.result + c.size-then-plain-2.result) ≤ 10 = omega
+    (arith, part-most c.column.result 5 c.size.ensures, part-most c.column-then-plain.result 2 c.size-then-plain.ensures, part-most c.column-then-plain-2.result 3 c.size-then-plain-2.ensures) in
+    omega (arith, most)
 
 pub returns-then-plain : goal.returns-then-plain
 returns-then-plain c =

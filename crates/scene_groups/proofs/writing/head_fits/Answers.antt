@@ -12,16 +12,16 @@ use Rattle.scene_groups.proofs.writing.head_fits.Goals as goal
 pub returns-then-kind_fits : goal.returns-then-kind_fits
 returns-then-kind_fits c =
     let s = c.args in
-    (λ i. sym c.if-id_fits.true i && (sym c.if-kind_fits.true i && (c.fits2.result && c.fits3.result)))
+    (λ i. sym c.if-id_fits.true i && (sym c.if-kind_fits.true i && (c.fits.result && c.fits-2.result)))
     ∙ head-fits (group_cols (group_of s.groups.now s.b)) c.id_fits.ensures c.kind_fits.ensures
-    (rw c.column.ensures at c.fits2.ensures) (rw c.column-2.ensures at c.fits3.ensures)
+    (rw c.column.ensures at c.fits.ensures) (rw c.column-2.ensures at c.fits-2.ensures)
 
 pub returns-else-kind_fits : goal.returns-else-kind_fits
 returns-else-kind_fits c =
     let s = c.args in
-    (λ i. sym c.if-id_fits.true i && (sym c.if-kind_fits.false i && (c.fits2.result && c.fits3.result)))
+    (λ i. sym c.if-id_fits.true i && (sym c.if-kind_fits.false i && (c.fits.result && c.fits-2.result)))
     ∙ head-fits (group_cols (group_of s.groups.now s.b)) c.id_fits.ensures c.kind_fits.ensures
-    (rw c.column.ensures at c.fits2.ensures) (rw c.column-2.ensures at c.fits3.ensures)
+    (rw c.column.ensures at c.fits.ensures) (rw c.column-2.ensures at c.fits-2.ensures)
 
 pub returns-else-id_fits : goal.returns-else-id_fits
 returns-else-id_fits c =

@@ -8,19 +8,6 @@ use Rattle.scene_groups.proofs.Writes.{row_at}
 use borrow.Author.Rules.{rules}
 use Rattle.scene_groups.proofs.writing.plain_rows.Goals as goal
 
--- what the quick test says of a row
-quick : (c : goal.After-plain_bytes-k)
-    → Quick (row_acts c.args.groups.now c.loop-i.i) 13 c.plain_bytes-k.result
-quick c =
-    rw (row_at c.args.groups.now c.loop-i.b c.loop-i.i c.loop-i.invariant.0) at c.plain_bytes-k.ensures
-
-abbrev start : goal.Else-k-eq0 → goal.Start
-start c = c.before.before.before.before.before
-
-turn : (c : goal.Else-k-eq0) → Going (row_acts c.args.groups.now) 13 c.args.count (c.loop-i.i + 1)
-    (c.loop-i.bytes + c.plain_bytes-k.result)
-turn c = let l = c.if-k-eq0.false in going-turn c.loop-i.invariant.1 (quick c.before) c.loop-i-test.true (omega (arith, l))
-
 pub loop-i-init : goal.loop-i-init
 loop-i-init c = (omega arith, going_start _ 13 _)
 
@@ -28,16 +15,28 @@ pub plain_bytes-k-requires : goal.plain_bytes-k-requires
 plain_bytes-k-requires c = omega (arith, c.loop-i.invariant.0, c.loop-i-test.true, c.requires.0)
 
 pub returns-then-k-eq0 : goal.returns-then-k-eq0
-returns-then-k-eq0 c = going-odd c.loop-i.invariant.1 (quick c.before) c.if-k-eq0.true
+returns-then-k-eq0 c =
+    -- what the quick test says of a row
+    let quick : Quick (row_acts c.args.groups.now c.loop-i.i) 13 c.plain_bytes-k.result = rw (row_at c.args.groups.now c.loop-i.b c.loop-i.i c.loop-i.invariant.0) at c.plain_bytes-k.ensures in
+    going-odd c.loop-i.invariant.1 quick c.if-k-eq0.true
 
 pub overflow_add-bytes : goal.overflow_add-bytes
-overflow_add-bytes c = omega (arith, (turn c).few, c.loop-i-test.true, c.requires.1)
+overflow_add-bytes c =
+    -- what the quick test says of a row
+    let quick : Quick (row_acts c.args.groups.now c.loop-i.i) 13 c.plain_bytes-k.result = rw (row_at c.args.groups.now c.loop-i.b c.loop-i.i c.loop-i.invariant.0) at c.plain_bytes-k.ensures in
+    let turn : Going (row_acts c.args.groups.now) 13 c.args.count (c.loop-i.i + 1) (c.loop-i.bytes + c.plain_bytes-k.result) = let l = c.if-k-eq0.false in going-turn c.loop-i.invariant.1 quick c.loop-i-test.true (omega (arith, l)) in
+    omega (arith, turn.few, c.loop-i-test.true, c.requires.1)
 
 pub overflow_add-b : goal.overflow_add-b
-overflow_add-b c = omega (arith, c.loop-i.invariant.0, c.loop-i-test.true, c.requires.1)
+overflow_add-b c =
+    omega (arith, c.loop-i.invariant.0, c.loop-i-test.true, c.requires.1)
 
 pub loop-i-preserved : goal.loop-i-preserved
-loop-i-preserved c = (omega (arith, c.loop-i.invariant.0), turn c)
+loop-i-preserved c =
+    -- what the quick test says of a row
+    let quick : Quick (row_acts c.args.groups.now c.loop-i.i) 13 c.plain_bytes-k.result = rw (row_at c.args.groups.now c.loop-i.b c.loop-i.i c.loop-i.invariant.0) at c.plain_bytes-k.ensures in
+    let turn : Going (row_acts c.args.groups.now) 13 c.args.count (c.loop-i.i + 1) (c.loop-i.bytes + c.plain_bytes-k.result) = let l = c.if-k-eq0.false in going-turn c.loop-i.invariant.1 quick c.loop-i-test.true (omega (arith, l)) in
+    (omega (arith, c.loop-i.invariant.0), turn)
 
 pub returns : goal.returns
 returns c = going_end c.loop-i.invariant.1 c.loop-i-test.false

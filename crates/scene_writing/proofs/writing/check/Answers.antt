@@ -18,7 +18,7 @@ unfolding kind
 returns-then-in_store c =
     let e = sym c.in_store.ensures ∙ c.if-in_store.true in
     more 71345
-    (all-looked kind (scene-acts c.args.m (c.args.groups.now ∷ c.args.switch-groups.now ∷ c.args.members.now ∷ c.args.presets.now ∷ c.args.conditions.now ∷ []) c.args.store.now) e c.check_fields-p.ensures c.payload_run.ensures.0)
+    (all-looked kind (scene-acts c.args.m (c.args.groups.now ∷ c.args.switch_groups.now ∷ c.args.members.now ∷ c.args.presets.now ∷ c.args.conditions.now ∷ []) c.args.store.now) e c.check_fields-p.ensures c.payload_run.ensures.0)
     (omega (arith, c.payload_run.ensures.1))
 
 pub returns-else-in_store : goal.returns-else-in_store

@@ -15,7 +15,7 @@ returns-in_default c =
 
 pub check_groups-requires : goal.check_groups-requires
 check_groups-requires c =
-    let w = all-checked c.count_byte.ensures c.check_all-p1.ensures in let n = rw c.in-At.is at w.near in (rows-there _ _ 27 _ (omega arith) c.requires.0 c.if-s.true, omega (arith, c.well-formed), omega (arith, n, c.requires.1))
+    let w = all-checked c.count_byte.ensures c.check_all-p1.ensures in let n = rw c.in-At.is at w.near in (rows-there _ _ 27 _ (omega arith) c.requires.0 c.if-s.true, omega (arith, c.well_formed), omega (arith, n, c.requires.1))
 
 pub returns-in-At : goal.returns-in-At
 unfolding section_acts

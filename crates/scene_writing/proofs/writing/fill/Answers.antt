@@ -7,21 +7,20 @@ use Rattle.scene_writing.proofs.Writes.{scene-acts}
 use borrow.Author.Rules.{rules}
 use Rattle.scene_writing.proofs.writing.fill.Goals as goal
 
-abbrev lent : goal.Start → Lent
-lent z = z.args.groups.now ∷ z.args.switch-groups.now ∷ z.args.members.now ∷ z.args.presets.now ∷ z.args.conditions.now ∷ []
-
 pub fill_fields-n-requires : goal.fill_fields-n-requires
-fill_fields-n-requires c = let z = c.before.before.before.before.before.before.before.before in fields-ready kind (scene-acts z.args.m (lent z) z.args.store.now) z.requires
+fill_fields-n-requires c =
+    let lent : Lent = c.args.groups.now ∷ c.args.switch_groups.now ∷ c.args.members.now ∷ c.args.presets.now ∷ c.args.conditions.now ∷ [] in
+    fields-ready kind (scene-acts c.args.m lent c.args.store.now) c.requires
 
 pub copy_payload-requires : goal.copy_payload-requires
 unfolding kind
 copy_payload-requires c =
-    let z = c.before.before.before.before.before.before.before.before.before.before.before.before in
-    run-ready kind (scene-acts z.args.m (lent z) z.args.store.now) z.requires c.fill_fields-n.auto.1.1.1.1.1.1.0 c.fill_fields-n.ensures
+    let lent : Lent = c.args.groups.now ∷ c.args.switch_groups.now ∷ c.args.members.now ∷ c.args.presets.now ∷ c.args.conditions.now ∷ [] in
+    run-ready kind (scene-acts c.args.m lent c.args.store.now) c.requires c.fill_fields-n.auto.1.1.1.1.1.1.0 c.fill_fields-n.ensures
 
 pub returns : goal.returns
 unfolding kind
 returns c =
-    let z = c.before.before.before.before.before.before.before.before.before.before.before.before.before.before.before in
-    all-filled kind (scene-acts z.args.m (lent z) z.args.store.now) z.requires c.fill_fields-n.auto.1.1.1.1.1.1.0 c.fill_fields-n.ensures
+    let lent : Lent = c.args.groups.now ∷ c.args.switch_groups.now ∷ c.args.members.now ∷ c.args.presets.now ∷ c.args.conditions.now ∷ [] in
+    all-filled kind (scene-acts c.args.m lent c.args.store.now) c.requires c.fill_fields-n.auto.1.1.1.1.1.1.0 c.fill_fields-n.ensures
     c.copy_payload.ensures

@@ -11,30 +11,23 @@ use Rattle.scene_writing.proofs.Writes.{section-begins}
 use borrow.Author.Rules.{rules}
 use Rattle.scene_writing.proofs.writing.fill_groups_section.Goals as goal
 
-abbrev start : goal.After-fill_all-n1 → goal.Start
-start c = c.before.before.before.before.before.before.before.before
-
-abbrev whole : goal.Start → List Act
-whole c = groups_acts c.args.m (row_acts c.args.groups.now)
-
-behind : (c : goal.After-fill_all-n1)
-    → Filling (whole (start c)) (rows (row_acts c.args.groups.now) 0 c.args.m.groups.count) c.args.n c.args.out.now
-    c.fill_all-n1.result c.fill_all-n1.new.out
-behind c =
-    fill-part _ c.count_byte.ensures (section-begins _ _ _ c.if-s.true c.requires.1) c.fill_all-n1.ensures
-
 pub fill_all-n1-requires : goal.fill_all-n1-requires
 fill_all-n1-requires c =
     ready-part _ c.count_byte.ensures (section-begins _ _ _ c.if-s.true c.requires.1)
 
 pub fill_groups-requires : goal.fill_groups-requires
 fill_groups-requires c =
-    let w = behind c.before.before.before in
+    let whole : List Act = groups_acts c.args.m (row_acts c.args.groups.now) in
+    let behind : Filling whole (rows (row_acts c.args.groups.now) 0 c.args.m.groups.count) c.args.n c.args.out.now c.fill_all-n1.result c.fill_all-n1.new.out = fill-part _ c.count_byte.ensures (section-begins _ _ _ c.if-s.true c.requires.1) c.fill_all-n1.ensures in
+    let w = behind in
     let z = start c.before.before.before in
     (rows-there _ _ 27 _ (omega arith) z.pre.0 c.if-s.true, omega (arith, z.good), w.ready)
 
 pub returns-then-s : goal.returns-then-s
-returns-then-s c = fill-last (behind c.before.before.before.before.before.before) c.fill_groups.ensures
+returns-then-s c =
+    let whole : List Act = groups_acts c.args.m (row_acts c.args.groups.now) in
+    let behind : Filling whole (rows (row_acts c.args.groups.now) 0 c.args.m.groups.count) c.args.n c.args.out.now c.fill_all-n1.result c.fill_all-n1.new.out = fill-part _ c.count_byte.ensures (section-begins _ _ _ c.if-s.true c.requires.1) c.fill_all-n1.ensures in
+    fill-last behind c.fill_groups.ensures
 
 pub returns-else-s : goal.returns-else-s
 unfolding section_acts

@@ -14,18 +14,6 @@ use Rattle.scene_writing.proofs.Writes.{section-begins}
 use borrow.Author.Rules.{rules}
 use Rattle.scene_writing.proofs.writing.fill_presets_section.Goals as goal
 
-abbrev start : goal.After-fill_all-n1 → goal.Start
-start c = c.before.before.before.before.before.before.before.before.before
-
-abbrev row : goal.Start → ℕ → List Act
-row c = family_acts preset 13 condition c.args.presets.now c.args.conditions.now
-
-behind : (c : goal.After-fill_all-n1)
-    → Filling (presets_acts c.args.m (row (start c))) (rows (row (start c)) 0 c.args.m.presets.count) c.args.n c.args.out.now
-    c.fill_all-n1.result c.fill_all-n1.new.out
-behind c =
-    fill-part _ c.count_byte.ensures (section-begins _ _ _ c.if-s.true c.requires.1) c.fill_all-n1.ensures
-
 pub fill_all-n1-requires : goal.fill_all-n1-requires
 fill_all-n1-requires c =
     ready-part _ c.count_byte.ensures
@@ -33,12 +21,17 @@ fill_all-n1-requires c =
 
 pub fill_presets-requires : goal.fill_presets-requires
 fill_presets-requires c =
-    let w = behind c.before.before.before in
+    let row : ℕ → List Act = family_acts preset 13 condition c.args.presets.now c.args.conditions.now in
+    let behind : Filling (presets_acts c.args.m row) (rows row c.args.m.presets.count) c.args.n c.args.out.now c.fill_all-n1.result c.fill_all-n1.new.out = fill-part _ c.count_byte.ensures (section-begins _ _ _ c.if-s.true c.requires.1) c.fill_all-n1.ensures in
+    let w = behind in
     let z = start c.before.before.before in
     (rows-there _ _ 7 _ (omega arith) z.pre.0 c.if-s.true, omega (arith, z.good), w.ready)
 
 pub returns-then-s : goal.returns-then-s
-returns-then-s c = fill-last (behind c.before.before.before.before.before.before) c.fill_presets.ensures
+returns-then-s c =
+    let row : ℕ → List Act = family_acts preset 13 condition c.args.presets.now c.args.conditions.now in
+    let behind : Filling (presets_acts c.args.m row) (rows row c.args.m.presets.count) c.args.n c.args.out.now c.fill_all-n1.result c.fill_all-n1.new.out = fill-part _ c.count_byte.ensures (section-begins _ _ _ c.if-s.true c.requires.1) c.fill_all-n1.ensures in
+    fill-last behind c.fill_presets.ensures
 
 pub returns-else-s : goal.returns-else-s
 unfolding section_acts

@@ -13,18 +13,6 @@ use Rattle.scene_writing.proofs.Writes.{section-begins}
 use borrow.Author.Rules.{rules}
 use Rattle.scene_writing.proofs.writing.fill_switch_groups_section.Goals as goal
 
-abbrev start : goal.After-fill_all-n1 → goal.Start
-start c = c.before.before.before.before.before.before.before.before.before
-
-abbrev row : goal.Start → ℕ → List Act
-row c = family_acts switch_group 2 member c.args.switch-groups.now c.args.members.now
-
-behind : (c : goal.After-fill_all-n1)
-    → Filling (switch_groups_acts c.args.m (row (start c))) (rows (row (start c)) 0 c.args.m.switch_groups.count) c.args.n
-    c.args.out.now c.fill_all-n1.result c.fill_all-n1.new.out
-behind c =
-    fill-part _ c.count_byte.ensures (section-begins _ _ _ c.if-s.true c.requires.1) c.fill_all-n1.ensures
-
 pub fill_all-n1-requires : goal.fill_all-n1-requires
 fill_all-n1-requires c =
     ready-part _ c.count_byte.ensures
@@ -32,12 +20,17 @@ fill_all-n1-requires c =
 
 pub fill_switch_groups-requires : goal.fill_switch_groups-requires
 fill_switch_groups-requires c =
-    let w = behind c.before.before.before in
+    let row : ℕ → List Act = family_acts switch_group 2 member c.args.switch_groups.now c.args.members.now in
+    let behind : Filling (switch_groups_acts c.args.m row) (rows row c.args.m.switch_groups.count) c.args.n c.args.out.now c.fill_all-n1.result c.fill_all-n1.new.out = fill-part _ c.count_byte.ensures (section-begins _ _ _ c.if-s.true c.requires.1) c.fill_all-n1.ensures in
+    let w = behind in
     let z = start c.before.before.before in
     (rows-there _ _ 9 _ (omega arith) z.pre.0 c.if-s.true, omega (arith, z.good), w.ready)
 
 pub returns-then-s : goal.returns-then-s
-returns-then-s c = fill-last (behind c.before.before.before.before.before.before) c.fill_switch_groups.ensures
+returns-then-s c =
+    let row : ℕ → List Act = family_acts switch_group 2 member c.args.switch_groups.now c.args.members.now in
+    let behind : Filling (switch_groups_acts c.args.m row) (rows row c.args.m.switch_groups.count) c.args.n c.args.out.now c.fill_all-n1.result c.fill_all-n1.new.out = fill-part _ c.count_byte.ensures (section-begins _ _ _ c.if-s.true c.requires.1) c.fill_all-n1.ensures in
+    fill-last behind c.fill_switch_groups.ensures
 
 pub returns-else-s : goal.returns-else-s
 unfolding section_acts

@@ -12,4 +12,4 @@ check_all-requires c =
 
 pub returns : goal.returns
 returns c =
-    scope-checked c.args.types.now c.args.reserved-type c.args.scope c.agrees.ensures c.demand-p0.ensures c.type_byte-kind.ensures c.id_byte-id.ensures c.fits_all.ensures c.demand-p1.ensures c.check_all-p2.ensures c.has_id.ensures c.check_all.ensures
+    scope-checked c.args.types.now c.args.reserved_type c.args.scope c.agrees.ensures c.demand-p0.ensures c.type_byte-kind.ensures c.id_byte-id.ensures c.fits_all.ensures c.demand-p1.ensures c.check_all-p2.ensures c.has_id.ensures c.check_all.ensures

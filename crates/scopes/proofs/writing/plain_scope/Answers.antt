@@ -11,34 +11,31 @@ use Rattle.scopes.proofs.Written.{scope-plain, scope-odd, unknown-odd}
 use borrow.Author.Rules.{rules}
 use Rattle.scopes.proofs.writing.plain_scope.Goals as goal
 
-type-fits : (c : goal.Else-not-fits) → ltb c.args.reserved-type (2 ^ 6) ≡ true
-type-fits c = sym c.fits2.ensures ∙ not-false _ c.if-not-fits.false
-
 pub returns-then-not-fits : goal.returns-then-not-fits
 returns-then-not-fits c =
     let a = c.args in
-    scope-odd a.types.now a.reserved-type {s = a.scope} refl (λ z. no-quick (sym c.fits2.ensures ∙ not-true _ c.if-not-fits.true) z.type)
+    scope-odd a.types.now a.reserved-type {s = a.scope} refl (λ z. no-quick (sym c.fits.ensures ∙ not-true _ c.if-not-fits.true) z.type)
 
 pub returns-then-case_of-eq0 : goal.returns-then-case_of-eq0
 unfolding fit
 returns-then-case_of-eq0 c =
-    let o = c.before.before.before.before.before in
-    let a = o.args in
+    let type-fits : ltb c.args.reserved_type (2 ^ 6) ≡ true = sym c.fits.ensures ∙ not-false _ c.if-not-fits.false in
+    let a = c.args in
     scope-plain a.types.now a.reserved-type c.in-Plain.is
-    (record { type = type-fits o; id = refl; kind = sym c.fits3.ensures ∙ c.if-fits.true; case = ap (eqb 0) (sym c.case_of.ensures) ∙ c.if-case_of-eq0.true }) refl
+    (record { type = type-fits; id = refl; kind = sym c.fits-in-Plain.ensures ∙ c.if-fits.true; case = ap (eqb 0) (sym c.case_of.ensures) ∙ c.if-case_of-eq0.true }) refl
 
 pub returns-else-fits : goal.returns-else-fits
 returns-else-fits c =
     let a = c.args in
     scope-odd a.types.now a.reserved-type c.in-Plain.is
-    (λ z. ⊎_elim (λ w. no-quick (ap (eqb 0) (sym w.1.ensures) ∙ w.2.left) z.case) (λ w. no-quick (sym c.fits3.ensures ∙ w.left) z.kind) c.else-fits.branch)
+    (λ z. ⊎_elim (λ w. no-quick (ap (eqb 0) (sym w.1.ensures) ∙ w.2.left) z.case) (λ w. no-quick (sym c.fits-in-Plain.ensures ∙ w.left) z.kind) c.else-fits.branch)
 
 pub returns-then-case_of-eq1 : goal.returns-then-case_of-eq1
 returns-then-case_of-eq1 c =
-    let o = c.before.before.before.before.before.before.before in
-    let a = o.args in
+    let type-fits : ltb c.args.reserved_type (2 ^ 6) ≡ true = sym c.fits.ensures ∙ not-false _ c.if-not-fits.false in
+    let a = c.args in
     scope-plain a.types.now a.reserved-type c.in-Group.is
-    (record { type = type-fits o; id = sym c.two_fit.ensures ∙ c.if-two_fit.true; kind = sym c.fits4.ensures ∙ c.if-fits-2.true; case = ap (eqb 1) (sym c.case_of-then-fits-2.ensures) ∙ c.if-case_of-eq1.true }) refl
+    (record { type = type-fits; id = sym c.two_fit.ensures ∙ c.if-two_fit.true; kind = sym c.fits-then-two_fit.ensures ∙ c.if-fits-2.true; case = ap (eqb 1) (sym c.case_of-then-fits-2.ensures) ∙ c.if-case_of-eq1.true }) refl
 
 pub returns-else-two_fit : goal.returns-else-two_fit
 returns-else-two_fit c =
@@ -49,10 +46,10 @@ returns-else-two_fit c =
 
 pub returns-then-case_of-eq2 : goal.returns-then-case_of-eq2
 returns-then-case_of-eq2 c =
-    let o = c.before.before.before.before.before in
-    let a = o.args in
+    let type-fits : ltb c.args.reserved_type (2 ^ 6) ≡ true = sym c.fits.ensures ∙ not-false _ c.if-not-fits.false in
+    let a = c.args in
     scope-plain a.types.now a.reserved-type c.in-Preset.is
-    (record { type = type-fits o; id = sym c.two_fit-in-Preset.ensures ∙ c.if-two_fit-2.true; kind = refl; case = ap (eqb 2) (sym c.case_of-then-two_fit-2.ensures) ∙ c.if-case_of-eq2.true }) refl
+    (record { type = type-fits; id = sym c.two_fit-in-Preset.ensures ∙ c.if-two_fit-2.true; kind = refl; case = ap (eqb 2) (sym c.case_of-then-two_fit-2.ensures) ∙ c.if-case_of-eq2.true }) refl
 
 pub returns-else-two_fit-2 : goal.returns-else-two_fit-2
 returns-else-two_fit-2 c =

@@ -5,25 +5,23 @@ use Rattle.stream_groups.proofs.Taken.{first-there, second-there, main-done, out
 use borrow.Author.Rules.{rules}
 use Rattle.stream_groups.proofs.parsing.group_at.Goals as goal
 
-whole : (c : goal.Start) → Whole 5 group c.args.body.now c.args.at
-whole c = flat-done 5 group _ _ c.requires.0 c.requires.1
-
-abbrev start : goal.After-part-2 → goal.Start
-start c = c.before.before.before.before.before
-
 pub bounds-body-at : goal.bounds-body-at
-bounds-body-at c = first-there (whole c.before.before)
+bounds-body-at c =
+    let whole : Whole 5 group c.args.body.now c.args.at = flat-done 5 group _ _ c.requires.0 c.requires.1 in
+    first-there whole
 
 pub returns-then-part-eq1 : goal.returns-then-part-eq1
 returns-then-part-eq1 c =
-    let p = c.before.before in
-    rw (c.in_main_stream.ensures, p.part.ensures) (main-done (whole (start p)) p.wide-e.ensures p.part-2.ensures c.if-part-eq1.true)
+    let whole : Whole 5 group c.args.body.now c.args.at = flat-done 5 group _ _ c.requires.0 c.requires.1 in
+    rw (c.in_main_stream.ensures, c.part.ensures) (main-done whole c.wide-e.ensures c.part-2.ensures c.if-part-eq1.true)
 
 pub bounds-body-at-2 : goal.bounds-body-at-2
-bounds-body-at-2 c = let p = c.before.before in second-there (whole (start p)) p.wide-e.ensures p.part-2.ensures c.if-part-eq1.false
+bounds-body-at-2 c =
+    let whole : Whole 5 group c.args.body.now c.args.at = flat-done 5 group _ _ c.requires.0 c.requires.1 in
+    second-there whole c.wide-e.ensures c.part-2.ensures c.if-part-eq1.false
 
 pub returns : goal.returns
 returns c =
-    let p = c.before.before.before.before.before.before in
-    let d = outside-done (whole (start p)) p.wide-e.ensures p.part-2.ensures c.if-part-eq1.false c.wide-x.ensures in
-    rw (c.in_auxiliary_stream.ensures, p.part.ensures, c.part-3.ensures, c.part-4.ensures) d
+    let whole : Whole 5 group c.args.body.now c.args.at = flat-done 5 group _ _ c.requires.0 c.requires.1 in
+    let d = outside-done whole c.wide-e.ensures c.part-2.ensures c.if-part-eq1.false c.wide-x.ensures in
+    rw (c.in_auxiliary_stream.ensures, c.part.ensures, c.part-3.ensures, c.part-4.ensures) d

@@ -7,18 +7,14 @@ use Rattle.stream_groups.proofs.Taken.{group-cut, group-behind, group-main, grou
 use borrow.Author.Rules.{rules}
 use Rattle.stream_groups.proofs.parsing.group_end.Goals as goal
 
-abbrev start : goal.In-Got → goal.Start
-start c = c.before.before.before
-
--- behind the first byte
-after-1 : (c : goal.In-Got) → Behind c.args.body.now c.args.at c.in-Got.next
-after-1 c = group-behind _ _ c.byte_at-a.ensures.is c.requires (ap byte_out c.in-Got.is)
-
 pub returns-in_default : goal.returns-in_default
 returns-in_default c = group-cut _ _ c.byte_at-a.ensures.is (ap byte_out c.in_default.is) c.short.ensures
 
 pub head-requires : goal.head-requires
-head-requires c = ((after-1 c.before.before).inside, omega arith)
+head-requires c =
+    -- behind the first byte
+    let after-1 : Behind c.args.body.now c.args.at c.in-Got.next = group-behind _ _ c.byte_at-a.ensures.is c.requires (ap byte_out c.in-Got.is) in
+    (after-1.inside, omega arith)
 
 pub returns-then-part-eq0 : goal.returns-then-part-eq0
 returns-then-part-eq0 c =

@@ -6,23 +6,6 @@ use Rattle.stream_groups.proofs.Taken.{Sparing, spare-turn}
 use borrow.Author.Rules.{rules}
 use Rattle.stream_groups.proofs.parsing.quick_groups.Goals as goal
 
-abbrev top : goal.Joined-part-eq0 → goal.At-loop-left
-top c = c.before.before.before.before.before
-
-abbrev start : goal.Joined-part-eq0 → goal.Start
-start c = c.before.before.before.before.before.before.before
-
--- the next turn, behind the second byte or without one
-passed : (c : goal.Joined-part-eq0)
-    → Sparing c.args.body.now c.args.at c.args.count c.if-part-eq0.spare (c.if-part-eq0.pos + 1) (c.loop-left.left - 1)
-passed c =
-    let i = c.loop-left.invariant in
-    let t = c.loop-left-test.true in
-    let e = c.wide.ensures in
-    let q = c.part.ensures in
-    ⊎_elim (λ w. spare-turn i t e q 1 (omega arith) (omega arith) w.2 w.3)
-    (λ w. spare-turn i t e q 0 (omega arith) (omega arith) (omega arith) (omega arith)) c.if-part-eq0.branch
-
 pub loop-left-init : goal.loop-left-init
 loop-left-init c = record { measures = record { inside = omega arith; same = refl }; room = omega arith }
 
@@ -35,10 +18,26 @@ returns-then-spare-eq0 c =
     (i.measures.same, i.measures.inside)
 
 pub overflow_add-pos-in-loop-left : goal.overflow_add-pos-in-loop-left
-overflow_add-pos-in-loop-left c = omega (arith, (passed c.before).room)
+overflow_add-pos-in-loop-left c =
+    -- the next turn, behind the second byte or without one
+    let passed : Sparing c.args.body.now c.args.at c.args.count c.if-part-eq0.spare (c.if-part-eq0.pos + 1) (c.loop-left.left - 1) = let i = c.loop-left.invariant in
+    let t = c.loop-left-test.true in
+    let e = c.wide.ensures in
+    let q = c.part.ensures in
+    ⊎_elim (λ w. spare-turn i t e q 1 (omega arith) (omega arith) w.2 w.3)
+    (λ w. spare-turn i t e q 0 (omega arith) (omega arith) (omega arith) (omega arith)) c.if-part-eq0.branch in
+    omega (arith, passed.room)
 
 pub loop-left-preserved : goal.loop-left-preserved
-loop-left-preserved c = passed c.before
+loop-left-preserved c =
+    -- the next turn, behind the second byte or without one
+    let passed : Sparing c.args.body.now c.args.at c.args.count c.if-part-eq0.spare (c.if-part-eq0.pos + 1) (c.loop-left.left - 1) = let i = c.loop-left.invariant in
+    let t = c.loop-left-test.true in
+    let e = c.wide.ensures in
+    let q = c.part.ensures in
+    ⊎_elim (λ w. spare-turn i t e q 1 (omega arith) (omega arith) w.2 w.3)
+    (λ w. spare-turn i t e q 0 (omega arith) (omega arith) (omega arith) (omega arith)) c.if-part-eq0.branch in
+    passed
 
 pub returns : goal.returns
 returns c = let i = c.loop-left.invariant in (i.measures.same, i.measures.inside)

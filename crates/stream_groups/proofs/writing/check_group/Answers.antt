@@ -16,24 +16,22 @@ use Rattle.stream_groups.proofs.Writes.{group-acts}
 use borrow.Author.Rules.{rules}
 use Rattle.stream_groups.proofs.writing.check_group.Goals as goal
 
-abbrev first : goal.After-check_all-p2 → goal.Start
-first c = c.before.before.before.before.before.before.before
-
 -- all but the location
 abbrev head_acts : MultiStreamGroup → List Act
 head_acts g = demand F.Field (flags_of (group_cols g)) ∷ demand F.Empty true ∷ demand F.Auxiliary (placed_once (group_cols g)) ∷ byte (group_byte g) ∷ []
 
-step-1 : (c : goal.After-check_all-p2) → Checked (head_acts c.args.g) 1 (At c.args.n) c.check_all-p2.result
-step-1 c =
-    let d = rw c.flags_hold.ensures at c.demand-p0.ensures in
-    let a = rw c.placed_once.ensures at c.demand-p1.ensures in
-    then d (then (met F.Empty _) (then a (all-checked (more c.group_byte.ensures none) c.check_all-p2.ensures)))
-
 pub check_all-requires : goal.check_all-requires
-check_all-requires c = let p = c.before.before.before in (omega (arith, (step-1 p).near, p.requires), search rules)
+check_all-requires c =
+    let step-1 : Checked (head_acts c.args.g) 1 (At c.args.n) c.check_all-p2.result = let d = rw c.flags_hold.ensures at c.demand-p0.ensures in
+    let a = rw c.placed_once.ensures at c.demand-p1.ensures in
+    then d (then (met F.Empty _) (then a (all-checked (more c.group_byte.ensures none) c.check_all-p2.ensures))) in
+    let p = c.before.before.before in (omega (arith, step-1.near, p.requires), search rules)
 
 pub returns : goal.returns
 returns c =
+    let step-1 : Checked (head_acts c.args.g) 1 (At c.args.n) c.check_all-p2.result = let d = rw c.flags_hold.ensures at c.demand-p0.ensures in
+    let a = rw c.placed_once.ensures at c.demand-p1.ensures in
+    then d (then (met F.Empty _) (then a (all-checked (more c.group_byte.ensures none) c.check_all-p2.ensures))) in
     let p = c.before.before.before.before in
     let l = all-checked (more c.location_byte.ensures none) c.check_all.ensures in
-    rw (group-acts (group_cols p.args.g), append-nil) (then (step-1 p) l)
+    rw (group-acts (group_cols p.args.g), append-nil) (then step-1 l)

@@ -12,31 +12,25 @@ use Rattle.stream_groups.proofs.Writes.{group-acts, plain_acts, location_acts}
 use borrow.Author.Rules.{rules}
 use Rattle.stream_groups.proofs.writing.fill_group.Goals as goal
 
--- each fill, and the place before it
-abbrev first : goal.After-fill_all-n1 → goal.Start
-first c = c.before.before.before.before.before
-
-abbrev second : goal.After-fill_location → goal.After-fill_all-n1
-second c = c.before.before.before.before
-
-abbrev Left : goal.Start → List Act → ℕ → List ℕ → Type 0
-Left c left n out = Filling (plain_acts (group_cols c.args.g)) left c.args.n c.args.out.now n out
-
-begin : (c : goal.Start) → Left c (map byte (group_byte c.args.g ∷ []) ++ location_acts (group_cols c.args.g)) c.args.n c.args.out.now
-begin c = fill-demand (fill-demand (fill-demand (fill_start (rw (group-acts (group_cols c.args.g)) at c.requires))))
-
-step-1 : (c : goal.After-fill_all-n1) → Left (first c) (location_acts (group_cols c.args.g)) c.fill_all-n1.result c.fill_all-n1.new.out
-step-1 c = fill-part _ (more c.group_byte.ensures none) (begin (first c)) c.fill_all-n1.ensures
-
 pub fill_all-n1-requires : goal.fill_all-n1-requires
-fill_all-n1-requires c = ready-part _ (more c.group_byte.ensures none) (begin c.before.before.before.before)
+fill_all-n1-requires c =
+    let Left : List Act → ℕ → List ℕ → Type 0 = λ left. λ n. λ out. Filling (plain_acts (group_cols c.args.g)) left c.args.n c.args.out.now n out in
+    let begin : Left (map byte (group_byte c.args.g ∷ []) ++ location_acts (group_cols c.args.g)) c.args.n c.args.out.now = fill-demand (fill-demand (fill-demand (fill_start (rw (group-acts (group_cols c.args.g)) at c.requires)))) in
+    ready-part _ (more c.group_byte.ensures none) begin
 
 pub fill_location-requires : goal.fill_location-requires
-fill_location-requires c = let d = c.before.before.before in fill-row (location_part d.args.g.auxiliary) [] (step-1 d) refl
+fill_location-requires c =
+    let Left : List Act → ℕ → List ℕ → Type 0 = λ left. λ n. λ out. Filling (plain_acts (group_cols c.args.g)) left c.args.n c.args.out.now n out in
+    let begin : Left (map byte (group_byte c.args.g ∷ []) ++ location_acts (group_cols c.args.g)) c.args.n c.args.out.now = fill-demand (fill-demand (fill-demand (fill_start (rw (group-acts (group_cols c.args.g)) at c.requires)))) in
+    let step-1 : Left (location_acts (group_cols c.args.g)) c.fill_all-n1.result c.fill_all-n1.new.out = fill-part _ (more c.group_byte.ensures none) begin c.fill_all-n1.ensures in
+    let d = c.before.before.before in fill-row (location_part d.args.g.auxiliary) [] step-1 refl
 
 pub returns : goal.returns
 returns c =
+    let Left : List Act → ℕ → List ℕ → Type 0 = λ left. λ n. λ out. Filling (plain_acts (group_cols c.args.g)) left c.args.n c.args.out.now n out in
+    let begin : Left (map byte (group_byte c.args.g ∷ []) ++ location_acts (group_cols c.args.g)) c.args.n c.args.out.now = fill-demand (fill-demand (fill-demand (fill_start (rw (group-acts (group_cols c.args.g)) at c.requires)))) in
+    let step-1 : Left (location_acts (group_cols c.args.g)) c.fill_all-n1.result c.fill_all-n1.new.out = fill-part _ (more c.group_byte.ensures none) begin c.fill_all-n1.ensures in
     let d = c.before.before in
     let w = d.fill_location.ensures in
     let s = (first (second d)).args.g in
-    rw (group-acts (group_cols s)) (fill_end (fill-turn (step-1 (second d)) refl (filled-long w) w) refl)
+    rw (group-acts (group_cols s)) (fill_end (fill-turn step-1 (filled-long w) w) refl)

@@ -9,18 +9,15 @@ use Rattle.stream_groups.specs.Write.{location_byte}
 use borrow.Author.Rules.{rules}
 use Rattle.stream_groups.proofs.writing.fill_location.Goals as goal
 
-abbrev start : goal.Then-a-eq1 → goal.Start
-start c = c.before.before.before
-
-ready : (c : goal.Then-a-eq1) → Ready (byte (location_byte c.args.a) ∷ []) c.args.n c.args.out.now
-ready c = rw (eq-eqb _ 1 c.if-a-eq1.true) at c.requires
-
 pub fill_all-requires : goal.fill_all-requires
-fill_all-requires c = record { fss = _; spelt = more c.location_byte.ensures none; ready = ready c.before.before.before }
+fill_all-requires c =
+    let ready : Ready (byte (location_byte c.args.a) ∷ []) c.args.n c.args.out.now = rw (eq-eqb _ 1 c.if-a-eq1.true) at c.requires in
+    record { fss = _; spelt = more c.location_byte.ensures none; ready = ready }
 
 pub returns-then-a-eq1 : goal.returns-then-a-eq1
 returns-then-a-eq1 c =
-    let w = c.fill_all.ensures.of _ (more c.location_byte.ensures none) (ready c.before.before.before.before.before.before).sound in
+    let ready : Ready (byte (location_byte c.args.a) ∷ []) c.args.n c.args.out.now = rw (eq-eqb _ 1 c.if-a-eq1.true) at c.requires in
+    let w = c.fill_all.ensures.of _ (more c.location_byte.ensures none) ready.sound in
     rw (eq-eqb _ 1 c.if-a-eq1.true) w
 
 pub returns-else-a-eq1 : goal.returns-else-a-eq1

@@ -10,11 +10,8 @@ use Rattle.stream_groups.specs.declared.rows.Auxiliary.{Auxiliary}
 use borrow.Author.Rules.{rules}
 use Rattle.stream_groups.proofs.writing.flags_hold.Goals as goal
 
-abbrev part : goal.Joined-a-eq1 → Auxiliary
-part c = c.args.g.auxiliary
-
-location-so : (c : goal.Joined-a-eq1) → c.if-a-eq1.location ≡ pick (eqb (part c).present 1) (is_flag (part c).location.is_in_ts) true
-location-so c = ⊎_elim (λ w. w.2 ∙ w.1.ensures ∙ ap said (sym (eq-eqb _ 1 w.0.taken))) (λ w. w.1 ∙ ap said (sym (ne_eqb _ 1 w.0.left))) c.if-a-eq1.branch
+location-so : (c : goal.Joined-a-eq1) → c.if1.location ≡ pick (eqb (part c).present 1) (is_flag (part c).location.is_in_ts) true
+location-so c = ⊎_elim (λ w. w.2 ∙ w.1.ensures ∙ ap said (sym (eq-eqb _ 1 w.0.taken))) (λ w. w.1 ∙ ap said (sym (ne_eqb _ 1 w.0.left))) c.if1.branch
   where
     said : Bool → Bool
     said b = pick b (is_flag (part c).location.is_in_ts) true

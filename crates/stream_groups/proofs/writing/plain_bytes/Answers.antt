@@ -8,35 +8,32 @@ use Rattle.stream_groups.proofs.Writes.{plain-main, plain-located, odd-id, odd-f
 use borrow.Author.Rules.{rules}
 use Rattle.stream_groups.proofs.writing.plain_bytes.Goals as goal
 
-abbrev cols : goal.Start → Columns
-cols c = group_cols (group_of c.args.groups.now c.args.b)
-
--- the entry, from where the two flags are known, and this place from where the location is
-abbrev start : goal.After-pair-flags → goal.Start
-start c = c.before.before.before.before.before.before
-
-abbrev paired : goal.After-two_fit → goal.After-pair-flags
-paired c = c.before.before.before.before.before
-
-small : (c : goal.After-pair-flags) → cols (start c) 1 < 65536
-small c = let l = c.shared_slice_known-1.given (c.args.b + 1) in omega arith
-
 pub returns-then-groups-b-ge128 : goal.returns-then-groups-b-ge128
-returns-then-groups-b-ge128 c = odd-id (cols c.before.before.before) c.if-groups-b-ge128.true
+returns-then-groups-b-ge128 c =
+    let cols : Columns = group_cols (group_of c.args.groups.now c.args.b) in
+    odd-id cols c.if-groups-b-ge128.true
 
 pub returns-then-flags-eq1 : goal.returns-then-flags-eq1
-returns-then-flags-eq1 c = let p = c.before in plain-main (cols (start p)) p.pair-flags.ensures p.if-groups-b-ge128.false c.if-flags-eq1.true
+returns-then-flags-eq1 c =
+    let cols : Columns = group_cols (group_of c.args.groups.now c.args.b) in
+    plain-main cols c.pair-flags.ensures c.if-groups-b-ge128.false c.if-flags-eq1.true
 
 pub returns-then-two_fit : goal.returns-then-two_fit
 returns-then-two_fit c =
+    let cols : Columns = group_cols (group_of c.args.groups.now c.args.b) in
+    let small : cols 1 < 65536 = let l = c.type_inv.groups (c.args.b + 1) in omega arith in
     let p = paired c.before in
-    plain-located (cols (start p)) p.pair.ensures (small p) c.if-flags-eq65536.true p.before.before.before.if1.left
+    plain-located cols p.pair.ensures small c.if-flags-eq65536.true p.before.before.before.if1.left
     (sym c.two_fit.ensures ∙ c.if-two_fit.true)
 
 pub returns-else-two_fit : goal.returns-else-two_fit
 returns-else-two_fit c =
+    let cols : Columns = group_cols (group_of c.args.groups.now c.args.b) in
+    let small : cols 1 < 65536 = let l = c.type_inv.groups (c.args.b + 1) in omega arith in
     let p = paired c.before in
-    odd-location (cols (start p)) p.pair.ensures (small p) c.if-flags-eq65536.true (sym c.two_fit.ensures ∙ c.if-two_fit.false)
+    odd-location cols p.pair.ensures small c.if-flags-eq65536.true (sym c.two_fit.ensures ∙ c.if-two_fit.false)
 
 pub returns-else-flags-eq65536 : goal.returns-else-flags-eq65536
-returns-else-flags-eq65536 c = let p = c.before.before in odd-flags (cols (start p)) p.pair-flags.ensures c.if-flags-eq1.false c.if-flags-eq65536.false
+returns-else-flags-eq65536 c =
+    let cols : Columns = group_cols (group_of c.args.groups.now c.args.b) in
+    odd-flags cols c.pair-flags.ensures c.if-flags-eq1.false c.if-flags-eq65536.false

@@ -18,7 +18,7 @@ fill_switch_group-p-requires c =
 pub overflow_add-to : goal.overflow_add-to
 overflow_add-to c =
     let i = c.loop-left.invariant in
-    omega (arith, i.place, c.loop-left-test.true, c.requires.1, c.well-formed)
+    omega (arith, i.place, c.loop-left-test.true, c.requires.1, c.well_formed)
 
 pub loop-left-preserved : goal.loop-left-preserved
 loop-left-preserved c =

@@ -12,36 +12,44 @@ use Rattle.switch_groups.proofs.Writes.{front, front-behind, front-near, front-s
 use borrow.Author.Rules.{rules}
 use Rattle.switch_groups.proofs.writing.check_switch_group.Goals as goal
 
-abbrev start : goal.After-check_all-p3 → goal.Start
-start c = c.before.before.before.before.before.before.before.before.before.before.before
-
--- before the members
-before-all : (c : goal.After-check_all-p3)
-    → Checked (front_acts switch_group (length c.args.members.now / 2) (switch_group_cols c.args.g)) 2 (At c.args.n) c.check_all-p3.result
-before-all c =
-    front c.args.members.now c.args.g c.in_table-inside.ensures
-    (λ i. c.is_flag.ensures i && c.is_flag-2.ensures i)
-    c.demand-p0.ensures c.demand-p1.ensures
-    c.demand-p2.ensures c.head_bytes.ensures c.check_all-p3.ensures
-
 pub returns-in_default : goal.returns-in_default
 returns-in_default c =
+    -- before the members
+    let before-all : Checked (front_acts switch_group (length c.args.members.now / 2) (switch_group_cols c.args.g)) 2 (At c.args.n) c.check_all-p3.result = front c.args.members.now c.args.g c.in_table-inside.ensures
+    (λ i. c.is_flag.ensures i && c.is_flag-2.ensures i)
+    c.demand-p0.ensures c.demand-p1.ensures
+    c.demand-p2.ensures c.head_bytes.ensures c.check_all-p3.ensures in
     front-stopped c.args.members.now
-    c.args.g (before-all c.before)
+    c.args.g before-all
     c.in_default.is
 
 pub check_pairs-p4-requires : goal.check_pairs-p4-requires
 check_pairs-p4-requires c =
-    ((front-behind c.args.members.now c.args.g (before-all c.before) c.in-At.is).inside, omega (arith, front-near c.args.members.now c.args.g (before-all c.before) c.in-At.is))
+    -- before the members
+    let before-all : Checked (front_acts switch_group (length c.args.members.now / 2) (switch_group_cols c.args.g)) 2 (At c.args.n) c.check_all-p3.result = front c.args.members.now c.args.g c.in_table-inside.ensures
+    (λ i. c.is_flag.ensures i && c.is_flag-2.ensures i)
+    c.demand-p0.ensures c.demand-p1.ensures
+    c.demand-p2.ensures c.head_bytes.ensures c.check_all-p3.ensures in
+    ((front-behind c.args.members.now c.args.g before-all c.in-At.is).inside, omega (arith, front-near c.args.members.now c.args.g before-all c.in-At.is))
 
 pub check_all-requires : goal.check_all-requires
 check_all-requires c =
-    let h = (front-behind c.args.members.now c.args.g (before-all c.before.before.before.before) c.in-At.is).few in (omega (arith, h, c.check_pairs-p4.ensures.near, front-near c.args.members.now c.args.g (before-all c.before.before.before.before) c.in-At.is), omega arith)
+    -- before the members
+    let before-all : Checked (front_acts switch_group (length c.args.members.now / 2) (switch_group_cols c.args.g)) 2 (At c.args.n) c.check_all-p3.result = front c.args.members.now c.args.g c.in_table-inside.ensures
+    (λ i. c.is_flag.ensures i && c.is_flag-2.ensures i)
+    c.demand-p0.ensures c.demand-p1.ensures
+    c.demand-p2.ensures c.head_bytes.ensures c.check_all-p3.ensures in
+    let h = (front-behind c.args.members.now c.args.g before-all c.in-At.is).few in (omega (arith, h, c.check_pairs-p4.ensures.near, front-near c.args.members.now c.args.g before-all c.in-At.is), omega arith)
 
 pub returns : goal.returns
 returns c =
+    -- before the members
+    let before-all : Checked (front_acts switch_group (length c.args.members.now / 2) (switch_group_cols c.args.g)) 2 (At c.args.n) c.check_all-p3.result = front c.args.members.now c.args.g c.in_table-inside.ensures
+    (λ i. c.is_flag.ensures i && c.is_flag-2.ensures i)
+    c.demand-p0.ensures c.demand-p1.ensures
+    c.demand-p2.ensures c.head_bytes.ensures c.check_all-p3.ensures in
     row-checked
     c.args.members.now
     c.args.g
-    (before-all c.before.before.before.before.before) c.in-At.is
+    before-all c.in-At.is
     c.check_pairs-p4.ensures c.default_bytes.ensures c.check_all.ensures

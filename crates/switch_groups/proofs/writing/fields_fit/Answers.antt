@@ -8,28 +8,30 @@ use Rattle.switch_groups.proofs.Writes.{id_fits, default_fits, fields-so}
 use borrow.Author.Rules.{rules}
 use Rattle.switch_groups.proofs.writing.fields_fit.Goals as goal
 
--- where the tests meet: the first two, and the first three
-first_two : (c : goal.Joined-four_fit) → c.if-four_fit.if2 ≡ id_fits c.args.g && ltb c.args.g.reserved_members (2 ^ 3)
-first_two c =
-    let g = c.args.g in
-    let e = c.four_fit.ensures in
-    ⊎_elim (λ w. w.2 ∙ w.1.ensures ∙ ap (λ (x : Bool). x && ltb g.reserved_members (2 ^ 3)) (sym w.0.taken ∙ e))
-    (λ w. w.1 ∙ w.0.left ∙ ap (λ (x : Bool). x && ltb g.reserved_members (2 ^ 3)) (sym w.0.left ∙ e)) c.if-four_fit.branch
-
-first_three : (c : goal.Joined-fits) → let g = c.args.g in c.if-fits.if3 ≡ (id_fits g && ltb g.reserved_members (2 ^ 3)) && leb g.members.count 32
-first_three c =
-    let g = c.args.g in
-    let e = first_two c.before in
-    ⊎_elim (λ w. w.2 ∙ ap (λ (x : Bool). x && leb g.members.count 32) (sym w.0.taken ∙ e))
-    (λ w. w.1 ∙ w.0.left ∙ ap (λ (x : Bool). x && leb g.members.count 32) (sym w.0.left ∙ e)) c.if-fits.branch
-
 pub returns-then-g-le32 : goal.returns-then-g-le32
 returns-then-g-le32 c =
-    let z = c.before.before in
-    let g = z.args.g in
-    c.two_fit.ensures ∙ ap (λ (x : Bool). x && default_fits g) (sym c.if-g-le32.true ∙ first_three z) ∙ fields-so g
+    -- where the tests meet: the first two, and the first three
+    let first_two : c.if-four_fit.if2 ≡ id_fits c.args.g && ltb c.args.g.reserved_members (2 ^ 3) = let g = c.args.g in
+    let e = c.four_fit.ensures in
+    ⊎_elim (λ w. w.2 ∙ w.1.ensures ∙ ap (λ (x : Bool). x && ltb g.reserved_members (2 ^ 3)) (sym w.0.taken ∙ e))
+    (λ w. w.1 ∙ w.0.left ∙ ap (λ (x : Bool). x && ltb g.reserved_members (2 ^ 3)) (sym w.0.left ∙ e)) c.if-four_fit.branch in
+    let first_three : let g = c.args.g in c.if-fits.if3 ≡ (id_fits g && ltb g.reserved_members (2 ^ 3)) && leb g.members.count 32 = let g = c.args.g in
+    let e = first_two in
+    ⊎_elim (λ w. w.2 ∙ ap (λ (x : Bool). x && leb g.members.count 32) (sym w.0.taken ∙ e))
+    (λ w. w.1 ∙ w.0.left ∙ ap (λ (x : Bool). x && leb g.members.count 32) (sym w.0.left ∙ e)) c.if-fits.branch in
+    let g = c.args.g in
+    c.two_fit.ensures ∙ ap (λ (x : Bool). x && default_fits g) (sym c.if-g-le32.true ∙ first_three) ∙ fields-so g
 
 pub returns-else-g-le32 : goal.returns-else-g-le32
 returns-else-g-le32 c =
+    -- where the tests meet: the first two, and the first three
+    let first_two : c.if-four_fit.if2 ≡ id_fits c.args.g && ltb c.args.g.reserved_members (2 ^ 3) = let g = c.args.g in
+    let e = c.four_fit.ensures in
+    ⊎_elim (λ w. w.2 ∙ w.1.ensures ∙ ap (λ (x : Bool). x && ltb g.reserved_members (2 ^ 3)) (sym w.0.taken ∙ e))
+    (λ w. w.1 ∙ w.0.left ∙ ap (λ (x : Bool). x && ltb g.reserved_members (2 ^ 3)) (sym w.0.left ∙ e)) c.if-four_fit.branch in
+    let first_three : let g = c.args.g in c.if-fits.if3 ≡ (id_fits g && ltb g.reserved_members (2 ^ 3)) && leb g.members.count 32 = let g = c.args.g in
+    let e = first_two in
+    ⊎_elim (λ w. w.2 ∙ ap (λ (x : Bool). x && leb g.members.count 32) (sym w.0.taken ∙ e))
+    (λ w. w.1 ∙ w.0.left ∙ ap (λ (x : Bool). x && leb g.members.count 32) (sym w.0.left ∙ e)) c.if-fits.branch in
     let g = c.args.g in
-    c.if-g-le32.false ∙ ap (λ (x : Bool). x && default_fits g) (sym c.if-g-le32.false ∙ first_three c.before) ∙ fields-so g
+    c.if-g-le32.false ∙ ap (λ (x : Bool). x && default_fits g) (sym c.if-g-le32.false ∙ first_three) ∙ fields-so g

@@ -9,26 +9,25 @@ use Rattle.target_loudness.proofs.Taken.{there-ends, none-ends}
 use borrow.Author.Rules.{rules}
 use Rattle.target_loudness.proofs.parsing.target_end.Goals as goal
 
-after-1 : (c : goal.In-At)
-    → Behind c.args.body.now c.args.at c.in-At.n
-after-1 c = behind-one _ _ c.requires.0 c.head-a.ensures (ap ends_out c.in-At.is)
-
 pub returns-in_default : goal.returns-in_default
 returns-in_default c =
     there-ends _ _ c.if-present-eq1.true (one-cut _ _ _ c.head-a.ensures (ap ends_out c.in_default.is))
 
 pub bounds-body-at : goal.bounds-body-at
 bounds-body-at c =
-    (after-1 c.before).there
+    let after-1 : Behind c.args.body.now c.args.at c.in-At.n = behind-one _ _ c.requires.0 c.head-a.ensures (ap ends_out c.in-At.is) in
+    after-1.there
 
 pub head-requires : goal.head-requires
 head-requires c =
-    ((after-1 c.before.before.before).inside, omega (arith, c.part.ensures, part-below 0 1 c.wide.result))
+    let after-1 : Behind c.args.body.now c.args.at c.in-At.n = behind-one _ _ c.requires.0 c.head-a.ensures (ap ends_out c.in-At.is) in
+    (after-1.inside, omega (arith, c.part.ensures, part-below 0 1 c.wide.result))
 
 pub returns-in-At : goal.returns-in-At
 returns-in-At c =
+    let after-1 : Behind c.args.body.now c.args.at c.in-At.n = behind-one _ _ c.requires.0 c.head-a.ensures (ap ends_out c.in-At.is) in
     there-ends _ _ c.if-present-eq1.true
-    (one_more (after-1 c.before.before.before.before) (omega (arith, c.part.ensures, ap (part 0 1) c.wide.ensures)) c.head.ensures)
+    (one_more after-1 (omega (arith, c.part.ensures, ap (part 0 1) c.wide.ensures)) c.head.ensures)
 
 pub returns-else-present-eq1 : goal.returns-else-present-eq1
 returns-else-present-eq1 c =

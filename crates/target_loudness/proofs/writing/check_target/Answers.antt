@@ -11,26 +11,23 @@ use Rattle.target_loudness.proofs.Writes.{target-checked, none-checked}
 use borrow.Author.Rules.{rules}
 use Rattle.target_loudness.proofs.writing.check_target.Goals as goal
 
-step-1 : (c : goal.After-check_all-p1)
-    → Checked (map byte (fields_of (target_cols c.args.t) upper_cells)) 1 c.args.p c.check_all-p1.result
-step-1 c = all-checked c.upper_bytes.ensures c.check_all-p1.ensures
-
-step-2 : (c : goal.After-check_all-p2)
-    → Checked (when (eqb c.args.t.lower.present 1) (map byte (fields_of (target_cols c.args.t) lower_cells))) 1 c.check_all-p1.result c.check_all-p2.result
-step-2 c = all-checked c.lower_bytes.ensures c.check_all-p2.ensures
-
 pub check_all-p2-requires : goal.check_all-p2-requires
 check_all-p2-requires c =
-    (omega (arith, (step-1 c.before.before.before).near, c.requires), search rules)
+    let step-1 : Checked (map byte (fields_of (target_cols c.args.t) upper_cells)) 1 c.args.p c.check_all-p1.result = all-checked c.upper_bytes.ensures c.check_all-p1.ensures in
+    (omega (arith, step-1.near, c.requires), search rules)
 
 pub check_all-requires : goal.check_all-requires
 check_all-requires c =
-    (search (rules, step-1 c.before.before.before.before.before.before, step-2 c.before.before), search rules)
+    let step-1 : Checked (map byte (fields_of (target_cols c.args.t) upper_cells)) 1 c.args.p c.check_all-p1.result = all-checked c.upper_bytes.ensures c.check_all-p1.ensures in
+    let step-2 : Checked (when (eqb c.args.t.lower.present 1) (map byte (fields_of (target_cols c.args.t) lower_cells))) 1 c.check_all-p1.result c.check_all-p2.result = all-checked c.lower_bytes.ensures c.check_all-p2.ensures in
+    (search (rules, step-1, step-2), search rules)
 
 pub returns-then-t-eq1 : goal.returns-then-t-eq1
 returns-then-t-eq1 c =
-    let z = c.before.before.before.before.before.before.before in target-checked (target_cols z.args.t)
-    z.if-t-eq1.true (step-1 z) (step-2 c.before.before.before) (all-checked c.depends_bytes.ensures
+    let step-1 : Checked (map byte (fields_of (target_cols c.args.t) upper_cells)) 1 c.args.p c.check_all-p1.result = all-checked c.upper_bytes.ensures c.check_all-p1.ensures in
+    let step-2 : Checked (when (eqb c.args.t.lower.present 1) (map byte (fields_of (target_cols c.args.t) lower_cells))) 1 c.check_all-p1.result c.check_all-p2.result = all-checked c.lower_bytes.ensures c.check_all-p2.ensures in
+    target-checked (target_cols c.args.t)
+    c.if-t-eq1.true step-1 step-2 (all-checked c.depends_bytes.ensures
     c.check_all.ensures)
 
 pub returns-else-t-eq1 : goal.returns-else-t-eq1

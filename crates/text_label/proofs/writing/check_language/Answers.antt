@@ -9,29 +9,29 @@ use Rattle.text_label.proofs.Written.{Within, all_three}
 use borrow.Author.Rules.{rules}
 use Rattle.text_label.proofs.writing.check_language.Goals as goal
 
-ranges : (c : goal.Then-all_within) → all_within c.args.l c.args.entries.now ≡ true
-ranges c = sym c.all_within.ensures ∙ c.if-all_within.true
-
-rows : (c : goal.Then-all_within) → Within c.args.l c.args.entries.now
-rows c = all_three _ _ (ranges c)
-
 pub check_list-p2-requires : goal.check_list-p2-requires
 check_list-p2-requires c =
-    ((rows c.before.before.before).groups, omega (arith, (all-checked c.letter_bytes.ensures c.check_all-p1.ensures).near, c.requires), omega arith)
+    let ranges : all_within c.args.l c.args.entries.now ≡ true = sym c.all_within.ensures ∙ c.if-all_within.true in
+    let rows : Within c.args.l c.args.entries.now = all_three _ _ ranges in
+    (rows.groups, omega (arith, (all-checked c.letter_bytes.ensures c.check_all-p1.ensures).near, c.requires), omega arith)
 
 pub check_list-p3-requires : goal.check_list-p3-requires
 check_list-p3-requires c =
-    let z = c.before.before.before.before in
-    ((rows (z)).switch-groups, omega (arith, (all-checked c.letter_bytes.ensures c.check_all-p1.ensures).near, c.check_list-p2.ensures.near, z.requires), omega arith)
+    let ranges : all_within c.args.l c.args.entries.now ≡ true = sym c.all_within.ensures ∙ c.if-all_within.true in
+    let rows : Within c.args.l c.args.entries.now = all_three _ _ ranges in
+    (rows.switch-groups, omega (arith, (all-checked c.letter_bytes.ensures c.check_all-p1.ensures).near, c.check_list-p2.ensures.near, c.requires), omega arith)
 
 pub check_list-requires : goal.check_list-requires
 check_list-requires c =
-    ((rows c.before.before.before.before.before).presets, omega (arith, (all-checked c.letter_bytes.ensures c.check_all-p1.ensures).near, c.check_list-p2.ensures.near, c.check_list-p3.ensures.near, c.requires), omega arith)
+    let ranges : all_within c.args.l c.args.entries.now ≡ true = sym c.all_within.ensures ∙ c.if-all_within.true in
+    let rows : Within c.args.l c.args.entries.now = all_three _ _ ranges in
+    (rows.presets, omega (arith, (all-checked c.letter_bytes.ensures c.check_all-p1.ensures).near, c.check_list-p2.ensures.near, c.check_list-p3.ensures.near, c.requires), omega arith)
 
 pub returns-then-all_within : goal.returns-then-all_within
 unfolding language_acts
 returns-then-all_within c =
-    rw (ranges c.before.before.before.before.before.before)
+    let ranges : all_within c.args.l c.args.entries.now ≡ true = sym c.all_within.ensures ∙ c.if-all_within.true in
+    rw ranges
     (passed _ _ (passed _ _ (passed _ _ (more 48579 (then (all-checked c.letter_bytes.ensures c.check_all-p1.ensures) (then c.check_list-p2.ensures (then c.check_list-p3.ensures c.check_list.ensures))) (omega arith)))))
 
 pub returns-else-all_within : goal.returns-else-all_within

@@ -11,28 +11,28 @@ use Rattle.text_label.proofs.Written.{languages-there}
 use borrow.Author.Rules.{rules}
 use Rattle.text_label.proofs.writing.fill_fields.Goals as goal
 
-abbrev all : goal.Start → List Act
-all c = text_label_acts c.args.m c.args.languages.now c.args.entries.now c.args.store.now
-
-abbrev in-languages : goal.Start → List Act
-in-languages c = rows (row_acts c.args.languages.now c.args.entries.now c.args.store.now) 0 c.args.m.languages
-
-begin : (c : goal.Start) → Filling (all c) (when true (map byte (head_fields c.args.m)) ++ in-languages c) 0 c.args.out.now 0 c.args.out.now
-unfolding text_label_acts
-begin c = fill-demand (fill-demand (fill-demand (fill_start c.requires)))
-
-abbrev start : goal.After-fill_all-n → goal.Start
-start c = c.before.before.before.before.before.before.before.before
-
-behind : (c : goal.After-fill_all-n) → Filling (all (start c)) (in-languages (start c)) 0 c.args.out.now c.fill_all-n.result c.fill_all-n.new.out
-behind c = fill-part _ c.head_bytes.ensures (begin (start c)) c.fill_all-n.ensures
-
 pub fill_all-n-requires : goal.fill_all-n-requires
-fill_all-n-requires c = ready-part _ c.head_bytes.ensures (begin c.before.before.before.before.before.before.before)
+unfolding text_label_acts
+fill_all-n-requires c =
+    let all : List Act = text_label_acts c.args.m c.args.languages.now c.args.entries.now c.args.store.now in
+    let in-languages : List Act = rows (row_acts c.args.languages.now c.args.entries.now c.args.store.now) 0 c.args.m.languages in
+    let begin : Filling all (when true (map byte (head_fields c.args.m)) ++ in-languages) 0 c.args.out.now 0 c.args.out.now = fill-demand (fill-demand (fill-demand (fill_start c.requires))) in
+    ready-part _ c.head_bytes.ensures begin
 
 pub fill_languages-requires : goal.fill_languages-requires
 unfolding text_label_acts
-fill_languages-requires c = let d = c.before.before.before in (languages-there d.args.m.languages d.args.languages.now refl (demanded d.requires), omega (arith, d.well-formed), (behind d).ready)
+fill_languages-requires c =
+    let all : List Act = text_label_acts c.args.m c.args.languages.now c.args.entries.now c.args.store.now in
+    let in-languages : List Act = rows (row_acts c.args.languages.now c.args.entries.now c.args.store.now) 0 c.args.m.languages in
+    let begin : Filling all (when true (map byte (head_fields c.args.m)) ++ in-languages) 0 c.args.out.now 0 c.args.out.now = fill-demand (fill-demand (fill-demand (fill_start c.requires))) in
+    let behind : Filling all in-languages c.args.out.now c.fill_all-n.result c.fill_all-n.new.out = fill-part _ c.head_bytes.ensures begin c.fill_all-n.ensures in
+    let d = c.before.before.before in (languages-there d.args.m.languages d.args.languages.now refl (demanded d.requires), omega (arith, d.well_formed), behind.ready)
 
 pub returns : goal.returns
-returns c = fill-last (behind c.before.before.before.before.before.before) c.fill_languages.ensures
+unfolding text_label_acts
+returns c =
+    let all : List Act = text_label_acts c.args.m c.args.languages.now c.args.entries.now c.args.store.now in
+    let in-languages : List Act = rows (row_acts c.args.languages.now c.args.entries.now c.args.store.now) 0 c.args.m.languages in
+    let begin : Filling all (when true (map byte (head_fields c.args.m)) ++ in-languages) 0 c.args.out.now 0 c.args.out.now = fill-demand (fill-demand (fill-demand (fill_start c.requires))) in
+    let behind : Filling all in-languages c.args.out.now c.fill_all-n.result c.fill_all-n.new.out = fill-part _ c.head_bytes.ensures begin c.fill_all-n.ensures in
+    fill-last behind c.fill_languages.ensures

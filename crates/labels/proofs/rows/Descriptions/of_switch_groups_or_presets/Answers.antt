@@ -2,8 +2,6 @@
 use borrow.Author.Rules.{rules}
 use Rattle.labels.proofs.rows.Descriptions.of_switch_groups_or_presets.Goals as goal
 
-}
-
 pub returns : goal.returns
 returns c =
     rw (c.wide.ensures, c.ones.ensures)

@@ -3,9 +3,6 @@ use lib.ListN.{get_or}
 use borrow.Author.Rules.{rules}
 use Rattle.scene_groups.proofs.rows.SceneGroup.of_columns.Goals as goal
 
-abbrev start : goal.After-of_columns-3 → goal.Start
-start c = c.before.before.before.before.before.before.before.before.before.before.before
-
 pub returns : goal.returns
 returns c =
     λ i. record {

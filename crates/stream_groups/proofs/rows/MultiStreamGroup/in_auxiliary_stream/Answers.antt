@@ -2,7 +2,5 @@
 use borrow.Author.Rules.{rules}
 use Rattle.stream_groups.proofs.rows.MultiStreamGroup.in_auxiliary_stream.Goals as goal
 
-}
-
 pub returns : goal.returns
 returns c = rw c.at.ensures

@@ -1,0 +1,22 @@
+-- `fill_gain` stores the columns of a gain that is there; of one that is not, it stores zeros.
+use mathlib.Core.Path.{ap}
+use Rattle.wire.proofs.Layouts.Straight.{size-there}
+use Rattle.wire.specs.Straight.{blanks}
+use Rattle.scene_groups.specs.Rows.{gain_row}
+use Rattle.scene_groups.proofs.Groups.{gain-there, put-there, put-none}
+use borrow.Author.Rules.{rules}
+use Rattle.scene_groups.proofs.parsing.fill_gain.Goals as goal
+
+slice-aggregate-put-row-2 : goal.Need-slice-aggregate-put-row-2
+slice-aggregate-put-row-2 c = search rules
+
+pub gain_from-g-requires : goal.gain_from-g-requires
+gain_from-g-requires c = size-there 2 _ _ _ c.if-present-eq1.true c.requires.0
+
+pub returns-then-present-eq1 : goal.returns-then-present-eq1
+returns-then-present-eq1 c =
+    search (put-there, gain-there, ap gain_row c.gain_from-g.ensures)
+
+pub returns-else-present-eq1 : goal.returns-else-present-eq1
+unfolding blanks
+returns-else-present-eq1 c = search put-none
