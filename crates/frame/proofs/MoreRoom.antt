@@ -31,11 +31,15 @@ room-mono : (n : Need) (lent more : Lent) → Roomier lent more → room n lent 
 unfolding room first_table
 room-mono n [] [] none_lent = le_refl _
 room-mono n (t ∷ ts) (u ∷ us) (one_more h r) = div_mono (length t) (length u) n.columns h
+room-mono n [] (u ∷ us) r = elim r [ ]
+room-mono n (t ∷ ts) [] r = elim r [ ]
 
 roomier-others : (lent more : Lent) → Roomier lent more → Roomier (other_tables lent) (other_tables more)
 unfolding other_tables
 roomier-others [] [] none_lent = none_lent
 roomier-others (t ∷ ts) (u ∷ us) (one_more h r) = r
+roomier-others [] (u ∷ us) r = elim r [ ]
+roomier-others (t ∷ ts) [] r = elim r [ ]
 
 -- what a test of the room says, as a derivation
 pub data Fit : List Need → Lent → Type 0 where
@@ -164,7 +168,7 @@ module _ {Tree Top Value : Type 0} (K : Kind Tree Top Value) where
     kept = λ body lent top after e n.
         let w = was K body lent top after e in
         let t = w.sound.tree in
-        let k = keeps (K.tables t) lent (shapes L body (ran-well K body w.sound w.judges).reads) (none-fit _ lent w.fits) (n ∙ sym (L.All-there t)) in
+        let k = keeps (K.tables t) lent (shapes L body (ran-well K body w.sound w.judges).reads) (none-fit _ lent w.fits) (n ∙ sym (L.all_there t)) in
         (sizes K w.sound, ap (onto (sizes K)) w.judges, subst (Kept (needs (K.tables t)) lent) w.after_is k);
     more_room = room-changes;
     same_rows = λ body lent more top after r e.

@@ -237,7 +237,7 @@ module _ {Tree Top Value : Type 0} (K : Kind Tree Top Value) where
         let p = parted body t s.before r.reads in
         let b' : Every Byte (p.front ++ p.rest) = rw p.joins at b in
         let bf = every-left Byte p.front p.rest b' in
-        let n : length lent ≡ length (K.tables t) = l.all-lent ∙ sym (L.All-there t) in
+        let n : length lent ≡ length (K.tables t) = l.all-lent ∙ sym (L.all_there t) in
         record {
           top = K.top t (tail s.before body);
           tables = filled (K.tables t) lent;

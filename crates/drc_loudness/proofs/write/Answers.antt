@@ -9,6 +9,7 @@ use Rattle.drc_kind.specs.Kind.{kind}
 use Rattle.drc_writing.specs.Write.{head_fields}
 use Rattle.drc_writing.proofs.Writes.{drc-acts, bare-acts}
 use borrow.Author.Rules.{rules}
+use borrow.Enum.Refused.{opened}
 use Rattle.drc_loudness.proofs.write.Goals as goal
 
 pub write_bare-requires : goal.write_bare-requires
@@ -24,7 +25,7 @@ returns-then-not-m c =
     (c.write_bare.ensures.of (head_fields m) c.head_bytes.ensures)
 
 pub returns-in_default : goal.returns-in_default
-returns-in_default c = writes-refused kind _ _ _ c.check-p.ensures _ c.judge-w.ensures c.in_default.in_default-own.keys2
+returns-in_default c = writes-refused kind _ _ _ c.check-p.ensures _ c.judge-w.ensures (opened c.in_default.in_default-own.keys2)
 
 pub fill-requires : goal.fill-requires
 fill-requires c =

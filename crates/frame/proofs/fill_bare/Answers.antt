@@ -16,12 +16,12 @@ pub copy_payload-requires : goal.copy_payload-requires
 copy_payload-requires c =
     let h = c.requires in
     let r = head-ready h.fields c.args.run c.args.store.now h.ready in
-    bare-run-ready h.fields c.args.run c.args.store.now h.ready c.fill_all-n.auto.0 (c.fill_all-n.ensures.of h.fields h.spelt r.sound)
+    bare-run-ready h.fields c.args.run c.args.store.now h.ready c.fill_all-n.auto.out (c.fill_all-n.ensures.of h.fields h.spelt r.sound)
 
 pub returns : goal.returns
 returns c =
     record {
       of = λ fss s ready.
           let r = head-ready fss c.args.run c.args.store.now ready in
-          bare-filled fss c.args.run c.args.store.now ready c.fill_all-n.auto.0 (c.fill_all-n.ensures.of fss s r.sound) c.copy_payload.ensures;
+          bare-filled fss c.args.run c.args.store.now ready c.fill_all-n.auto.out (c.fill_all-n.ensures.of fss s r.sound) c.copy_payload.ensures;
     }

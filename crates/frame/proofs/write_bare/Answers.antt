@@ -8,11 +8,12 @@ use Rattle.frame.proofs.write_bare.Lts as lts
 use Rattle.frame.proofs.check_bare.Reads as check-bare-reads
 use Rattle.frame.proofs.fill_bare.Reads as fill-bare-reads
 use Rattle.frame.proofs.judge.Reads as judge-reads
+use borrow.Enum.Refused.{opened}
 use Rattle.frame.proofs.write_bare.Goals as goal
 
 pub returns-in_default : goal.returns-in_default
 returns-in_default c =
-    record { of = λ fss s. writes-refused (head_kind fss) c.args.run [] c.args.store.now (c.check_bare.ensures.of fss s) _ c.judge-w.ensures c.in_default.in_default-own.keys2 }
+    record { of = λ fss s. writes-refused (head_kind fss) c.args.run [] c.args.store.now (c.check_bare.ensures.of fss s) _ c.judge-w.ensures (opened c.in_default.in_default-own.keys2) }
 
 pub fill_bare-requires : goal.fill_bare-requires
 fill_bare-requires c =

@@ -2,10 +2,11 @@
 use Rattle.frame.proofs.Entries.{writes-refused, fillable, writes-done}
 use Rattle.text_label.specs.Kind.{kind}
 use borrow.Author.Rules.{rules}
+use borrow.Enum.Refused.{opened}
 use Rattle.text_label.proofs.write.Goals as goal
 
 pub returns-in_default : goal.returns-in_default
-returns-in_default c = writes-refused kind _ _ _ c.check.ensures _ c.judge-w.ensures c.in_default.in_default-own.keys2
+returns-in_default c = writes-refused kind _ _ _ c.check.ensures _ c.judge-w.ensures (opened c.in_default.in_default-own.keys2)
 
 pub fill-requires : goal.fill-requires
 fill-requires c =

@@ -17,4 +17,4 @@ returns-then-in_store c =
 
 pub returns-else-in_store : goal.returns-else-in_store
 unfolding kind
-returns-else-in_store c = run-outside kind _ _ _ (sym c.in_store.ensures ∙ c.if-in_store.false) _
+returns-else-in_store c = run-outside kind c.args.m [] c.args.store.now (sym c.in_store.ensures ∙ c.if-in_store.false) _

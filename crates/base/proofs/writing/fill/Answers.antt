@@ -12,7 +12,7 @@ fill_fields-n-requires c = fields-ready kind (written-so c.args.m c.args.store.n
 pub copy-requires : goal.copy-requires
 unfolding kind
 copy-requires c =
-    run-ready kind (written-so c.args.m c.args.store.now []) c.requires c.fill_fields-n.auto.1.1.0 c.fill_fields-n.ensures
+    run-ready kind (written-so c.args.m c.args.store.now []) c.requires c.fill_fields-n.auto.out c.fill_fields-n.ensures
 
 pub returns : goal.returns
 unfolding kind

@@ -22,8 +22,8 @@ fill_sets-requires c =
     let all : List Act = base_acts c.args.m c.args.store.now in
     let in-sets : List Act = sets_acts c.args.m.compatible_sets (listed c.args.m.compatible_sets c.args.store.now) in
     let begin : Filling all (when true (map byte (head_fields c.args.m)) ++ in-sets) 0 c.args.out.now 0 c.args.out.now = fill-demand (fill-demand (fill-demand (fill_start c.requires))) in
-    let behind : Filling all in-sets c.args.out.now c.fill_all-n.result c.fill_all-n.new.out = fill-part _ c.head_bytes.ensures begin c.fill_all-n.ensures in
-    let d = c.before.before.before in (demanded d.requires, behind.ready)
+    let behind : Filling all in-sets 0 c.args.out.now c.fill_all-n.result c.fill_all-n.new.out = fill-part _ c.head_bytes.ensures begin c.fill_all-n.ensures in
+    (demanded c.requires, behind.ready)
 
 pub returns : goal.returns
 unfolding base_acts
@@ -31,5 +31,5 @@ returns c =
     let all : List Act = base_acts c.args.m c.args.store.now in
     let in-sets : List Act = sets_acts c.args.m.compatible_sets (listed c.args.m.compatible_sets c.args.store.now) in
     let begin : Filling all (when true (map byte (head_fields c.args.m)) ++ in-sets) 0 c.args.out.now 0 c.args.out.now = fill-demand (fill-demand (fill-demand (fill_start c.requires))) in
-    let behind : Filling all in-sets c.args.out.now c.fill_all-n.result c.fill_all-n.new.out = fill-part _ c.head_bytes.ensures begin c.fill_all-n.ensures in
+    let behind : Filling all in-sets 0 c.args.out.now c.fill_all-n.result c.fill_all-n.new.out = fill-part _ c.head_bytes.ensures begin c.fill_all-n.ensures in
     fill-last behind c.fill_sets.ensures

@@ -30,7 +30,7 @@ copy-requires c =
     let run : List Act = copy (listed c.args.sets c.args.store.now) ∷ [] in
     let all : List Act = byte (field 8 c.args.sets.indications.length ∷ []) ∷ run in
     let ready : Ready all c.args.n c.args.out.now = rw c.if-sets.true at c.requires.1 in
-    let counted : Filling (all (start-0 (back-1 c))) (run (start-0 (back-1 c))) (start-0 (back-1 c)).args.n (start-0 (back-1 c)).args.out.now c.put-n1.result c.put-n1.new.out = fill-byte (fill_start ready) (sym (join_first 8 _ [])) c.put-n1.ensures in
+    let counted : Filling all run c.args.n c.args.out.now c.put-n1.result c.put-n1.new.out = fill-byte (fill_start ready) (sym (join_first 8 _ [])) c.put-n1.ensures in
     let h = stands in (h, run_room _ _ _ h counted.ready)
 
 pub returns-then-sets : goal.returns-then-sets
@@ -40,7 +40,7 @@ returns-then-sets c =
     let run : List Act = copy (listed c.args.sets c.args.store.now) ∷ [] in
     let all : List Act = byte (field 8 c.args.sets.indications.length ∷ []) ∷ run in
     let ready : Ready all c.args.n c.args.out.now = rw c.if-sets.true at c.requires.1 in
-    let counted : Filling (all (start-0 (back-1 c))) (run (start-0 (back-1 c))) (start-0 (back-1 c)).args.n (start-0 (back-1 c)).args.out.now c.put-n1.result c.put-n1.new.out = fill-byte (fill_start ready) (sym (join_first 8 _ [])) c.put-n1.ensures in
+    let counted : Filling all run c.args.n c.args.out.now c.put-n1.result c.put-n1.new.out = fill-byte (fill_start ready) (sym (join_first 8 _ [])) c.put-n1.ensures in
     rw c.if-sets.true (search (fill-last, counted))
 
 pub returns-else-sets : goal.returns-else-sets

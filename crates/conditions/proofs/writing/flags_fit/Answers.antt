@@ -11,9 +11,9 @@ pub returns-then-four_fit : goal.returns-then-four_fit
 returns-then-four_fit c =
     let a = c.args in
     ap (λ (b : Bool). b && c.fits.result) (sym c.if-four_fit.true)
-    ∙ flags-fit a.reserved a.no-gain a.no-position a.gain a.position c.four_fit.ensures c.fits.ensures
+    ∙ flags-fit a.reserved a.no_gain a.no_position a.gain a.position c.four_fit.ensures c.fits.ensures
 
 pub returns-else-four_fit : goal.returns-else-four_fit
 returns-else-four_fit c =
     let a = c.args in
-    ap (λ (b : Bool). b && ltb a.position (2 ^ 1)) (sym c.if-four_fit.false) ∙ flags-fit a.reserved a.no-gain a.no-position a.gain a.position c.four_fit.ensures refl
+    ap (λ (b : Bool). b && ltb a.position (2 ^ 1)) (sym c.if-four_fit.false) ∙ flags-fit a.reserved a.no_gain a.no_position a.gain a.position c.four_fit.ensures refl

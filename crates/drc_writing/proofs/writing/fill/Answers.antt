@@ -16,11 +16,11 @@ pub copy_payload-requires : goal.copy_payload-requires
 unfolding kind
 copy_payload-requires c =
     let lent : Lent = c.args.instructions.now ∷ c.args.additional.now ∷ c.args.loudness.now ∷ c.args.downmixes.now ∷ [] in
-    run-ready kind (drc-acts c.args.m lent c.args.store.now) c.requires c.fill_fields-n.auto.1.1.1.1.1.1.0 c.fill_fields-n.ensures
+    run-ready kind (drc-acts c.args.m lent c.args.store.now) c.requires c.fill_fields-n.auto.out c.fill_fields-n.ensures
 
 pub returns : goal.returns
 unfolding kind
 returns c =
     let lent : Lent = c.args.instructions.now ∷ c.args.additional.now ∷ c.args.loudness.now ∷ c.args.downmixes.now ∷ [] in
-    all-filled kind (drc-acts c.args.m lent c.args.store.now) c.requires c.fill_fields-n.auto.1.1.1.1.1.1.0 c.fill_fields-n.ensures
+    all-filled kind (drc-acts c.args.m lent c.args.store.now) c.requires c.fill_fields-n.auto.out c.fill_fields-n.ensures
     c.copy_payload.ensures

@@ -26,9 +26,8 @@ fill_info-requires c =
     let all : List Act = drc_acts c.args.m lent c.args.store.now in
     let in-info : List Act = info_acts c.args.m.info lent c.args.store.now in
     let begin : Filling all (when true (map byte (head_fields c.args.m)) ++ in-info) 0 c.args.out.now 0 c.args.out.now = fill-demand (fill-demand (fill-demand (fill_start c.requires))) in
-    let behind : Filling all in-info c.args.out.now c.fill_all-n1.result c.fill_all-n1.new.out = fill-part _ c.head_bytes.ensures begin c.fill_all-n1.ensures in
-    let d = c.before.before.before.before in
-    (demanded d.requires, behind.ready)
+    let behind : Filling all in-info 0 c.args.out.now c.fill_all-n1.result c.fill_all-n1.new.out = fill-part _ c.head_bytes.ensures begin c.fill_all-n1.ensures in
+    (demanded c.requires, behind.ready)
 
 pub returns : goal.returns
 unfolding drc_acts
@@ -37,5 +36,5 @@ returns c =
     let all : List Act = drc_acts c.args.m lent c.args.store.now in
     let in-info : List Act = info_acts c.args.m.info lent c.args.store.now in
     let begin : Filling all (when true (map byte (head_fields c.args.m)) ++ in-info) 0 c.args.out.now 0 c.args.out.now = fill-demand (fill-demand (fill-demand (fill_start c.requires))) in
-    let behind : Filling all in-info c.args.out.now c.fill_all-n1.result c.fill_all-n1.new.out = fill-part _ c.head_bytes.ensures begin c.fill_all-n1.ensures in
+    let behind : Filling all in-info 0 c.args.out.now c.fill_all-n1.result c.fill_all-n1.new.out = fill-part _ c.head_bytes.ensures begin c.fill_all-n1.ensures in
     fill-last behind c.fill_info.ensures

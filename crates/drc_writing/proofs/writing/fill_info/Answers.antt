@@ -21,9 +21,8 @@ fill_lists-requires c =
     let all : List Act = info_acts c.args.i lent c.args.store.now in
     let behind : Filling all (lists_acts c.args.i.part lent c.args.store.now) c.args.n c.args.out.now c.fill_all-n1.result c.fill_all-n1.new.out = fill-part _ c.count_bytes.ensures
     (info-begins c.args.i lent c.args.store.now c.if-i.true c.requires.1) c.fill_all-n1.ensures in
-    let d = c.before.before.before in
-    let t = d.if-i.true in
-    (listed d.args.i _ _ _ t d.requires.0 (info-clean d.args.i lent d.args.store.now t d.requires.1), behind.ready)
+    let t = c.if-i.true in
+    (listed c.args.i _ _ _ t c.requires.0 (info-clean c.args.i lent c.args.store.now t c.requires.1), behind.ready)
 
 pub returns-then-i : goal.returns-then-i
 returns-then-i c =

@@ -36,9 +36,8 @@ fill_entries-n2-requires c =
     let in-downmixes : List Act = rows (D.row_acts c.args.downmixes.now) 0 c.args.i.downmix_definitions in
     let in-instructions : List Act = rows (I.row_acts c.args.instructions.now c.args.additional.now) 0 c.args.i.drc_instructions in
     let begin : Filling all (in-instructions ++ (in-entries ++ in-downmixes)) c.args.n c.args.out.now c.args.n c.args.out.now = fill_start c.requires.1 in
-    let behind-instructions : Filling all (in-entries ++ in-downmixes) c.args.n c.args.out.now c.fill_instructions-n1.result c.fill_instructions-n1.new.additional.1.1.0 = fill-turn begin c.fill_instructions-n1.auto.1.1.1.0 c.fill_instructions-n1.ensures in
-    let d = c.before.before.before.before in
-    (entries-stand d.requires.0, omega (arith, d.requires.0.entries-few), fill-row in-entries _ behind-instructions refl)
+    let behind-instructions : Filling all (in-entries ++ in-downmixes) c.args.n c.args.out.now c.fill_instructions-n1.result c.fill_instructions-n1.new.out = fill-turn begin refl c.fill_instructions-n1.auto.out c.fill_instructions-n1.ensures in
+    (entries-stand c.requires.0, omega (arith, c.requires.0.entries-few), fill-row in-entries _ behind-instructions refl)
 
 pub fill_downmixes-requires : goal.fill_downmixes-requires
 unfolding first_table other_tables
@@ -50,11 +49,9 @@ fill_downmixes-requires c =
     let in-entries : List Act = rows (L.row_acts c.args.loudness.now c.args.store.now) 0 c.args.i.loudness_infos in
     let in-instructions : List Act = rows (I.row_acts c.args.instructions.now c.args.additional.now) 0 c.args.i.drc_instructions in
     let begin : Filling all (in-instructions ++ (in-entries ++ in-downmixes)) c.args.n c.args.out.now c.args.n c.args.out.now = fill_start c.requires.1 in
-    let behind-instructions : Filling all (in-entries ++ in-downmixes) c.args.n c.args.out.now c.fill_instructions-n1.result c.fill_instructions-n1.new.additional.1.1.0 = fill-turn begin c.fill_instructions-n1.auto.1.1.1.0 c.fill_instructions-n1.ensures in
-    let behind-entries : Filling (all (start (back c))) (in-downmixes (start (back c))) (start (back c)).args.n (start (back c)).args.out.now c.fill_entries-n2.result c.fill_entries-n2.new.store.1.1.0 = fill-turn behind-instructions c.fill_entries-n2.auto.1.1.1.0 c.fill_entries-n2.ensures in
-    let d = c.before.before.before.before in
-    let z = start (back d) in
-    (downmixes-stand z.pre.0, omega (arith, z.pre.0.downmixes-few), behind-entries.ready)
+    let behind-instructions : Filling all (in-entries ++ in-downmixes) c.args.n c.args.out.now c.fill_instructions-n1.result c.fill_instructions-n1.new.out = fill-turn begin refl c.fill_instructions-n1.auto.out c.fill_instructions-n1.ensures in
+    let behind-entries : Filling all in-downmixes c.args.n c.args.out.now c.fill_entries-n2.result c.fill_entries-n2.new.out = fill-turn behind-instructions refl c.fill_entries-n2.auto.out c.fill_entries-n2.ensures in
+    (downmixes-stand c.requires.0, omega (arith, c.requires.0.downmixes-few), behind-entries.ready)
 
 pub returns : goal.returns
 unfolding first_table other_tables
@@ -66,6 +63,6 @@ returns c =
     let in-entries : List Act = rows (L.row_acts c.args.loudness.now c.args.store.now) 0 c.args.i.loudness_infos in
     let in-instructions : List Act = rows (I.row_acts c.args.instructions.now c.args.additional.now) 0 c.args.i.drc_instructions in
     let begin : Filling all (in-instructions ++ (in-entries ++ in-downmixes)) c.args.n c.args.out.now c.args.n c.args.out.now = fill_start c.requires.1 in
-    let behind-instructions : Filling all (in-entries ++ in-downmixes) c.args.n c.args.out.now c.fill_instructions-n1.result c.fill_instructions-n1.new.additional.1.1.0 = fill-turn begin c.fill_instructions-n1.auto.1.1.1.0 c.fill_instructions-n1.ensures in
-    let behind-entries : Filling (all (start (back c))) (in-downmixes (start (back c))) (start (back c)).args.n (start (back c)).args.out.now c.fill_entries-n2.result c.fill_entries-n2.new.store.1.1.0 = fill-turn behind-instructions c.fill_entries-n2.auto.1.1.1.0 c.fill_entries-n2.ensures in
+    let behind-instructions : Filling all (in-entries ++ in-downmixes) c.args.n c.args.out.now c.fill_instructions-n1.result c.fill_instructions-n1.new.out = fill-turn begin refl c.fill_instructions-n1.auto.out c.fill_instructions-n1.ensures in
+    let behind-entries : Filling all in-downmixes c.args.n c.args.out.now c.fill_entries-n2.result c.fill_entries-n2.new.out = fill-turn behind-instructions refl c.fill_entries-n2.auto.out c.fill_entries-n2.ensures in
     fill-last behind-entries c.fill_downmixes.ensures

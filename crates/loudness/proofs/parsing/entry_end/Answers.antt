@@ -37,9 +37,9 @@ overflow_add-n c =
     let ids : c.id_bytes-ids.result ≡ ids_at c.args.body.now c.args.at = c.id_bytes-ids.ensures.0
     ∙ λ i. id_bytes (c.id_types.ensures i) ((c.part.ensures ∙ ap (part 0 2) c.wide.ensures) i) in
     -- behind the length
-    let behind : (c.in-At.n + c.id_bytes-ids.result + 1 ≡ c.in-At-b.m) × (c.in-At-b.m ≤ length (start c.before.before).args.body.now) = size-got _ _ c.head-a.ensures
+    let behind : (c.in-At.n + c.id_bytes-ids.result + 1 ≡ c.in-At-b.m) × (c.in-At-b.m ≤ length c.args.body.now) = size-got _ _ c.head-a.ensures
     (ap ends_out c.in-At.is) ids
-    c.head-b.ensures (start c.before.before).requires (ap ends_out c.in-At-b.is) in
+    c.head-b.ensures c.requires (ap ends_out c.in-At-b.is) in
     let w = behind in omega (arith, w)
 
 pub bounds-body-n : goal.bounds-body-n
@@ -47,9 +47,9 @@ bounds-body-n c =
     let ids : c.id_bytes-ids.result ≡ ids_at c.args.body.now c.args.at = c.id_bytes-ids.ensures.0
     ∙ λ i. id_bytes (c.id_types.ensures i) ((c.part.ensures ∙ ap (part 0 2) c.wide.ensures) i) in
     -- behind the length
-    let behind : (c.in-At.n + c.id_bytes-ids.result + 1 ≡ c.in-At-b.m) × (c.in-At-b.m ≤ length (start c.before.before).args.body.now) = size-got _ _ c.head-a.ensures
+    let behind : (c.in-At.n + c.id_bytes-ids.result + 1 ≡ c.in-At-b.m) × (c.in-At-b.m ≤ length c.args.body.now) = size-got _ _ c.head-a.ensures
     (ap ends_out c.in-At.is) ids
-    c.head-b.ensures (start c.before.before).requires (ap ends_out c.in-At-b.is) in
+    c.head-b.ensures c.requires (ap ends_out c.in-At-b.is) in
     let w = behind in omega (arith, w)
 
 pub bytes_end-requires : goal.bytes_end-requires
@@ -57,9 +57,9 @@ bytes_end-requires c =
     let ids : c.id_bytes-ids.result ≡ ids_at c.args.body.now c.args.at = c.id_bytes-ids.ensures.0
     ∙ λ i. id_bytes (c.id_types.ensures i) ((c.part.ensures ∙ ap (part 0 2) c.wide.ensures) i) in
     -- behind the length
-    let behind : (c.in-At.n + c.id_bytes-ids.result + 1 ≡ c.in-At-b.m) × (c.in-At-b.m ≤ length (start c.before.before).args.body.now) = size-got _ _ c.head-a.ensures
+    let behind : (c.in-At.n + c.id_bytes-ids.result + 1 ≡ c.in-At-b.m) × (c.in-At-b.m ≤ length c.args.body.now) = size-got _ _ c.head-a.ensures
     (ap ends_out c.in-At.is) ids
-    c.head-b.ensures (start c.before.before).requires (ap ends_out c.in-At-b.is) in
+    c.head-b.ensures c.requires (ap ends_out c.in-At-b.is) in
     (behind.1, search rules)
 
 pub returns : goal.returns

@@ -11,7 +11,7 @@ fill_fields-n-requires c = search (fields-ready, acts-are)
 pub copy-requires : goal.copy-requires
 unfolding kind
 copy-requires c =
-    run-ready kind (acts-are c.args.m c.args.groups.now c.args.store.now) c.requires c.fill_fields-n.auto.1.1.0 c.fill_fields-n.ensures
+    run-ready kind (acts-are c.args.m c.args.groups.now c.args.store.now) c.requires c.fill_fields-n.auto.out c.fill_fields-n.ensures
 
 pub returns : goal.returns
 unfolding kind

@@ -22,8 +22,8 @@ fill_main-requires c =
     let all : List Act = multi_stream_acts c.args.m c.args.groups.now in
     let in-main : List Act = main_acts c.args.m.main c.args.groups.now in
     let begin : Filling all (when true (map byte (head_fields c.args.m)) ++ in-main) 0 c.args.out.now 0 c.args.out.now = fill-demand (fill-demand (fill-demand (fill_start c.requires))) in
-    let behind : Filling all in-main c.args.out.now c.fill_all-n.result c.fill_all-n.new.out = fill-part _ c.head_bytes.ensures begin c.fill_all-n.ensures in
-    let d = c.before.before.before in (demanded d.requires, behind.ready)
+    let behind : Filling all in-main 0 c.args.out.now c.fill_all-n.result c.fill_all-n.new.out = fill-part _ c.head_bytes.ensures begin c.fill_all-n.ensures in
+    (demanded c.requires, behind.ready)
 
 pub returns : goal.returns
 unfolding multi_stream_acts
@@ -31,5 +31,5 @@ returns c =
     let all : List Act = multi_stream_acts c.args.m c.args.groups.now in
     let in-main : List Act = main_acts c.args.m.main c.args.groups.now in
     let begin : Filling all (when true (map byte (head_fields c.args.m)) ++ in-main) 0 c.args.out.now 0 c.args.out.now = fill-demand (fill-demand (fill-demand (fill_start c.requires))) in
-    let behind : Filling all in-main c.args.out.now c.fill_all-n.result c.fill_all-n.new.out = fill-part _ c.head_bytes.ensures begin c.fill_all-n.ensures in
+    let behind : Filling all in-main 0 c.args.out.now c.fill_all-n.result c.fill_all-n.new.out = fill-part _ c.head_bytes.ensures begin c.fill_all-n.ensures in
     fill-last behind c.fill_main.ensures

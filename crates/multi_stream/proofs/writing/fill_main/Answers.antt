@@ -26,8 +26,7 @@ fill_groups-requires c =
     let in-groups : List Act = rows (row_acts c.args.groups.now) 0 c.args.main.part.groups in
     let begin : c.args.main.present ≡ true → Filling (main_acts c.args.main c.args.groups.now) (when true (map byte (main_fields c.args.main.part)) ++ in-groups) c.args.n c.args.out.now c.args.n c.args.out.now = λ t. part-begins c.args.main.present (map byte (main_fields c.args.main.part)) in-groups t c.requires.1 in
     let behind : Filling (main_acts c.args.main c.args.groups.now) in-groups c.args.n c.args.out.now c.fill_all-n1.result c.fill_all-n1.new.out = fill-part _ c.main_bytes.ensures (begin taken) c.fill_all-n1.ensures in
-    let d = c.before.before.before in
-    (rows-there _ _ 5 _ (omega arith) d.requires.0 taken, omega (arith, d.well_formed), behind.ready)
+    (rows-there _ _ 5 _ (omega arith) c.requires.0 taken, omega (arith, c.well_formed), behind.ready)
 
 pub returns-then-main : goal.returns-then-main
 unfolding main_acts

@@ -20,28 +20,27 @@ sized first count v = let q : first + count - first ≡ count = omega arith in r
 
 pub returns-then-not-inside : goal.returns-then-not-inside
 returns-then-not-inside c =
-    outside-odd c.args.conditions.now (preset_cols c.args.p) (sym c.in_table-inside.ensures ∙ not-true _ c.if-not-inside.true)
+    outside-odd c.args.conditions.now (preset_cols c.args.p) (sym c.in_table-inside.ensures ∙ c.if-not-inside.true)
 
 pub returns-then-not-front_fits : goal.returns-then-not-front_fits
 returns-then-not-front_fits c =
-    front-odd c.args.conditions.now (preset_cols c.args.p) (sym c.front_fits.ensures ∙ not-true _ c.if-not-front_fits.true)
+    front-odd c.args.conditions.now (preset_cols c.args.p) (sym c.front_fits.ensures ∙ c.if-not-front_fits.true)
 
 pub plain_run-k-requires : goal.plain_run-k-requires
 plain_run-k-requires c =
-    let front : leb 1 c.args.p.conditions.count && fit_all (head_fields c.args.p) ≡ true = sym c.front_fits.ensures ∙ not-false _ c.if-not-front_fits.false in
-    let tested : test c.args.conditions.now (preset_cols c.args.p) ≡ true = both-and (sym c.in_table-inside.ensures ∙ not-false _ c.if-not-inside.false) front in
+    let front : leb 1 c.args.p.conditions.count && fit_all (head_fields c.args.p) ≡ true = sym c.front_fits.ensures ∙ c.if-not-front_fits.false in
+    let tested : test c.args.conditions.now (preset_cols c.args.p) ≡ true = both-and (sym c.in_table-inside.ensures ∙ c.if-not-inside.false) front in
     let counted : 1 ≤ c.args.p.conditions.count = leb-true 1 _ (and_both (leb 1 c.args.p.conditions.count) _ front).0 in
     let f = test-few c.args.conditions.now (preset_cols c.args.p) tested in
     (omega (arith, counted), f.inside, search rules)
 
 pub overflow_add-result : goal.overflow_add-result
 overflow_add-result c =
-    let front : leb 1 c.args.p.conditions.count && fit_all (head_fields c.args.p) ≡ true = sym c.front_fits.ensures ∙ not-false _ c.if-not-front_fits.false in
-    let tested : test c.args.conditions.now (preset_cols c.args.p) ≡ true = both-and (sym c.in_table-inside.ensures ∙ not-false _ c.if-not-inside.false) front in
-    let e = c.before.before.before.before in
+    let front : leb 1 c.args.p.conditions.count && fit_all (head_fields c.args.p) ≡ true = sym c.front_fits.ensures ∙ c.if-not-front_fits.false in
+    let tested : test c.args.conditions.now (preset_cols c.args.p) ≡ true = both-and (sym c.in_table-inside.ensures ∙ c.if-not-inside.false) front in
     let k : 0 < c.plain_run-k.result = omega (arith, c.if-k-eq0.false) in
-    let v = sized e.args.p.conditions.first e.args.p.conditions.count c.plain_run-k.ensures in
-    omega (arith, (v.all k).few, (test-few e.args.conditions.now (preset_cols e.args.p) tested).few)
+    let v = sized c.args.p.conditions.first c.args.p.conditions.count c.plain_run-k.ensures in
+    omega (arith, (v.all k).few, (test-few c.args.conditions.now (preset_cols c.args.p) tested).few)
 
 pub returns-then-k-eq0 : goal.returns-then-k-eq0
 returns-then-k-eq0 c =
@@ -49,6 +48,6 @@ returns-then-k-eq0 c =
 
 pub returns-else-k-eq0 : goal.returns-else-k-eq0
 returns-else-k-eq0 c =
-    let front : leb 1 c.args.p.conditions.count && fit_all (head_fields c.args.p) ≡ true = sym c.front_fits.ensures ∙ not-false _ c.if-not-front_fits.false in
-    let tested : test c.args.conditions.now (preset_cols c.args.p) ≡ true = both-and (sym c.in_table-inside.ensures ∙ not-false _ c.if-not-inside.false) front in
+    let front : leb 1 c.args.p.conditions.count && fit_all (head_fields c.args.p) ≡ true = sym c.front_fits.ensures ∙ c.if-not-front_fits.false in
+    let tested : test c.args.conditions.now (preset_cols c.args.p) ≡ true = both-and (sym c.in_table-inside.ensures ∙ c.if-not-inside.false) front in
     run-plain c.args.conditions.now (preset_cols c.args.p) (sized c.args.p.conditions.first c.args.p.conditions.count c.plain_run-k.ensures) tested (omega (arith, c.if-k-eq0.false))

@@ -32,38 +32,32 @@ returns-in_default-g c =
 pub switch_groups_rows-s-requires : goal.switch_groups_rows-s-requires
 switch_groups_rows-s-requires c =
     let two : Past c.args.body.now 0 2 c.in-At.n = ones-past 2 _ 0 (omega arith) c.head-a.ensures (ap ends_out c.in-At.is) in
-    let groups : InGroups (start (back-1 c.before)).args.body.now c.in-At-g.switch_groups = groups-found two (c.part.ensures ∙ ap (part 7 1) c.wide-flags.ensures) c.groups_end-g.ensures (ap ends_out c.in-At-g.is) in
+    let groups : InGroups c.args.body.now c.in-At-g.switch_groups = groups-found two (c.part.ensures ∙ ap (part 7 1) c.wide-flags.ensures) c.groups_end-g.ensures (ap ends_out c.in-At-g.is) in
     groups.place.inside
 
 pub returns-in_default-s : goal.returns-in_default-s
 returns-in_default-s c =
     let two : Past c.args.body.now 0 2 c.in-At.n = ones-past 2 _ 0 (omega arith) c.head-a.ensures (ap ends_out c.in-At.is) in
-    let groups : InGroups (start (back-1 c.before)).args.body.now c.in-At-g.switch_groups = groups-found two (c.part.ensures ∙ ap (part 7 1) c.wide-flags.ensures) c.groups_end-g.ensures (ap ends_out c.in-At-g.is) in
-    let d = c.before.before in
-    record { finds = switches-cut groups (d.part-2.ensures ∙ ap (part 6 1) d.wide-flags.ensures) d.switch_groups_rows-s.ensures c.in_default-s.is ∙ ap short (sym (c.short-in_default-s.ensures ∙ ap (λ r. short_of (sum_out r)) c.in_default-s.is)) }
+    let groups : InGroups c.args.body.now c.in-At-g.switch_groups = groups-found two (c.part.ensures ∙ ap (part 7 1) c.wide-flags.ensures) c.groups_end-g.ensures (ap ends_out c.in-At-g.is) in
+    record { finds = switches-cut groups (c.part-2.ensures ∙ ap (part 6 1) c.wide-flags.ensures) c.switch_groups_rows-s.ensures c.in_default-s.is ∙ ap short (sym (c.short-in_default-s.ensures ∙ ap (λ r. short_of (sum_out r)) c.in_default-s.is)) }
 
 pub presets_rows-p-requires : goal.presets_rows-p-requires
 presets_rows-p-requires c =
     let two : Past c.args.body.now 0 2 c.in-At.n = ones-past 2 _ 0 (omega arith) c.head-a.ensures (ap ends_out c.in-At.is) in
-    let groups : InGroups (start (back-1 c.before)).args.body.now c.in-At-g.switch_groups = groups-found two (c.part.ensures ∙ ap (part 7 1) c.wide-flags.ensures) c.groups_end-g.ensures (ap ends_out c.in-At-g.is) in
-    let switches : InSwitches (start (back-1 (back-2 c.before).before.before.before)).args.body.now (back-2 c.before).before.g.given.0.0 c.in-Got.members c.in-Got.presets = let d = c.before in
-    switches-found groups (d.part-2.ensures ∙ ap (part 6 1) d.wide-flags.ensures) d.switch_groups_rows-s.ensures c.in-Got.is in
+    let groups : InGroups c.args.body.now c.in-At-g.switch_groups = groups-found two (c.part.ensures ∙ ap (part 7 1) c.wide-flags.ensures) c.groups_end-g.ensures (ap ends_out c.in-At-g.is) in
+    let switches : InSwitches c.args.body.now c.in-At-g.switch_groups c.in-Got.members c.in-Got.presets = switches-found groups (c.part-2.ensures ∙ ap (part 6 1) c.wide-flags.ensures) c.switch_groups_rows-s.ensures c.in-Got.is in
     switches.on.place.inside
 
 pub returns-in_default-p : goal.returns-in_default-p
 returns-in_default-p c =
     let two : Past c.args.body.now 0 2 c.in-At.n = ones-past 2 _ 0 (omega arith) c.head-a.ensures (ap ends_out c.in-At.is) in
-    let groups : InGroups (start (back-1 c.before)).args.body.now c.in-At-g.switch_groups = groups-found two (c.part.ensures ∙ ap (part 7 1) c.wide-flags.ensures) c.groups_end-g.ensures (ap ends_out c.in-At-g.is) in
-    let switches : InSwitches (start (back-1 (back-2 c.before).before.before.before)).args.body.now (back-2 c.before).before.g.given.0.0 c.in-Got.members c.in-Got.presets = let d = c.before in
-    switches-found groups (d.part-2.ensures ∙ ap (part 6 1) d.wide-flags.ensures) d.switch_groups_rows-s.ensures c.in-Got.is in
-    let b = (back-2 c.before.before.before.before.before).before.before.before in
-    record { finds = presets-cut switches (c.part-3.ensures ∙ ap (part 5 1) b.before.before.wide.ensures) c.presets_rows-p.ensures c.in_default-p.is ∙ ap short (sym (c.short-in_default-p.ensures ∙ ap (λ r. short_of (sum_out r)) c.in_default-p.is)) }
+    let groups : InGroups c.args.body.now c.in-At-g.switch_groups = groups-found two (c.part.ensures ∙ ap (part 7 1) c.wide-flags.ensures) c.groups_end-g.ensures (ap ends_out c.in-At-g.is) in
+    let switches : InSwitches c.args.body.now c.in-At-g.switch_groups c.in-Got.members c.in-Got.presets = switches-found groups (c.part-2.ensures ∙ ap (part 6 1) c.wide-flags.ensures) c.switch_groups_rows-s.ensures c.in-Got.is in
+    record { finds = presets-cut switches (c.part-3.ensures ∙ ap (part 5 1) c.wide-flags.ensures) c.presets_rows-p.ensures c.in_default-p.is ∙ ap short (sym (c.short-in_default-p.ensures ∙ ap (λ r. short_of (sum_out r)) c.in_default-p.is)) }
 
 pub returns : goal.returns
 returns c =
     let two : Past c.args.body.now 0 2 c.in-At.n = ones-past 2 _ 0 (omega arith) c.head-a.ensures (ap ends_out c.in-At.is) in
-    let groups : InGroups (start (back-1 c.before)).args.body.now c.in-At-g.switch_groups = groups-found two (c.part.ensures ∙ ap (part 7 1) c.wide-flags.ensures) c.groups_end-g.ensures (ap ends_out c.in-At-g.is) in
-    let switches : InSwitches (start (back-1 (back-2 c.before).before.before.before)).args.body.now (back-2 c.before).before.g.given.0.0 c.in-Got.members c.in-Got.presets = let d = c.before in
-    switches-found groups (d.part-2.ensures ∙ ap (part 6 1) d.wide-flags.ensures) d.switch_groups_rows-s.ensures c.in-Got.is in
-    let b = (back-2 c.before.before.before.before).before.before.before in
-    record { finds = all_found switches (c.part-3.ensures ∙ ap (part 5 1) b.before.before.wide.ensures) c.presets_rows-p.ensures two.inside c.in-Got-p.is }
+    let groups : InGroups c.args.body.now c.in-At-g.switch_groups = groups-found two (c.part.ensures ∙ ap (part 7 1) c.wide-flags.ensures) c.groups_end-g.ensures (ap ends_out c.in-At-g.is) in
+    let switches : InSwitches c.args.body.now c.in-At-g.switch_groups c.in-Got.members c.in-Got.presets = switches-found groups (c.part-2.ensures ∙ ap (part 6 1) c.wide-flags.ensures) c.switch_groups_rows-s.ensures c.in-Got.is in
+    record { finds = all_found switches (c.part-3.ensures ∙ ap (part 5 1) c.wide-flags.ensures) c.presets_rows-p.ensures two.inside c.in-Got-p.is }

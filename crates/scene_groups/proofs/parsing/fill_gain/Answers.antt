@@ -7,9 +7,6 @@ use Rattle.scene_groups.proofs.Groups.{gain-there, put-there, put-none}
 use borrow.Author.Rules.{rules}
 use Rattle.scene_groups.proofs.parsing.fill_gain.Goals as goal
 
-slice-aggregate-put-row-2 : goal.Need-slice-aggregate-put-row-2
-slice-aggregate-put-row-2 c = search rules
-
 pub gain_from-g-requires : goal.gain_from-g-requires
 gain_from-g-requires c = size-there 2 _ _ _ c.if-present-eq1.true c.requires.0
 

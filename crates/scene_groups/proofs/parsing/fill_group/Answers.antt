@@ -41,25 +41,24 @@ pub fill_gain-at_language-requires : goal.fill_gain-at_language-requires
 fill_gain-at_language-requires c =
     let whole : Whole 27 group c.args.body.now c.args.at = flat-done 27 group _ _ c.requires.0 c.requires.1 in
     let room : c.args.at + (3 + (fives c.part-p.result + (twos c.part-g.result + threes c.part-l.result))) ≤ length c.args.body.now = group-room whole c.wide-flags.ensures c.part-p.ensures c.part-g.ensures c.part-l.ensures in
-    let f = flags (position c) in (search (rules, room), flag-below 1 _ f.before.part2.ensures, search rules)
+    (search (rules, room), flag-below 1 _ c.part-g.ensures, search rules)
 
 pub overflow_add-to-3 : goal.overflow_add-to-3
-overflow_add-to-3 c =
-    let s = start (flags (position (gain c))) in omega (arith, s.pre.2, s.good)
+overflow_add-to-3 c = omega (arith, c.requires.2, c.well_formed)
 
 pub fill_language-requires : goal.fill_language-requires
 fill_language-requires c =
     let whole : Whole 27 group c.args.body.now c.args.at = flat-done 27 group _ _ c.requires.0 c.requires.1 in
     let room : c.args.at + (3 + (fives c.part-p.result + (twos c.part-g.result + threes c.part-l.result))) ≤ length c.args.body.now = group-room whole c.wide-flags.ensures c.part-p.ensures c.part-g.ensures c.part-l.ensures in
-    let f = flags (position (gain c)) in (search (rules, room, gain c), flag-below 0 _ f.part3.ensures, search rules)
+    (search (rules, room), flag-below 0 _ c.part-l.ensures, search rules)
 
 pub returns : goal.returns
 returns c =
     let whole : Whole 27 group c.args.body.now c.args.at = flat-done 27 group _ _ c.requires.0 c.requires.1 in
-    let head-so : c.head_row.result ≡ head_of (get_or (start (flags c)).args.body.now (start (flags c)).args.at 0) c.wide-flags.result (get_or (start (flags c)).args.body.now ((start (flags c)).args.at + 2) 0) = c.head_row.ensures
+    let head-so : c.head_row.result ≡ head_of (get_or c.args.body.now c.args.at 0) c.wide-flags.result (get_or c.args.body.now (c.args.at + 2) 0) = c.head_row.ensures
     ∙ λ i. head_of (c.wide-id.ensures i) c.wide-flags.result
     (c.wide-content.ensures i) in
-    let z = c.before.before.before in let y = z.before.before.before.before in let x = y.before.before.before.before in group-put whole
-    x.wide-flags.ensures x.part-p.ensures x.part-g.ensures x.part-l.ensures head-so
-    x.put_row.ensures y.fill_position-at_gain.ensures z.fill_gain-at_language.ensures
+    group-put whole
+    c.wide-flags.ensures c.part-p.ensures c.part-g.ensures c.part-l.ensures head-so
+    c.put_row.ensures c.fill_position-at_gain.ensures c.fill_gain-at_language.ensures
     c.fill_language.ensures

@@ -7,9 +7,6 @@ use Rattle.scene_groups.proofs.Groups.{language-there, put-there, put-none}
 use borrow.Author.Rules.{rules}
 use Rattle.scene_groups.proofs.parsing.fill_language.Goals as goal
 
-slice-aggregate-put-row-2 : goal.Need-slice-aggregate-put-row-2
-slice-aggregate-put-row-2 c = search rules
-
 pub language_from-l-requires : goal.language_from-l-requires
 language_from-l-requires c = size-there 3 _ _ _ c.if-present-eq1.true c.requires.0
 

@@ -7,9 +7,6 @@ use Rattle.scene_groups.proofs.Groups.{position-there, put-there, put-none}
 use borrow.Author.Rules.{rules}
 use Rattle.scene_groups.proofs.parsing.fill_position.Goals as goal
 
-slice-aggregate-put-row-2 : goal.Need-slice-aggregate-put-row-2
-slice-aggregate-put-row-2 c = search rules
-
 pub position_from-p-requires : goal.position_from-p-requires
 position_from-p-requires c = size-there 5 _ _ _ c.if-present-eq1.true c.requires.0
 

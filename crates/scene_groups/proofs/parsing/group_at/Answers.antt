@@ -49,28 +49,25 @@ pub position_at-requires : goal.position_at-requires
 position_at-requires c =
     let whole : Whole 27 group c.args.body.now c.args.at = flat-done 27 group _ _ c.requires.0 c.requires.1 in
     let room : c.args.at + (3 + (fives c.part-p.result + (twos c.part-g.result + threes c.part-l.result))) ≤ length c.args.body.now = group-room whole c.wide-flags.ensures c.part-p.ensures c.part-g.ensures c.part-l.ensures in
-    (omega (arith, room (flags (placed c))), flag-below 2 _ (flags (placed c)).before.before.part.ensures)
+    (omega (arith, room), flag-below 2 _ c.part-p.ensures)
 
 pub gain_at-requires : goal.gain_at-requires
 gain_at-requires c =
     let whole : Whole 27 group c.args.body.now c.args.at = flat-done 27 group _ _ c.requires.0 c.requires.1 in
     let room : c.args.at + (3 + (fives c.part-p.result + (twos c.part-g.result + threes c.part-l.result))) ≤ length c.args.body.now = group-room whole c.wide-flags.ensures c.part-p.ensures c.part-g.ensures c.part-l.ensures in
-    let p = placed c.before in
-    (omega (arith, p.before.size.ensures, room), flag-below 1 _ (flags p).before.part2.ensures)
+    (omega (arith, c.size.ensures, room), flag-below 1 _ c.part-g.ensures)
 
 pub language_at-requires : goal.language_at-requires
 language_at-requires c =
     let whole : Whole 27 group c.args.body.now c.args.at = flat-done 27 group _ _ c.requires.0 c.requires.1 in
     let room : c.args.at + (3 + (fives c.part-p.result + (twos c.part-g.result + threes c.part-l.result))) ≤ length c.args.body.now = group-room whole c.wide-flags.ensures c.part-p.ensures c.part-g.ensures c.part-l.ensures in
-    let p = placed c.before.before in
-    (omega (arith, p.size2.ensures, p.before.size.ensures, room), flag-below 0 _ (flags p).part3.ensures)
+    (omega (arith, c.size-2.ensures, c.size.ensures, room), flag-below 0 _ c.part-l.ensures)
 
 pub overflow_add-result : goal.overflow_add-result
 overflow_add-result c =
     let whole : Whole 27 group c.args.body.now c.args.at = flat-done 27 group _ _ c.requires.0 c.requires.1 in
     let room : c.args.at + (3 + (fives c.part-p.result + (twos c.part-g.result + threes c.part-l.result))) ≤ length c.args.body.now = group-room whole c.wide-flags.ensures c.part-p.ensures c.part-g.ensures c.part-l.ensures in
-    let p = placed c.before.before.before.before in
-    omega (arith, c.size-3.ensures, p.size2.ensures, p.before.size.ensures, room, (start (flags p)).well-formed)
+    omega (arith, c.size-3.ensures, c.size-2.ensures, c.size.ensures, room, c.well_formed)
 
 pub returns : goal.returns
 returns c =
@@ -79,14 +76,14 @@ returns c =
     let fields : List ℕ = c.part.result ∷ c.part-2.result
     ∷ c.part-3.result ∷ c.part-4.result ∷ c.part-5.result
     ∷ c.part-6.result ∷ c.part-7.result ∷ [] in
-    let body : List ℕ = (start (flags (placed c))).args.body.now in
-    let begins : ℕ = (start (flags (placed c))).args.at in
-    let fields-so : fields ≡ head_of (get_or body begins 0) (flags (placed c)).before.before.before.before.before.wide2.result (get_or body (begins + 2) 0) = let x = (flags (placed c)).before.before.before.before.before.before.before.wide.ensures in
-    let z = (flags (placed c)).before.before.before.wide3.ensures in
+    let body : List ℕ = c.args.body.now in
+    let begins : ℕ = c.args.at in
+    let fields-so : fields ≡ head_of (get_or body begins 0) c.wide-flags.result (get_or body (begins + 2) 0) = let x = c.wide-id.ensures in
+    let z = c.wide-content.ensures in
     λ i. (c.part.ensures ∙ ap (part 7 1) x) i ∷ (c.part-2.ensures ∙ ap (part 0 7) x) i
     ∷ c.part-3.ensures i ∷ c.part-4.ensures i ∷ c.part-5.ensures i
     ∷ (c.part-6.ensures ∙ ap (part 4 4) z) i ∷ (c.part-7.ensures ∙ ap (part 0 4) z) i ∷ [] in
-    let q = c.before.before.before.before in let f = flags (placed q) in group-done whole
-    f.before.before.before.before.before.wide2.ensures f.before.before.part.ensures f.before.part2.ensures f.part3.ensures
-    q.size.ensures q.size-2.ensures c.size-3.ensures fields-so c.position_at.ensures
+    group-done whole
+    c.wide-flags.ensures c.part-p.ensures c.part-g.ensures c.part-l.ensures
+    c.size.ensures c.size-2.ensures c.size-3.ensures fields-so c.position_at.ensures
     c.gain_at.ensures c.language_at.ensures

@@ -35,28 +35,28 @@ pub bytes_end-requires : goal.bytes_end-requires
 bytes_end-requires c =
     -- behind the three bytes
     let after-1 : Three c.args.body.now c.args.at c.in-At.n = three _ _ c.requires c.head-a.ensures (ap ends_out c.in-At.is) in
-    let flags_of : c.wide-flags.result ≡ get_or (start (first c)).args.body.now ((start (first c)).args.at + 1) 0 = c.wide-flags.ensures in
+    let flags_of : c.wide-flags.result ≡ get_or c.args.body.now (c.args.at + 1) 0 = c.wide-flags.ensures in
     -- behind the single bytes
-    let after-2 : Singly (start (first c)).args.body.now (start (first c)).args.at c.in-At-b.m = singly _ after-1 c.singles.ensures.0 c.head-b.ensures
+    let after-2 : Singly c.args.body.now c.args.at c.in-At-b.m = singly _ after-1 flags_of c.singles.ensures.0 c.head-b.ensures
     (ap ends_out c.in-At-b.is) in
     (after-2.inside, omega arith)
 
 pub returns-then-part-eq1 : goal.returns-then-part-eq1
 returns-then-part-eq1 c =
-    let flags_of : c.wide-flags.result ≡ get_or (start (first c)).args.body.now ((start (first c)).args.at + 1) 0 = c.wide-flags.ensures in
+    let flags_of : c.wide-flags.result ≡ get_or c.args.body.now (c.args.at + 1) 0 = c.wide-flags.ensures in
     -- behind the three bytes
     let after-1 : Three c.args.body.now c.args.at c.in-At.n = three _ _ c.requires c.head-a.ensures (ap ends_out c.in-At.is) in
     -- behind the single bytes
-    let after-2 : Singly (start (first c)).args.body.now (start (first c)).args.at c.in-At-b.m = singly _ after-1 c.singles.ensures.0 c.head-b.ensures
+    let after-2 : Singly c.args.body.now c.args.at c.in-At-b.m = singly _ after-1 flags_of c.singles.ensures.0 c.head-b.ensures
     (ap ends_out c.in-At-b.is) in
     search (with-language, after-2, flags_of)
 
 pub returns-else-part-eq1 : goal.returns-else-part-eq1
 returns-else-part-eq1 c =
-    let flags_of : c.wide-flags.result ≡ get_or (start (first c)).args.body.now ((start (first c)).args.at + 1) 0 = c.wide-flags.ensures in
+    let flags_of : c.wide-flags.result ≡ get_or c.args.body.now (c.args.at + 1) 0 = c.wide-flags.ensures in
     -- behind the three bytes
     let after-1 : Three c.args.body.now c.args.at c.in-At.n = three _ _ c.requires c.head-a.ensures (ap ends_out c.in-At.is) in
     -- behind the single bytes
-    let after-2 : Singly (start (first c)).args.body.now (start (first c)).args.at c.in-At-b.m = singly _ after-1 c.singles.ensures.0 c.head-b.ensures
+    let after-2 : Singly c.args.body.now c.args.at c.in-At-b.m = singly _ after-1 flags_of c.singles.ensures.0 c.head-b.ensures
     (ap ends_out c.in-At-b.is) in
     no-language after-2 flags_of c.part.ensures c.if-part-eq1.false refl

@@ -28,7 +28,7 @@ check_all-p2-requires c =
     let same : c.of_columns-g.result ≡ of = c.of_columns-g.ensures in
     let step-1 : Checked (head_acts of) 3 (At c.args.n) c.check_all-p1.result = let d = rw (c.flags_hold.ensures, same) at c.demand-p0.ensures in
     then d (then (met F.Empty _) (all-checked c.head_bytes.ensures c.check_all-p1.ensures)) in
-    let p = c.before.before.before in (omega (arith, step-1.near, p.requires.0), search rules)
+    (omega (arith, step-1.near, c.requires.0), search rules)
 
 pub check_all-p3-requires : goal.check_all-p3-requires
 check_all-p3-requires c =
@@ -37,9 +37,9 @@ check_all-p3-requires c =
     let same : c.of_columns-g.result ≡ of = c.of_columns-g.ensures in
     let step-1 : Checked (head_acts of) 3 (At c.args.n) c.check_all-p1.result = let d = rw (c.flags_hold.ensures, same) at c.demand-p0.ensures in
     then d (then (met F.Empty _) (all-checked c.head_bytes.ensures c.check_all-p1.ensures)) in
-    let group : SceneGroup = of (first (second c)) in
+    let group : SceneGroup = of in
     let step-2 : Checked (when (eqb group.position.present 1) (map byte (position_fields group.position))) 5 c.check_all-p1.result c.check_all-p2.result = let e = same in all-checked (rw e at c.position_bytes.ensures) (rw e at c.check_all-p2.ensures) in
-    let p = c.before.before.before in (search (rules, step-2, step-1, first (second p)), search rules)
+    (search (rules, step-2, step-1, c.before.before.before.before.before.before.before.before.before.before.before.before.before.before), search rules)
 
 pub check_all-requires : goal.check_all-requires
 check_all-requires c =
@@ -48,22 +48,21 @@ check_all-requires c =
     let same : c.of_columns-g.result ≡ of = c.of_columns-g.ensures in
     let step-1 : Checked (head_acts of) 3 (At c.args.n) c.check_all-p1.result = let d = rw (c.flags_hold.ensures, same) at c.demand-p0.ensures in
     then d (then (met F.Empty _) (all-checked c.head_bytes.ensures c.check_all-p1.ensures)) in
-    let group : SceneGroup = of (first (second c)) in
+    let group : SceneGroup = of in
     let step-2 : Checked (when (eqb group.position.present 1) (map byte (position_fields group.position))) 5 c.check_all-p1.result c.check_all-p2.result = let e = same in all-checked (rw e at c.position_bytes.ensures) (rw e at c.check_all-p2.ensures) in
-    let step-3 : Checked (when (eqb group.gain.present 1) (map byte (gain_fields group.gain))) 2 c.check_all-p2.result c.check_all-p3.result = let e = same (second (third c)) in all-checked (rw e at c.gain_bytes.ensures) (rw e at c.check_all-p3.ensures) in
-    let p = c.before.before.before in (search (rules, step-3, step-2, step-1 (second (third p)), first (second (third p))), search rules)
+    let step-3 : Checked (when (eqb group.gain.present 1) (map byte (gain_fields group.gain))) 2 c.check_all-p2.result c.check_all-p3.result = let e = same in all-checked (rw e at c.gain_bytes.ensures) (rw e at c.check_all-p3.ensures) in
+    (search (rules, step-3, step-2, step-1, c.before.before.before.before.before.before.before.before.before.before.before.before.before.before.before.before.before.before), search rules)
 
 pub returns : goal.returns
 returns c =
     let of : SceneGroup = group_of c.args.groups.now c.args.b in
-    let group : SceneGroup = of (first (second c)) in
+    let group : SceneGroup = of in
     -- the row that was loaded
     let same : c.of_columns-g.result ≡ of = c.of_columns-g.ensures in
     let step-1 : Checked (head_acts of) 3 (At c.args.n) c.check_all-p1.result = let d = rw (c.flags_hold.ensures, same) at c.demand-p0.ensures in
     then d (then (met F.Empty _) (all-checked c.head_bytes.ensures c.check_all-p1.ensures)) in
     let step-2 : Checked (when (eqb group.position.present 1) (map byte (position_fields group.position))) 5 c.check_all-p1.result c.check_all-p2.result = let e = same in all-checked (rw e at c.position_bytes.ensures) (rw e at c.check_all-p2.ensures) in
-    let step-3 : Checked (when (eqb group.gain.present 1) (map byte (gain_fields group.gain))) 2 c.check_all-p2.result c.check_all-p3.result = let e = same (second (third c)) in all-checked (rw e at c.gain_bytes.ensures) (rw e at c.check_all-p3.ensures) in
-    let language : ContentLanguage = (group (third (fourth c))).content_language in
-    let step-4 : Checked (when (eqb language.present 1) (map byte (language_fields language))) 3 c.check_all-p3.result c.check_all.result = let e = same (second (third (fourth c))) in all-checked (rw e at c.language_bytes.ensures) (rw e at c.check_all.ensures) in
-    let p = third (fourth c) in
-    rw (group-acts (group_cols group), append-nil) (then step-1 (then step-2 (then step-3)))
+    let step-3 : Checked (when (eqb group.gain.present 1) (map byte (gain_fields group.gain))) 2 c.check_all-p2.result c.check_all-p3.result = let e = same in all-checked (rw e at c.gain_bytes.ensures) (rw e at c.check_all-p3.ensures) in
+    let language : ContentLanguage = group.content_language in
+    let step-4 : Checked (when (eqb language.present 1) (map byte (language_fields language))) 3 c.check_all-p3.result c.check_all.result = let e = same in all-checked (rw e at c.language_bytes.ensures) (rw e at c.check_all.ensures) in
+    rw (group-acts (group_cols group), append-nil) (then step-1 (then step-2 (then step-3 step-4)))

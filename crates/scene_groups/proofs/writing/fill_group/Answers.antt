@@ -25,8 +25,8 @@ fill_position-n2-requires c =
     let Left : List Act → ℕ → List ℕ → Type 0 = λ left. λ n. λ out. Filling (plain_acts cols) left c.args.n c.args.out.now n out in
     let begin : Left (map byte (head_fields (group_of c.args.groups.now c.args.b)) ++ part_acts cols) c.args.n c.args.out.now = fill-demand (fill-demand (fill_start (rw (group-acts cols) at c.requires.1))) in
     let step-1 : Left (part_acts cols) c.fill_all-n1.result c.fill_all-n1.new.out = fill-part _ c.head_bytes.ensures begin c.fill_all-n1.ensures in
-    let d = c.before.before.before in let s = d.args in
-    (d.requires.0, fill-row (position_part (position_of s.groups.now s.b)) (gain_acts cols) step-1 refl)
+    let s = c.args in
+    (c.requires.0, fill-row (position_part (position_of s.groups.now s.b)) (gain_acts cols) step-1 refl)
 
 pub fill_gain-n3-requires : goal.fill_gain-n3-requires
 fill_gain-n3-requires c =
@@ -34,9 +34,8 @@ fill_gain-n3-requires c =
     let Left : List Act → ℕ → List ℕ → Type 0 = λ left. λ n. λ out. Filling (plain_acts cols) left c.args.n c.args.out.now n out in
     let begin : Left (map byte (head_fields (group_of c.args.groups.now c.args.b)) ++ part_acts cols) c.args.n c.args.out.now = fill-demand (fill-demand (fill_start (rw (group-acts cols) at c.requires.1))) in
     let step-1 : Left (part_acts cols) c.fill_all-n1.result c.fill_all-n1.new.out = fill-part _ c.head_bytes.ensures begin c.fill_all-n1.ensures in
-    let step-2 : Left (first (second c)) (gain_acts (cols (first (second c)))) c.fill_position-n2.result c.fill_position-n2.new.b.1.0 = let w = c.fill_position-n2.ensures in fill-turn step-1 (filled-long w) w in
-    let d = c.before.before.before in let s = first (second d) in
-    (s.pre.0, fill-row (gain_part (gain_of s.args.groups.now s.args.b)) (language_acts cols) step-2 refl)
+    let step-2 : Left (gain_acts cols) c.fill_position-n2.result c.fill_position-n2.new.out = let w = c.fill_position-n2.ensures in fill-turn step-1 refl (filled-long w) w in
+    (c.requires.0, fill-row (gain_part (gain_of c.args.groups.now c.args.b)) (language_acts cols) step-2 refl)
 
 pub fill_language-requires : goal.fill_language-requires
 fill_language-requires c =
@@ -44,10 +43,9 @@ fill_language-requires c =
     let Left : List Act → ℕ → List ℕ → Type 0 = λ left. λ n. λ out. Filling (plain_acts cols) left c.args.n c.args.out.now n out in
     let begin : Left (map byte (head_fields (group_of c.args.groups.now c.args.b)) ++ part_acts cols) c.args.n c.args.out.now = fill-demand (fill-demand (fill_start (rw (group-acts cols) at c.requires.1))) in
     let step-1 : Left (part_acts cols) c.fill_all-n1.result c.fill_all-n1.new.out = fill-part _ c.head_bytes.ensures begin c.fill_all-n1.ensures in
-    let step-2 : Left (first (second c)) (gain_acts (cols (first (second c)))) c.fill_position-n2.result c.fill_position-n2.new.b.1.0 = let w = c.fill_position-n2.ensures in fill-turn step-1 (filled-long w) w in
-    let step-3 : Left (first (second (third c))) (language_acts (cols (first (second (third c))))) c.fill_gain-n3.result c.fill_gain-n3.new.b.1.0 = let w = c.fill_gain-n3.ensures in fill-turn step-2 (filled-long w) w in
-    let d = c.before.before.before in let s = first (second (third d)) in
-    (s.pre.0, fill-row (language_part (language_of s.args.groups.now s.args.b)) [] step-3 refl)
+    let step-2 : Left (gain_acts cols) c.fill_position-n2.result c.fill_position-n2.new.out = let w = c.fill_position-n2.ensures in fill-turn step-1 refl (filled-long w) w in
+    let step-3 : Left (language_acts cols) c.fill_gain-n3.result c.fill_gain-n3.new.out = let w = c.fill_gain-n3.ensures in fill-turn step-2 refl (filled-long w) w in
+    (c.requires.0, fill-row (language_part (language_of c.args.groups.now c.args.b)) [] step-3 refl)
 
 pub shape_of-out : goal.shape_of-out
 shape_of-out c =
@@ -55,9 +53,9 @@ shape_of-out c =
     let Left : List Act → ℕ → List ℕ → Type 0 = λ left. λ n. λ out. Filling (plain_acts cols) left c.args.n c.args.out.now n out in
     let begin : Left (map byte (head_fields (group_of c.args.groups.now c.args.b)) ++ part_acts cols) c.args.n c.args.out.now = fill-demand (fill-demand (fill_start (rw (group-acts cols) at c.requires.1))) in
     let step-1 : Left (part_acts cols) c.fill_all-n1.result c.fill_all-n1.new.out = fill-part _ c.head_bytes.ensures begin c.fill_all-n1.ensures in
-    let step-2 : Left (first (second c)) (gain_acts (cols (first (second c)))) c.fill_position-n2.result c.fill_position-n2.new.b.1.0 = let w = c.fill_position-n2.ensures in fill-turn step-1 (filled-long w) w in
-    let step-3 : Left (first (second (third c))) (language_acts (cols (first (second (third c))))) c.fill_gain-n3.result c.fill_gain-n3.new.b.1.0 = let w = c.fill_gain-n3.ensures in fill-turn step-2 (filled-long w) w in
-    let step-4 : Left (first (second (third (fourth c)))) [] c.fill_language.result c.fill_language.new.b.1.0 = let w = c.fill_language.ensures in fill-turn step-3 (filled-long w) w in
+    let step-2 : Left (gain_acts cols) c.fill_position-n2.result c.fill_position-n2.new.out = let w = c.fill_position-n2.ensures in fill-turn step-1 refl (filled-long w) w in
+    let step-3 : Left (language_acts cols) c.fill_gain-n3.result c.fill_gain-n3.new.out = let w = c.fill_gain-n3.ensures in fill-turn step-2 refl (filled-long w) w in
+    let step-4 : Left [] c.fill_language.result c.fill_language.new.out = let w = c.fill_language.ensures in fill-turn step-3 refl (filled-long w) w in
     step-4.size
 
 pub returns : goal.returns
@@ -66,7 +64,7 @@ returns c =
     let Left : List Act → ℕ → List ℕ → Type 0 = λ left. λ n. λ out. Filling (plain_acts cols) left c.args.n c.args.out.now n out in
     let begin : Left (map byte (head_fields (group_of c.args.groups.now c.args.b)) ++ part_acts cols) c.args.n c.args.out.now = fill-demand (fill-demand (fill_start (rw (group-acts cols) at c.requires.1))) in
     let step-1 : Left (part_acts cols) c.fill_all-n1.result c.fill_all-n1.new.out = fill-part _ c.head_bytes.ensures begin c.fill_all-n1.ensures in
-    let step-2 : Left (first (second c)) (gain_acts (cols (first (second c)))) c.fill_position-n2.result c.fill_position-n2.new.b.1.0 = let w = c.fill_position-n2.ensures in fill-turn step-1 (filled-long w) w in
-    let step-3 : Left (first (second (third c))) (language_acts (cols (first (second (third c))))) c.fill_gain-n3.result c.fill_gain-n3.new.b.1.0 = let w = c.fill_gain-n3.ensures in fill-turn step-2 (filled-long w) w in
-    let step-4 : Left (first (second (third (fourth c)))) [] c.fill_language.result c.fill_language.new.b.1.0 = let w = c.fill_language.ensures in fill-turn step-3 (filled-long w) w in
-    let d = c.before.before in rw (group-acts (cols (first (second (third (fourth d)))))) (fill_end step-4 refl)
+    let step-2 : Left (gain_acts cols) c.fill_position-n2.result c.fill_position-n2.new.out = let w = c.fill_position-n2.ensures in fill-turn step-1 refl (filled-long w) w in
+    let step-3 : Left (language_acts cols) c.fill_gain-n3.result c.fill_gain-n3.new.out = let w = c.fill_gain-n3.ensures in fill-turn step-2 refl (filled-long w) w in
+    let step-4 : Left [] c.fill_language.result c.fill_language.new.out = let w = c.fill_language.ensures in fill-turn step-3 refl (filled-long w) w in
+    rw (group-acts cols) (fill_end step-4 refl)

@@ -19,7 +19,7 @@ fill_group-at-requires c =
 pub loop-i-preserved : goal.loop-i-preserved
 loop-i-preserved c =
     let w = rw row-acts at c.fill_group-at.ensures in
-    (omega arith, fill-turn c.loop-i.invariant.1 (rows-turn _ _ _ c.loop-i-test.true) c.fill_group-at.auto.1.1.0 w)
+    (omega arith, fill-turn c.loop-i.invariant.1 (rows-turn _ _ _ c.loop-i-test.true) c.fill_group-at.auto.out w)
 
 pub shape_of-out : goal.shape_of-out
 shape_of-out c =

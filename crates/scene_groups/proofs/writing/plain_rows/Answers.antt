@@ -28,8 +28,7 @@ overflow_add-bytes c =
     omega (arith, turn.few, c.loop-i-test.true, c.requires.1)
 
 pub overflow_add-b : goal.overflow_add-b
-overflow_add-b c =
-    omega (arith, c.loop-i.invariant.0, c.loop-i-test.true, c.requires.1)
+overflow_add-b c = omega (arith, c.loop-i.invariant.0, c.loop-i-test.true, c.requires.1)
 
 pub loop-i-preserved : goal.loop-i-preserved
 loop-i-preserved c =

@@ -16,11 +16,11 @@ pub copy_payload-requires : goal.copy_payload-requires
 unfolding kind
 copy_payload-requires c =
     let lent : Lent = c.args.groups.now ∷ c.args.switch_groups.now ∷ c.args.members.now ∷ c.args.presets.now ∷ c.args.conditions.now ∷ [] in
-    run-ready kind (scene-acts c.args.m lent c.args.store.now) c.requires c.fill_fields-n.auto.1.1.1.1.1.1.0 c.fill_fields-n.ensures
+    run-ready kind (scene-acts c.args.m lent c.args.store.now) c.requires c.fill_fields-n.auto.out c.fill_fields-n.ensures
 
 pub returns : goal.returns
 unfolding kind
 returns c =
     let lent : Lent = c.args.groups.now ∷ c.args.switch_groups.now ∷ c.args.members.now ∷ c.args.presets.now ∷ c.args.conditions.now ∷ [] in
-    all-filled kind (scene-acts c.args.m lent c.args.store.now) c.requires c.fill_fields-n.auto.1.1.1.1.1.1.0 c.fill_fields-n.ensures
+    all-filled kind (scene-acts c.args.m lent c.args.store.now) c.requires c.fill_fields-n.auto.out c.fill_fields-n.ensures
     c.copy_payload.ensures

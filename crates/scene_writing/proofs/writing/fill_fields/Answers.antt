@@ -38,7 +38,7 @@ fill_groups_section-n2-requires c =
     let all : List Act = scene_acts c.args.m (c.args.groups.now ∷ c.args.switch_groups.now ∷ c.args.members.now ∷ c.args.presets.now ∷ c.args.conditions.now ∷ []) in
     let begin : Filling all (when true (map byte (head_bytes c.args.m)) ++ (in-groups ++ (in-switches ++ in-presets))) 0 c.args.out.now 0 c.args.out.now = fill-demand (fill-demand (fill-demand (fill_start c.requires))) in
     let behind-head : Filling all (in-groups ++ (in-switches ++ in-presets)) 0 c.args.out.now c.fill_all-n1.result c.fill_all-n1.new.out = fill-part _ c.head_bytes.ensures begin c.fill_all-n1.ensures in
-    (inside.groups, fill-row in-groups behind-head refl)
+    (inside.groups, fill-row in-groups _ behind-head refl)
 
 pub fill_switch_groups_section-n3-requires : goal.fill_switch_groups_section-n3-requires
 unfolding scene_acts first_table other_tables
@@ -51,9 +51,8 @@ fill_switch_groups_section-n3-requires c =
     let in-groups : List Act = groups_acts c.args.m (row_acts c.args.groups.now) in
     let begin : Filling all (when true (map byte (head_bytes c.args.m)) ++ (in-groups ++ (in-switches ++ in-presets))) 0 c.args.out.now 0 c.args.out.now = fill-demand (fill-demand (fill-demand (fill_start c.requires))) in
     let behind-head : Filling all (in-groups ++ (in-switches ++ in-presets)) 0 c.args.out.now c.fill_all-n1.result c.fill_all-n1.new.out = fill-part _ c.head_bytes.ensures begin c.fill_all-n1.ensures in
-    let behind-groups : Filling (all (start-1 (back-2 c))) (in-switches (start-1 (back-2 c)) ++ in-presets (start-1 (back-2 c))) 0 (start-1 (back-2 c)).args.out.now c.fill_groups_section-n2.result c.fill_groups_section-n2.new.groups.1.0 = fill-turn behind-head c.fill_groups_section-n2.auto.1.1.0 c.fill_groups_section-n2.ensures in
-    let d = c.before.before.before in
-    ((inside (start-1 (back-2 d))).switches, fill-row (in-switches (start-1 (back-2 d))) _ behind-groups refl)
+    let behind-groups : Filling all (in-switches ++ in-presets) 0 c.args.out.now c.fill_groups_section-n2.result c.fill_groups_section-n2.new.out = fill-turn behind-head refl c.fill_groups_section-n2.auto.out c.fill_groups_section-n2.ensures in
+    (inside.switches, fill-row in-switches _ behind-groups refl)
 
 pub fill_presets_section-requires : goal.fill_presets_section-requires
 unfolding scene_acts first_table other_tables
@@ -66,10 +65,9 @@ fill_presets_section-requires c =
     let in-groups : List Act = groups_acts c.args.m (row_acts c.args.groups.now) in
     let begin : Filling all (when true (map byte (head_bytes c.args.m)) ++ (in-groups ++ (in-switches ++ in-presets))) 0 c.args.out.now 0 c.args.out.now = fill-demand (fill-demand (fill-demand (fill_start c.requires))) in
     let behind-head : Filling all (in-groups ++ (in-switches ++ in-presets)) 0 c.args.out.now c.fill_all-n1.result c.fill_all-n1.new.out = fill-part _ c.head_bytes.ensures begin c.fill_all-n1.ensures in
-    let behind-groups : Filling (all (start-1 (back-2 c))) (in-switches (start-1 (back-2 c)) ++ in-presets (start-1 (back-2 c))) 0 (start-1 (back-2 c)).args.out.now c.fill_groups_section-n2.result c.fill_groups_section-n2.new.groups.1.0 = fill-turn behind-head c.fill_groups_section-n2.auto.1.1.0 c.fill_groups_section-n2.ensures in
-    let behind-switches : Filling (all (start-1 (back-2 (back-3 c)))) (in-presets (start-1 (back-2 (back-3 c)))) 0 (start-1 (back-2 (back-3 c))).args.out.now c.fill_switch_groups_section-n3.result c.fill_switch_groups_section-n3.new.switch_groups.1.1.0 = fill-turn behind-groups c.fill_switch_groups_section-n3.auto.1.1.1.0 c.fill_switch_groups_section-n3.ensures in
-    let d = c.before.before.before in
-    ((inside (start-1 (back-2 (back-3 d)))).presets, behind-switches.ready)
+    let behind-groups : Filling all (in-switches ++ in-presets) 0 c.args.out.now c.fill_groups_section-n2.result c.fill_groups_section-n2.new.out = fill-turn behind-head refl c.fill_groups_section-n2.auto.out c.fill_groups_section-n2.ensures in
+    let behind-switches : Filling all in-presets 0 c.args.out.now c.fill_switch_groups_section-n3.result c.fill_switch_groups_section-n3.new.out = fill-turn behind-groups refl c.fill_switch_groups_section-n3.auto.out c.fill_switch_groups_section-n3.ensures in
+    (inside.presets, behind-switches.ready)
 
 pub returns : goal.returns
 unfolding scene_acts first_table other_tables
@@ -81,6 +79,6 @@ returns c =
     let in-groups : List Act = groups_acts c.args.m (row_acts c.args.groups.now) in
     let begin : Filling all (when true (map byte (head_bytes c.args.m)) ++ (in-groups ++ (in-switches ++ in-presets))) 0 c.args.out.now 0 c.args.out.now = fill-demand (fill-demand (fill-demand (fill_start c.requires))) in
     let behind-head : Filling all (in-groups ++ (in-switches ++ in-presets)) 0 c.args.out.now c.fill_all-n1.result c.fill_all-n1.new.out = fill-part _ c.head_bytes.ensures begin c.fill_all-n1.ensures in
-    let behind-groups : Filling (all (start-1 (back-2 c))) (in-switches (start-1 (back-2 c)) ++ in-presets (start-1 (back-2 c))) 0 (start-1 (back-2 c)).args.out.now c.fill_groups_section-n2.result c.fill_groups_section-n2.new.groups.1.0 = fill-turn behind-head c.fill_groups_section-n2.auto.1.1.0 c.fill_groups_section-n2.ensures in
-    let behind-switches : Filling (all (start-1 (back-2 (back-3 c)))) (in-presets (start-1 (back-2 (back-3 c)))) 0 (start-1 (back-2 (back-3 c))).args.out.now c.fill_switch_groups_section-n3.result c.fill_switch_groups_section-n3.new.switch_groups.1.1.0 = fill-turn behind-groups c.fill_switch_groups_section-n3.auto.1.1.1.0 c.fill_switch_groups_section-n3.ensures in
+    let behind-groups : Filling all (in-switches ++ in-presets) 0 c.args.out.now c.fill_groups_section-n2.result c.fill_groups_section-n2.new.out = fill-turn behind-head refl c.fill_groups_section-n2.auto.out c.fill_groups_section-n2.ensures in
+    let behind-switches : Filling all in-presets 0 c.args.out.now c.fill_switch_groups_section-n3.result c.fill_switch_groups_section-n3.new.out = fill-turn behind-groups refl c.fill_switch_groups_section-n3.auto.out c.fill_switch_groups_section-n3.ensures in
     fill-last behind-switches c.fill_presets_section.ensures

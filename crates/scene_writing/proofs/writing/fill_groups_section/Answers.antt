@@ -20,8 +20,7 @@ fill_groups-requires c =
     let whole : List Act = groups_acts c.args.m (row_acts c.args.groups.now) in
     let behind : Filling whole (rows (row_acts c.args.groups.now) 0 c.args.m.groups.count) c.args.n c.args.out.now c.fill_all-n1.result c.fill_all-n1.new.out = fill-part _ c.count_byte.ensures (section-begins _ _ _ c.if-s.true c.requires.1) c.fill_all-n1.ensures in
     let w = behind in
-    let z = start c.before.before.before in
-    (rows-there _ _ 27 _ (omega arith) z.pre.0 c.if-s.true, omega (arith, z.good), w.ready)
+    (rows-there _ _ 27 _ (omega arith) c.requires.0 c.if-s.true, omega (arith, c.well_formed), w.ready)
 
 pub returns-then-s : goal.returns-then-s
 returns-then-s c =

@@ -21,15 +21,14 @@ fill_all-n1-requires c =
 pub fill_switch_groups-requires : goal.fill_switch_groups-requires
 fill_switch_groups-requires c =
     let row : ℕ → List Act = family_acts switch_group 2 member c.args.switch_groups.now c.args.members.now in
-    let behind : Filling (switch_groups_acts c.args.m row) (rows row c.args.m.switch_groups.count) c.args.n c.args.out.now c.fill_all-n1.result c.fill_all-n1.new.out = fill-part _ c.count_byte.ensures (section-begins _ _ _ c.if-s.true c.requires.1) c.fill_all-n1.ensures in
+    let behind : Filling (switch_groups_acts c.args.m row) (rows row 0 c.args.m.switch_groups.count) c.args.n c.args.out.now c.fill_all-n1.result c.fill_all-n1.new.out = fill-part _ c.count_byte.ensures (section-begins _ _ _ c.if-s.true c.requires.1) c.fill_all-n1.ensures in
     let w = behind in
-    let z = start c.before.before.before in
-    (rows-there _ _ 9 _ (omega arith) z.pre.0 c.if-s.true, omega (arith, z.good), w.ready)
+    (rows-there _ _ 9 _ (omega arith) c.requires.0 c.if-s.true, omega (arith, c.well_formed), w.ready)
 
 pub returns-then-s : goal.returns-then-s
 returns-then-s c =
     let row : ℕ → List Act = family_acts switch_group 2 member c.args.switch_groups.now c.args.members.now in
-    let behind : Filling (switch_groups_acts c.args.m row) (rows row c.args.m.switch_groups.count) c.args.n c.args.out.now c.fill_all-n1.result c.fill_all-n1.new.out = fill-part _ c.count_byte.ensures (section-begins _ _ _ c.if-s.true c.requires.1) c.fill_all-n1.ensures in
+    let behind : Filling (switch_groups_acts c.args.m row) (rows row 0 c.args.m.switch_groups.count) c.args.n c.args.out.now c.fill_all-n1.result c.fill_all-n1.new.out = fill-part _ c.count_byte.ensures (section-begins _ _ _ c.if-s.true c.requires.1) c.fill_all-n1.ensures in
     fill-last behind c.fill_switch_groups.ensures
 
 pub returns-else-s : goal.returns-else-s

@@ -18,11 +18,9 @@ head-requires c =
 
 pub returns-then-part-eq0 : goal.returns-then-part-eq0
 returns-then-part-eq0 c =
-    let d = c.before.before.before in
-    group-outside _ _ d.byte_at-a.ensures.is d.requires (ap byte_out d.in-Got.is) c.part.ensures
+    group-outside _ _ c.byte_at-a.ensures.is c.requires (ap byte_out c.in-Got.is) c.part.ensures
     c.if-part-eq0.true c.head.ensures
 
 pub returns : goal.returns
 returns c =
-    let d = c.before.before in
-    group-main _ _ d.byte_at-a.ensures.is d.requires (ap byte_out d.in-Got.is) c.part.ensures c.if-part-eq0.false
+    group-main _ _ c.byte_at-a.ensures.is c.requires (ap byte_out c.in-Got.is) c.part.ensures c.if-part-eq0.false

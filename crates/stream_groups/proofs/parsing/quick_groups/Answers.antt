@@ -1,10 +1,10 @@
 use Prim.Native.Nat.{◌+◌, ◌-◌}
 use mathlib.Core.Path.{refl}
-use mathlib.Core.Logic.{⊎_elim}
 use native.Mathlib.Omega.{arith}
 use Rattle.stream_groups.proofs.Taken.{Sparing, spare-turn}
 use borrow.Author.Rules.{rules}
 use Rattle.stream_groups.proofs.parsing.quick_groups.Goals as goal
+use Rattle.stream_groups.proofs.parsing.quick_groups.Goals.{then-part-eq0+else-spare-eq0, else-part-eq0}
 
 pub loop-left-init : goal.loop-left-init
 loop-left-init c = record { measures = record { inside = omega arith; same = refl }; room = omega arith }
@@ -24,8 +24,10 @@ overflow_add-pos-in-loop-left c =
     let t = c.loop-left-test.true in
     let e = c.wide.ensures in
     let q = c.part.ensures in
-    ⊎_elim (λ w. spare-turn i t e q 1 (omega arith) (omega arith) w.2 w.3)
-    (λ w. spare-turn i t e q 0 (omega arith) (omega arith) (omega arith) (omega arith)) c.if-part-eq0.branch in
+    elim c.if-part-eq0.branch [
+      | then-part-eq0+else-spare-eq0 w ↦ spare-turn i t e q 1 (omega arith) (omega arith) w.spare-is w.pos-is
+      | else-part-eq0 w ↦ spare-turn i t e q 0 (omega arith) (omega arith) (omega arith) (omega arith)
+    ] in
     omega (arith, passed.room)
 
 pub loop-left-preserved : goal.loop-left-preserved
@@ -35,8 +37,10 @@ loop-left-preserved c =
     let t = c.loop-left-test.true in
     let e = c.wide.ensures in
     let q = c.part.ensures in
-    ⊎_elim (λ w. spare-turn i t e q 1 (omega arith) (omega arith) w.2 w.3)
-    (λ w. spare-turn i t e q 0 (omega arith) (omega arith) (omega arith) (omega arith)) c.if-part-eq0.branch in
+    elim c.if-part-eq0.branch [
+      | then-part-eq0+else-spare-eq0 w ↦ spare-turn i t e q 1 (omega arith) (omega arith) w.spare-is w.pos-is
+      | else-part-eq0 w ↦ spare-turn i t e q 0 (omega arith) (omega arith) (omega arith) (omega arith)
+    ] in
     passed
 
 pub returns : goal.returns

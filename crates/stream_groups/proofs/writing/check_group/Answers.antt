@@ -25,13 +25,12 @@ check_all-requires c =
     let step-1 : Checked (head_acts c.args.g) 1 (At c.args.n) c.check_all-p2.result = let d = rw c.flags_hold.ensures at c.demand-p0.ensures in
     let a = rw c.placed_once.ensures at c.demand-p1.ensures in
     then d (then (met F.Empty _) (then a (all-checked (more c.group_byte.ensures none) c.check_all-p2.ensures))) in
-    let p = c.before.before.before in (omega (arith, step-1.near, p.requires), search rules)
+    (omega (arith, step-1.near, c.requires), search rules)
 
 pub returns : goal.returns
 returns c =
     let step-1 : Checked (head_acts c.args.g) 1 (At c.args.n) c.check_all-p2.result = let d = rw c.flags_hold.ensures at c.demand-p0.ensures in
     let a = rw c.placed_once.ensures at c.demand-p1.ensures in
     then d (then (met F.Empty _) (then a (all-checked (more c.group_byte.ensures none) c.check_all-p2.ensures))) in
-    let p = c.before.before.before.before in
     let l = all-checked (more c.location_byte.ensures none) c.check_all.ensures in
-    rw (group-acts (group_cols p.args.g), append-nil) (then step-1 l)
+    rw (group-acts (group_cols c.args.g), append-nil) (then step-1 l)

@@ -23,14 +23,13 @@ fill_location-requires c =
     let Left : List Act → ℕ → List ℕ → Type 0 = λ left. λ n. λ out. Filling (plain_acts (group_cols c.args.g)) left c.args.n c.args.out.now n out in
     let begin : Left (map byte (group_byte c.args.g ∷ []) ++ location_acts (group_cols c.args.g)) c.args.n c.args.out.now = fill-demand (fill-demand (fill-demand (fill_start (rw (group-acts (group_cols c.args.g)) at c.requires)))) in
     let step-1 : Left (location_acts (group_cols c.args.g)) c.fill_all-n1.result c.fill_all-n1.new.out = fill-part _ (more c.group_byte.ensures none) begin c.fill_all-n1.ensures in
-    let d = c.before.before.before in fill-row (location_part d.args.g.auxiliary) [] step-1 refl
+    fill-row (location_part c.args.g.auxiliary) [] step-1 refl
 
 pub returns : goal.returns
 returns c =
     let Left : List Act → ℕ → List ℕ → Type 0 = λ left. λ n. λ out. Filling (plain_acts (group_cols c.args.g)) left c.args.n c.args.out.now n out in
     let begin : Left (map byte (group_byte c.args.g ∷ []) ++ location_acts (group_cols c.args.g)) c.args.n c.args.out.now = fill-demand (fill-demand (fill-demand (fill_start (rw (group-acts (group_cols c.args.g)) at c.requires)))) in
     let step-1 : Left (location_acts (group_cols c.args.g)) c.fill_all-n1.result c.fill_all-n1.new.out = fill-part _ (more c.group_byte.ensures none) begin c.fill_all-n1.ensures in
-    let d = c.before.before in
-    let w = d.fill_location.ensures in
-    let s = (first (second d)).args.g in
-    rw (group-acts (group_cols s)) (fill_end (fill-turn step-1 (filled-long w) w) refl)
+    let w = c.fill_location.ensures in
+    let s = c.args.g in
+    rw (group-acts (group_cols s)) (fill_end (fill-turn step-1 refl (filled-long w) w) refl)

@@ -22,16 +22,14 @@ pub returns-then-two_fit : goal.returns-then-two_fit
 returns-then-two_fit c =
     let cols : Columns = group_cols (group_of c.args.groups.now c.args.b) in
     let small : cols 1 < 65536 = let l = c.type_inv.groups (c.args.b + 1) in omega arith in
-    let p = paired c.before in
-    plain-located cols p.pair.ensures small c.if-flags-eq65536.true p.before.before.before.if1.left
+    plain-located cols c.pair-flags.ensures small c.if-flags-eq65536.true c.if-groups-b-ge128.false
     (sym c.two_fit.ensures ∙ c.if-two_fit.true)
 
 pub returns-else-two_fit : goal.returns-else-two_fit
 returns-else-two_fit c =
     let cols : Columns = group_cols (group_of c.args.groups.now c.args.b) in
     let small : cols 1 < 65536 = let l = c.type_inv.groups (c.args.b + 1) in omega arith in
-    let p = paired c.before in
-    odd-location cols p.pair.ensures small c.if-flags-eq65536.true (sym c.two_fit.ensures ∙ c.if-two_fit.false)
+    odd-location cols c.pair-flags.ensures small c.if-flags-eq65536.true (sym c.two_fit.ensures ∙ c.if-two_fit.false)
 
 pub returns-else-flags-eq65536 : goal.returns-else-flags-eq65536
 returns-else-flags-eq65536 c =

@@ -1,8 +1,8 @@
 -- `writing::plain_bytes` meets its contract: a fault of its own, one of a member, or none.
-use mathlib.Core.Logic.{⊎_elim}
 use Rattle.switch_groups.proofs.Writes.{row-uncounted, row-odd, row-behind, row_plain, row-odd-kid}
 use borrow.Author.Rules.{rules}
 use Rattle.switch_groups.proofs.writing.plain_bytes.Goals as goal
+use Rattle.switch_groups.proofs.writing.plain_bytes.Goals.{else-counted-via-then-counted+else-fields_fit, else-counted-via-else-counted}
 
 pub plain_pairs-requires : goal.plain_pairs-requires
 plain_pairs-requires c =
@@ -18,5 +18,7 @@ returns-else-plain_pairs-count c = search row-odd-kid
 pub returns-else-counted : goal.returns-else-counted
 returns-else-counted c =
     let a = c.args in
-    ⊎_elim (λ w. row-odd a.members.now a.g c.in_table.ensures w.0.taken w.1.ensures w.2.left)
-    (λ w. row-uncounted a.members.now a.g c.in_table.ensures w.left) c.else-counted.branch
+    elim c.else-counted.branch [
+      | else-counted-via-then-counted+else-fields_fit w ↦ row-odd a.members.now a.g c.in_table.ensures w.if-counted.true w.fields_fit.ensures w.if-fields_fit.false
+      | else-counted-via-else-counted w ↦ row-uncounted a.members.now a.g c.in_table.ensures w.if-counted.false
+    ]

@@ -14,21 +14,21 @@ loop-i-init c = (omega arith, going_start _ 35 _)
 
 pub returns-then-k-eq0 : goal.returns-then-k-eq0
 returns-then-k-eq0 c =
-    let row-so : let a = c.args in Quick (family_acts switch_group 2 member a.switch-groups.now a.members.now c.loop-i.i) 35 c.plain_bytes-k.result = let a = c.args in
-    row-quick a.switch-groups.now a.members.now c.loop-i.i c.of_columns.ensures c.loop-i.invariant.0 c.plain_bytes-k.ensures in
+    let row-so : let a = c.args in Quick (family_acts switch_group 2 member a.switch_groups.now a.members.now c.loop-i.i) 35 c.plain_bytes-k.result = let a = c.args in
+    row-quick a.switch_groups.now a.members.now c.loop-i.i c.of_columns.ensures c.loop-i.invariant.0 c.plain_bytes-k.ensures in
     search (going-odd, row-so)
 
 pub overflow_add-bytes : goal.overflow_add-bytes
 overflow_add-bytes c =
-    let row-so : let a = c.args in Quick (family_acts switch_group 2 member a.switch-groups.now a.members.now c.loop-i.i) 35 c.plain_bytes-k.result = let a = c.args in
-    row-quick a.switch-groups.now a.members.now c.loop-i.i c.of_columns.ensures c.loop-i.invariant.0 c.plain_bytes-k.ensures in
+    let row-so : let a = c.args in Quick (family_acts switch_group 2 member a.switch_groups.now a.members.now c.loop-i.i) 35 c.plain_bytes-k.result = let a = c.args in
+    row-quick a.switch_groups.now a.members.now c.loop-i.i c.of_columns.ensures c.loop-i.invariant.0 c.plain_bytes-k.ensures in
     let l = c.if-k-eq0.false in
     omega (arith, (going-turn c.loop-i.invariant.1 row-so c.loop-i-test.true (omega (arith, l))).few, c.loop-i-test.true, c.requires.1)
 
 pub loop-i-preserved : goal.loop-i-preserved
 loop-i-preserved c =
-    let row-so : let a = c.args in Quick (family_acts switch_group 2 member a.switch-groups.now a.members.now c.loop-i.i) 35 c.plain_bytes-k.result = let a = c.args in
-    row-quick a.switch-groups.now a.members.now c.loop-i.i c.of_columns.ensures c.loop-i.invariant.0 c.plain_bytes-k.ensures in
+    let row-so : let a = c.args in Quick (family_acts switch_group 2 member a.switch_groups.now a.members.now c.loop-i.i) 35 c.plain_bytes-k.result = let a = c.args in
+    row-quick a.switch_groups.now a.members.now c.loop-i.i c.of_columns.ensures c.loop-i.invariant.0 c.plain_bytes-k.ensures in
     let l = c.if-k-eq0.false in
     (omega (arith, c.loop-i.invariant.0), going-turn c.loop-i.invariant.1 row-so c.loop-i-test.true (omega (arith, l)))
 

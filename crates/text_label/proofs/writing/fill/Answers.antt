@@ -11,11 +11,11 @@ fill_fields-n-requires c = fields-ready kind (acts-are c.args.m c.args.languages
 pub copy-requires : goal.copy-requires
 unfolding kind
 copy-requires c =
-    run-ready kind (acts-are c.args.m c.args.languages.now c.args.entries.now c.args.store.now) c.requires c.fill_fields-n.auto.1.1.1.1.0
+    run-ready kind (acts-are c.args.m c.args.languages.now c.args.entries.now c.args.store.now) c.requires c.fill_fields-n.auto.out
     c.fill_fields-n.ensures
 
 pub returns : goal.returns
 unfolding kind
 returns c =
-    all-filled kind (acts-are c.args.m c.args.languages.now c.args.entries.now c.args.store.now) c.requires c.fill_fields-n.auto.1.1.1.1.0
+    all-filled kind (acts-are c.args.m c.args.languages.now c.args.entries.now c.args.store.now) c.requires c.fill_fields-n.auto.out
     c.fill_fields-n.ensures c.copy.ensures

@@ -25,8 +25,8 @@ fill_languages-requires c =
     let all : List Act = text_label_acts c.args.m c.args.languages.now c.args.entries.now c.args.store.now in
     let in-languages : List Act = rows (row_acts c.args.languages.now c.args.entries.now c.args.store.now) 0 c.args.m.languages in
     let begin : Filling all (when true (map byte (head_fields c.args.m)) ++ in-languages) 0 c.args.out.now 0 c.args.out.now = fill-demand (fill-demand (fill-demand (fill_start c.requires))) in
-    let behind : Filling all in-languages c.args.out.now c.fill_all-n.result c.fill_all-n.new.out = fill-part _ c.head_bytes.ensures begin c.fill_all-n.ensures in
-    let d = c.before.before.before in (languages-there d.args.m.languages d.args.languages.now refl (demanded d.requires), omega (arith, d.well_formed), behind.ready)
+    let behind : Filling all in-languages 0 c.args.out.now c.fill_all-n.result c.fill_all-n.new.out = fill-part _ c.head_bytes.ensures begin c.fill_all-n.ensures in
+    (languages-there c.args.m.languages c.args.languages.now refl (demanded c.requires), omega (arith, c.well_formed), behind.ready)
 
 pub returns : goal.returns
 unfolding text_label_acts
@@ -34,5 +34,5 @@ returns c =
     let all : List Act = text_label_acts c.args.m c.args.languages.now c.args.entries.now c.args.store.now in
     let in-languages : List Act = rows (row_acts c.args.languages.now c.args.entries.now c.args.store.now) 0 c.args.m.languages in
     let begin : Filling all (when true (map byte (head_fields c.args.m)) ++ in-languages) 0 c.args.out.now 0 c.args.out.now = fill-demand (fill-demand (fill-demand (fill_start c.requires))) in
-    let behind : Filling all in-languages c.args.out.now c.fill_all-n.result c.fill_all-n.new.out = fill-part _ c.head_bytes.ensures begin c.fill_all-n.ensures in
+    let behind : Filling all in-languages 0 c.args.out.now c.fill_all-n.result c.fill_all-n.new.out = fill-part _ c.head_bytes.ensures begin c.fill_all-n.ensures in
     fill-last behind c.fill_languages.ensures

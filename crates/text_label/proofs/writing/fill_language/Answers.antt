@@ -47,7 +47,7 @@ fill_list-n3-requires c =
     let left-1 : List Act = list_acts 7 c.args.entries.now c.args.store.now c.args.l.groups ++ left-2 in
     let after-0 : Filling all (when true (map byte (letter_fields c.args.l.language)) ++ left-1) c.args.n c.args.out.now c.args.n c.args.out.now = fill-demand (fill-demand (fill-demand (fill_start c.requires))) in
     let after-1 : Filling all left-1 c.args.n c.args.out.now c.fill_all-n1.result c.fill_all-n1.new.out = fill-part _ c.letter_bytes.ensures after-0 c.fill_all-n1.ensures in
-    let after-2 : let d = c.before.before.before.before in Filling all left-2 d.args.n d.args.out.now c.fill_list-n2.result c.fill_list-n2.new.w.1.1.1.0 = fill-turn after-1 refl c.fill_list-n2.auto.1.1.1.1.0 c.fill_list-n2.ensures in
+    let after-2 : Filling all left-2 c.args.n c.args.out.now c.fill_list-n2.result c.fill_list-n2.new.out = fill-turn after-1 refl c.fill_list-n2.auto.out c.fill_list-n2.ensures in
     (rows.switch-groups, fill-row _ _ after-2 refl, omega arith)
 
 pub fill_list-requires : goal.fill_list-requires
@@ -61,8 +61,8 @@ fill_list-requires c =
     let left-1 : List Act = list_acts 7 c.args.entries.now c.args.store.now c.args.l.groups ++ left-2 in
     let after-0 : Filling all (when true (map byte (letter_fields c.args.l.language)) ++ left-1) c.args.n c.args.out.now c.args.n c.args.out.now = fill-demand (fill-demand (fill-demand (fill_start c.requires))) in
     let after-1 : Filling all left-1 c.args.n c.args.out.now c.fill_all-n1.result c.fill_all-n1.new.out = fill-part _ c.letter_bytes.ensures after-0 c.fill_all-n1.ensures in
-    let after-2 : let d = c.before.before.before.before in Filling all left-2 d.args.n d.args.out.now c.fill_list-n2.result c.fill_list-n2.new.w.1.1.1.0 = fill-turn after-1 refl c.fill_list-n2.auto.1.1.1.1.0 c.fill_list-n2.ensures in
-    let after-3 : let d = c.before.before.before.before.before.before.before.before in Filling all left-3 d.args.n d.args.out.now c.fill_list-n3.result c.fill_list-n3.new.w.1.1.1.0 = fill-turn after-2 refl c.fill_list-n3.auto.1.1.1.1.0 c.fill_list-n3.ensures in
+    let after-2 : Filling all left-2 c.args.n c.args.out.now c.fill_list-n2.result c.fill_list-n2.new.out = fill-turn after-1 refl c.fill_list-n2.auto.out c.fill_list-n2.ensures in
+    let after-3 : Filling all left-3 c.args.n c.args.out.now c.fill_list-n3.result c.fill_list-n3.new.out = fill-turn after-2 refl c.fill_list-n3.auto.out c.fill_list-n3.ensures in
     (rows.presets, after-3.ready, omega arith)
 
 pub returns : goal.returns
@@ -75,6 +75,6 @@ returns c =
     let left-1 : List Act = list_acts 7 c.args.entries.now c.args.store.now c.args.l.groups ++ left-2 in
     let after-0 : Filling all (when true (map byte (letter_fields c.args.l.language)) ++ left-1) c.args.n c.args.out.now c.args.n c.args.out.now = fill-demand (fill-demand (fill-demand (fill_start c.requires))) in
     let after-1 : Filling all left-1 c.args.n c.args.out.now c.fill_all-n1.result c.fill_all-n1.new.out = fill-part _ c.letter_bytes.ensures after-0 c.fill_all-n1.ensures in
-    let after-2 : let d = c.before.before.before.before in Filling all left-2 d.args.n d.args.out.now c.fill_list-n2.result c.fill_list-n2.new.w.1.1.1.0 = fill-turn after-1 refl c.fill_list-n2.auto.1.1.1.1.0 c.fill_list-n2.ensures in
-    let after-3 : let d = c.before.before.before.before.before.before.before.before in Filling all left-3 d.args.n d.args.out.now c.fill_list-n3.result c.fill_list-n3.new.w.1.1.1.0 = fill-turn after-2 refl c.fill_list-n3.auto.1.1.1.1.0 c.fill_list-n3.ensures in
+    let after-2 : Filling all left-2 c.args.n c.args.out.now c.fill_list-n2.result c.fill_list-n2.new.out = fill-turn after-1 refl c.fill_list-n2.auto.out c.fill_list-n2.ensures in
+    let after-3 : Filling all left-3 c.args.n c.args.out.now c.fill_list-n3.result c.fill_list-n3.new.out = fill-turn after-2 refl c.fill_list-n3.auto.out c.fill_list-n3.ensures in
     fill-last after-3 c.fill_list.ensures

@@ -16,7 +16,7 @@ fill_language-at-requires c = rw c.of_columns-l.ensures (fill-row _ _ c.loop-i.i
 pub loop-i-preserved : goal.loop-i-preserved
 loop-i-preserved c =
     let w = rw c.of_columns-l.ensures at c.fill_language-at.ensures in
-    (omega arith, fill-turn c.loop-i.invariant.1 (rows-turn _ _ _ c.loop-i-test.true) c.fill_language-at.auto.1.1.1.0 w)
+    (omega arith, fill-turn c.loop-i.invariant.1 (rows-turn _ _ _ c.loop-i-test.true) c.fill_language-at.auto.out w)
 
 pub shape_of-out : goal.shape_of-out
 shape_of-out c = c.loop-i.invariant.1.size
