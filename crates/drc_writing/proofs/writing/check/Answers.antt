@@ -23,4 +23,4 @@ returns-then-in_store c =
 
 pub returns-else-in_store : goal.returns-else-in_store
 unfolding kind
-returns-else-in_store c = run-outside kind _ _ _ (sym c.in_store.ensures ∙ c.if-in_store.false) _
+returns-else-in_store c = run-outside kind c.args.m (c.args.instructions.now ∷ c.args.additional.now ∷ c.args.loudness.now ∷ c.args.downmixes.now ∷ []) c.args.store.now (sym c.in_store.ensures ∙ c.if-in_store.false) _

@@ -1,4 +1,5 @@
 -- `writing::check` meets its contract: the fields, and the trailing run behind them.
+use mathlib.Core.List.{[], ◌∷◌}
 use mathlib.Core.Path.{sym, ◌∙◌}
 use native.Mathlib.Omega.{arith}
 use Rattle.wire.proofs.Writing.Passes.{more}
@@ -18,4 +19,4 @@ returns-then-in_store c =
 
 pub returns-else-in_store : goal.returns-else-in_store
 unfolding kind
-returns-else-in_store c = run-outside kind _ _ _ (sym c.in_store.ensures ∙ c.if-in_store.false) _
+returns-else-in_store c = run-outside kind c.args.m (c.args.languages.now ∷ (c.args.entries.now ∷ [])) c.args.store.now (sym c.in_store.ensures ∙ c.if-in_store.false) _
