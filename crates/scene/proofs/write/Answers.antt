@@ -1,6 +1,7 @@
 -- `scene::write` meets its contract: without a section the head and the trailing run; else the check pass, the answer, and the fill pass.
 use mathlib.Core.List.{[], ◌∷◌}
-use mathlib.Core.Path.{◌∙◌}
+use mathlib.Core.Bool.{not}
+use mathlib.Core.Path.{ap, ◌∙◌}
 use native.Mathlib.Omega.{arith}
 use Rattle.frame.specs.Kind.{Lent}
 use Rattle.frame.proofs.Bare.{heads, bare-writes}
@@ -21,7 +22,7 @@ unfolding kind
 returns-then-not-sections c =
     let m = c.args.m in
     let t : Lent = c.args.groups.now ∷ c.args.switch_groups.now ∷ c.args.members.now ∷ c.args.presets.now ∷ c.args.conditions.now ∷ [] in
-    bare-writes kind m t c.args.store.now _ (head_bytes m) (scene-acts m t c.args.store.now ∙ bare-acts m t c.if-not-sections.true)
+    bare-writes kind m t c.args.store.now _ (head_bytes m) (scene-acts m t c.args.store.now ∙ bare-acts m t (ap not c.if-not-sections.true))
     (c.write_bare.ensures.of (head_bytes m) c.head_bytes.ensures)
 
 pub returns-in_default : goal.returns-in_default
