@@ -27,13 +27,7 @@ record_at-requires c =
 
 pub put_row-requires : goal.put_row-requires
 put_row-requires c =
-    let z =
-    c.before.before.before.before.before.before.before.before.before.before.before.before.before.before.before.before.before.before.before.before.before in
-    rw c.columns-row.ensures z.if1.left
-
-pub shape_of-groups-in-At-o : goal.shape_of-groups-in-At-o
-shape_of-groups-in-At-o c =
-    c.groups-1.given
+    rw c.columns-row.ensures c.if-top-lt-TOP_COLUMNS.false
 
 pub returns-in-At-o : goal.returns-in-At-o
 returns-in-At-o c =
