@@ -15,8 +15,7 @@ use wire::reads::Ends;
 use wire::rows::{Payload, put_row};
 
 // 0, and the record's columns at the front of `top`; or 2, or 1, or 3.
-#[unsafe(no_mangle)]
-pub extern "C" fn mpegh_base_read(body: &[u8], top: &mut [u16]) -> u64
+pub fn mpegh_base_read(body: &[u8], top: &mut [u16]) -> u64
     ensures { HostReads kind top_columns top_row body.now top.old [] result top.new [] }
 {
     // A body that ends before its sets is refused whatever is lent, and so before anything else.
@@ -50,8 +49,7 @@ fn unread(body: &[u8]) -> u64
 }
 
 // k; or 2, or 1. There are no tables, so `rows` is left as it was.
-#[unsafe(no_mangle)]
-pub extern "C" fn mpegh_base_measure(body: &[u8], rows: &mut [u16]) -> u64
+pub fn mpegh_base_measure(body: &[u8], rows: &mut [u16]) -> u64
     ensures { HostMeasures kind body.now rows.old result rows.new }
 {
     let m = base::measure(body);
@@ -62,16 +60,14 @@ pub extern "C" fn mpegh_base_measure(body: &[u8], rows: &mut [u16]) -> u64
 }
 
 // The reserved bits at 0; or 2, or 1.
-#[unsafe(no_mangle)]
-pub extern "C" fn mpegh_base_tally(body: &[u8]) -> u64
+pub fn mpegh_base_tally(body: &[u8]) -> u64
     ensures { HostTallies kind body.now result }
 {
     codes::tallied_code(base::tally(body))
 }
 
 // The length, and the body at the front of `out`; or a fault, or 10, or 4.
-#[unsafe(no_mangle)]
-pub extern "C" fn mpegh_base_write(
+pub fn mpegh_base_write(
     profile_level_indication: u8,
     interactivity_enabled: bool,
     compatible_sets_present: bool,

@@ -15,8 +15,7 @@ use wire::reads::Ends;
 use wire::rows::{Payload, put_row};
 
 // 0, the record's columns at the front of `top` and the rows in tables 9 to 12; or 2, or 1, or 3.
-#[unsafe(no_mangle)]
-pub extern "C" fn mpegh_drc_loudness_read(
+pub fn mpegh_drc_loudness_read(
     body: &[u8],
     top: &mut [u16],
     instructions: &mut [u16],
@@ -57,8 +56,7 @@ fn unread(body: &[u8]) -> u64
 }
 
 // k, and the rows of tables 9 to 12 at the front of `rows`; or 2, or 1, or 3.
-#[unsafe(no_mangle)]
-pub extern "C" fn mpegh_drc_loudness_measure(body: &[u8], rows: &mut [u16]) -> u64
+pub fn mpegh_drc_loudness_measure(body: &[u8], rows: &mut [u16]) -> u64
     ensures { HostMeasures kind body.now rows.old result rows.new }
 {
     let m = drc_loudness::measure(body);
@@ -76,16 +74,14 @@ pub extern "C" fn mpegh_drc_loudness_measure(body: &[u8], rows: &mut [u16]) -> u
 }
 
 // The reserved bits at 0; or 2, or 1.
-#[unsafe(no_mangle)]
-pub extern "C" fn mpegh_drc_loudness_tally(body: &[u8]) -> u64
+pub fn mpegh_drc_loudness_tally(body: &[u8]) -> u64
     ensures { HostTallies kind body.now result }
 {
     codes::tallied_code(drc_loudness::tally(body))
 }
 
 // The length, and the body at the front of `out`; or a fault, or 10, or 4.
-#[unsafe(no_mangle)]
-pub extern "C" fn mpegh_drc_loudness_write(
+pub fn mpegh_drc_loudness_write(
     reserved: u8,
     info_present: bool,
     reserved_drc: u8,

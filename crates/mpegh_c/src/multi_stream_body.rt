@@ -12,8 +12,7 @@ use multi_stream::{Measured, Reading};
 use wire::rows::{Payload, put_row};
 
 // 0, the record's columns at the front of `top` and the groups in table 8; or 2, or 1, or 3.
-#[unsafe(no_mangle)]
-pub extern "C" fn mpegh_multi_stream_read(body: &[u8], top: &mut [u16], groups: &mut [u16]) -> u64
+pub fn mpegh_multi_stream_read(body: &[u8], top: &mut [u16], groups: &mut [u16]) -> u64
     ensures { HostReads kind top_columns top_row body.now top.old (groups.old ∷ []) result top.new (groups.new ∷ []) }
 {
     if top.len() < TOP_COLUMNS {
@@ -42,8 +41,7 @@ fn unread(body: &[u8]) -> u64
 }
 
 // k, and the rows of table 8 at the front of `rows`; or 2, or 1, or 3.
-#[unsafe(no_mangle)]
-pub extern "C" fn mpegh_multi_stream_measure(body: &[u8], rows: &mut [u16]) -> u64
+pub fn mpegh_multi_stream_measure(body: &[u8], rows: &mut [u16]) -> u64
     ensures { HostMeasures kind body.now rows.old result rows.new }
 {
     let m = multi_stream::measure(body);
@@ -61,16 +59,14 @@ pub extern "C" fn mpegh_multi_stream_measure(body: &[u8], rows: &mut [u16]) -> u
 }
 
 // The reserved bits at 0; or 2, or 1.
-#[unsafe(no_mangle)]
-pub extern "C" fn mpegh_multi_stream_tally(body: &[u8]) -> u64
+pub fn mpegh_multi_stream_tally(body: &[u8]) -> u64
     ensures { HostTallies kind body.now result }
 {
     codes::tallied_code(multi_stream::tally(body))
 }
 
 // The length, and the body at the front of `out`; or a fault, or 10, or 4.
-#[unsafe(no_mangle)]
-pub extern "C" fn mpegh_multi_stream_write(
+pub fn mpegh_multi_stream_write(
     this_stream_id: u8,
     main_present: bool,
     reserved_aux: u8,

@@ -15,8 +15,7 @@ use wire::reads::{Ends, head};
 use wire::rows::{Payload, put_row};
 
 // 0, the record's columns at the front of `top` and the rows in tables 1 to 5; or 2, or 1, or 3.
-#[unsafe(no_mangle)]
-pub extern "C" fn mpegh_scene_read(
+pub fn mpegh_scene_read(
     body: &[u8],
     top: &mut [u16],
     groups: &mut [u16],
@@ -58,8 +57,7 @@ fn unread(body: &[u8]) -> u64
 }
 
 // k, and the rows of tables 1 to 5 at the front of `rows`; or 2, or 1, or 3.
-#[unsafe(no_mangle)]
-pub extern "C" fn mpegh_scene_measure(body: &[u8], rows: &mut [u16]) -> u64
+pub fn mpegh_scene_measure(body: &[u8], rows: &mut [u16]) -> u64
     ensures { HostMeasures kind body.now rows.old result rows.new }
 {
     let m = scene::measure(body);
@@ -83,16 +81,14 @@ pub extern "C" fn mpegh_scene_measure(body: &[u8], rows: &mut [u16]) -> u64
 }
 
 // The reserved bits at 0; or 2, or 1.
-#[unsafe(no_mangle)]
-pub extern "C" fn mpegh_scene_tally(body: &[u8]) -> u64
+pub fn mpegh_scene_tally(body: &[u8]) -> u64
     ensures { HostTallies kind body.now result }
 {
     codes::tallied_code(scene::tally(body))
 }
 
 // The length, and the body at the front of `out`; or a fault, or 10, or 4.
-#[unsafe(no_mangle)]
-pub extern "C" fn mpegh_scene_write(
+pub fn mpegh_scene_write(
     reserved_flags: u8,
     scene_info_id: u8,
     groups_present: bool,

@@ -15,8 +15,7 @@ use wire::reads::Ends;
 use wire::rows::{Payload, put_row};
 
 // 0, the record's columns at the front of `top`, the languages in table 6 and their entries in table 7; or 2, or 1, or 3.
-#[unsafe(no_mangle)]
-pub extern "C" fn mpegh_text_label_read(
+pub fn mpegh_text_label_read(
     body: &[u8],
     top: &mut [u16],
     languages: &mut [u16],
@@ -55,8 +54,7 @@ fn unread(body: &[u8]) -> u64
 }
 
 // k, and the rows of tables 6 and 7 at the front of `rows`; or 2, or 1, or 3.
-#[unsafe(no_mangle)]
-pub extern "C" fn mpegh_text_label_measure(body: &[u8], rows: &mut [u16]) -> u64
+pub fn mpegh_text_label_measure(body: &[u8], rows: &mut [u16]) -> u64
     ensures { HostMeasures kind body.now rows.old result rows.new }
 {
     let m = text_label::measure(body);
@@ -74,16 +72,14 @@ pub extern "C" fn mpegh_text_label_measure(body: &[u8], rows: &mut [u16]) -> u64
 }
 
 // The reserved bits at 0; or 2, or 1.
-#[unsafe(no_mangle)]
-pub extern "C" fn mpegh_text_label_tally(body: &[u8]) -> u64
+pub fn mpegh_text_label_tally(body: &[u8]) -> u64
     ensures { HostTallies kind body.now result }
 {
     codes::tallied_code(text_label::tally(body))
 }
 
 // The length, and the body at the front of `out`; or a fault, or 10, or 4.
-#[unsafe(no_mangle)]
-pub extern "C" fn mpegh_text_label_write(
+pub fn mpegh_text_label_write(
     scene_info_id: u8,
     reserved: u8,
     languages_count: u16,
