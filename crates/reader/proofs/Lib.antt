@@ -1,3 +1,1 @@
-pub mod Held
-pub mod Lends
 pub mod Claims

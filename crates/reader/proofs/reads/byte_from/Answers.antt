@@ -2,7 +2,6 @@
 use Prim.Native.Nat.{◌+◌}
 use mathlib.Core.Path.{◌≡◌, refl, sym, ap, ◌∙◌}
 use native.Mathlib.Omega.{arith}
-use borrow.Author.Rules.{rules}
 use Rattle.wire.proofs.Reading.Steps.{got, lacks}
 use Rattle.wire.specs.Prog.{short, needing}
 use Rattle.reader.specs.Reading.{told, after}

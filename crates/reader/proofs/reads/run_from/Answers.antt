@@ -2,7 +2,6 @@
 use Prim.Native.Nat.{◌+◌}
 use mathlib.Core.Path.{◌≡◌, sym, ap, ◌∙◌}
 use native.Mathlib.Omega.{arith}
-use borrow.Author.Rules.{rules}
 use Rattle.wire.proofs.Reading.Steps.{got-run, lacks-run}
 use Rattle.wire.specs.Prog.{done, short, needing}
 use Rattle.reader.specs.Reading.{told, after}
