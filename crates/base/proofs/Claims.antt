@@ -25,7 +25,6 @@ use Rattle.frame.proofs.Judged.{was, ran-well}
 use Rattle.frame.proofs.Lawful.{Samples}
 use Rattle.frame.proofs.Proofs as P
 use Rattle.base.specs.declared.rows.MpegH3dAudio.{MpegH3dAudio}
-use Rattle.base.specs.declared.Sizes as Base
 use Rattle.base.specs.declared.Reading.{Reading}
 use Rattle.base.specs.declared.Reading.TheVariants as R
 use Rattle.base.specs.declared.Measured.{Measured}

@@ -3,7 +3,6 @@ use Rattle.std.specs.Prelude.{ℕ, []}
 use Rattle.frame.specs.Numbers.{Answer, accepted, refused, refusal}
 use Rattle.frame.specs.Entry as E
 use Rattle.base.specs.declared.rows.MpegH3dAudio.{MpegH3dAudio}
-use Rattle.base.specs.declared.Sizes.{Sizes}
 use Rattle.base.specs.declared.Reading.{Reading}
 use Rattle.base.specs.declared.Reading.TheVariants as R
 use Rattle.base.specs.declared.Measured.{Measured}

@@ -11,7 +11,7 @@ use lib.Dec.{eqb, leb, ltb}
 use borrow.Author.Tests.{not-true, eqb-true, eq-eqb, leb-true, ltb-true}
 use Rattle.wire.specs.Lists.{Every, all_cons, Column}
 use Rattle.wire.specs.Bits.{bit, is_flag, field}
-use Rattle.wire.specs.Prog.{Prog, ret, span, Within, ◌>>=◌}
+use Rattle.wire.specs.Prog.{Prog, ret, span, Within}
 use Rattle.wire.specs.Act.{Act, demand, byte, copy, pick, rows}
 use Rattle.wire.specs.declared.pen.Fault.TheVariants as F
 use Rattle.wire.specs.declared.rows.Payload.{Payload}
@@ -21,7 +21,7 @@ use Rattle.wire.proofs.Lists.{every-right}
 use Rattle.wire.proofs.Writing.Acts.{and_both}
 use Rattle.wire.proofs.Reading.Takes.{Takes, map-takes}
 use Rattle.wire.proofs.Layouts.Codec.{Codec, Spells}
-use Rattle.wire.proofs.Layouts.Cells.{On, sound, clash, mix-in, mix_all}
+use Rattle.wire.proofs.Layouts.Cells.{On, clash, mix-in, mix_all}
 use Rattle.wire.proofs.Layouts.Forms.{Form, form_read, form-goes, form_means, form_shown, form_all, form_proper, form_in_bytes, form-shown-in, below, row_of, rows_codec, RowFits, means_as, means-same, row-ready, row-bytes, Faultless}
 use Rattle.wire.proofs.Layouts.Rowed.{row_on, on-all}
 use Rattle.frame.specs.Kind.{Lent, Rows, Held}

@@ -8,7 +8,7 @@ use lib.ListN.{length, drop, length-append, length-map}
 use lib.Dec.{eqb, leb, ltb}
 use borrow.Author.Tests.{not-true, eqb-true, eq-eqb, le-leb, leb-true, ltb-true}
 use Rattle.wire.specs.Lists.{Every, all_nil, all_cons, each, sum, firsts, Column}
-use Rattle.wire.specs.Prog.{Prog, ret, Within, ◌>>=◌}
+use Rattle.wire.specs.Prog.{Prog, ret, Within}
 use Rattle.wire.specs.Act.{demand, pick, rows}
 use Rattle.wire.specs.declared.pen.Fault.TheVariants as F
 use Rattle.wire.specs.Pen.{clean}
@@ -25,7 +25,7 @@ use Rattle.wire.proofs.Layouts.Rowed.{Wide, Good, row_on, on-all, found, room_fo
 use Rattle.frame.specs.Kind.{Lent, Rows, Heeded}
 use Rattle.frame.specs.Claims.{Agree}
 use Rattle.frame.specs.Entry.{needs, total, first_table, other_tables, filled}
-use Rattle.frame.specs.Body.{RowType, list, tables, payloads, layouts}
+use Rattle.frame.specs.Body.{RowType, tables, payloads, layouts}
 use Rattle.frame.specs.Ranges.{Ranges, tail, range, pieces_of, rows_of, ranged, all_inside, ranged_bytes, ranged_lists, firsts_of, ranged_row, ranged_acts, ranged_means, ranged_heeds, ranged_rows}
 use Rattle.frame.proofs.Lawful.{Shaped, agrees}
 use Rattle.frame.proofs.RowTypes.{Had, SameRows, Took, LawfulRows, Leaf}

@@ -12,7 +12,7 @@ use Rattle.wire.specs.Lists.{each, sum}
 use Rattle.wire.specs.Bits.{part, total, split, zeros}
 use Rattle.wire.specs.Prog.{Prog, ret, Out, done, span, run, u8, many, ◌>>=◌}
 use Rattle.wire.specs.Reads.{map_out, end_of, is_done, pos_of, rows_of, short_of, byte_out, ends_out, ByteRead, Summed}
-use Rattle.wire.specs.Layout.{of, put, has, shown, cells, tally, Borne, bearing, borne_row, borne_tally}
+use Rattle.wire.specs.Layout.{put, has, shown, cells, tally, Borne, bearing, borne_row, borne_tally}
 use Rattle.wire.specs.Straight.{ends, ones, puts_at, took}
 use Rattle.wire.specs.Nest.{Fillable, Nested}
 use Rattle.wire.specs.declared.reads.Short.{Short}

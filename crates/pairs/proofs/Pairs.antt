@@ -6,7 +6,7 @@ use mathlib.Core.Bool.{Bool, true, false, ◌&&◌, and-true}
 use native.Mathlib.Omega.{arith}
 use lib.ListN.{length, get_or}
 use Rattle.wire.specs.Lists.{each, sum}
-use Rattle.wire.specs.Bits.{Field, part, total, split, zeros, fit}
+use Rattle.wire.specs.Bits.{part, total, split, zeros, fit}
 use Rattle.wire.specs.Prog.{done, run, many}
 use Rattle.wire.specs.Reads.{map_out, is_done}
 use Rattle.wire.specs.Pen.{looks, glance, look, Checked, Quick, Ready, Filled, clean}

@@ -6,7 +6,6 @@ use Rattle.base.specs.Rows.{Tree}
 use Rattle.base.specs.Kind.{kind}
 use Rattle.base.specs.Contract.{sized}
 use Rattle.base.proofs.Parsed.{sizes-are}
-use borrow.Author.Rules.{rules}
 use Rattle.base.proofs.measure.Goals as goal
 
 pub returns-then-body-gt65535 : goal.returns-then-body-gt65535

@@ -4,7 +4,6 @@ use Rattle.frame.specs.Entry.{lacking, filled}
 use Rattle.frame.specs.Body.{tables}
 use Rattle.frame.proofs.Entries.{reads-unmeasured, reads-filled}
 use Rattle.base.specs.Kind.{kind}
-use borrow.Author.Rules.{rules}
 use Rattle.base.proofs.read.Goals as goal
 
 pub record_at-requires : goal.record_at-requires

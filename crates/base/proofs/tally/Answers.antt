@@ -9,7 +9,6 @@ use Rattle.frame.proofs.Entries.{tallies-unmeasured, tallies-topped}
 use Rattle.base.specs.Layout.{head}
 use Rattle.base.specs.Rows.{fields}
 use Rattle.base.specs.Kind.{pieces, kind}
-use borrow.Author.Rules.{rules}
 use Rattle.base.proofs.tally.Goals as goal
 
 pub record_at-requires : goal.record_at-requires

@@ -7,7 +7,6 @@ use Rattle.frame.proofs.Entries.{writes-refused, fillable, writes-done}
 use Rattle.base.specs.Write.{head_fields}
 use Rattle.base.specs.Kind.{kind}
 use Rattle.base.proofs.Mirrored.{written-so, bare-acts}
-use borrow.Author.Rules.{rules}
 use borrow.Enum.Refused.{opened}
 use Rattle.base.proofs.write.Goals as goal
 

@@ -5,7 +5,6 @@ use Rattle.wire.specs.Lists.{sum}
 use Rattle.wire.specs.Layout.{shown, cells, tally}
 use Rattle.frame.specs.Body.{layouts}
 use Rattle.base.specs.Layout.{head}
-use borrow.Author.Rules.{rules}
 use Rattle.base.proofs.zero_bits.Goals as goal
 
 pub returns : goal.returns

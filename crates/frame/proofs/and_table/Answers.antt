@@ -1,7 +1,6 @@
 -- `frame::and_table` meets its contract: a table that lacked before stands, else this one is judged.
 use mathlib.Core.Path.{sym, ◌∙◌}
 use Rattle.frame.proofs.Tables.{lacks-before, has-table, lacks-table}
-use borrow.Author.Rules.{rules}
 use Rattle.frame.proofs.and_table.Goals as goal
 
 pub returns-in_default : goal.returns-in_default

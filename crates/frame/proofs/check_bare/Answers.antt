@@ -7,12 +7,6 @@ use Rattle.wire.proofs.Writing.Passes.{more}
 use Rattle.frame.specs.Sight.{head_kind}
 use Rattle.frame.proofs.Passes.{run-outside}
 use Rattle.frame.proofs.Bare.{head-looked}
-use borrow.Author.Rules.{rules}
-use Rattle.frame.proofs.check_bare.Reads as reads
-use Rattle.frame.proofs.check_bare.Lts as lts
-use Rattle.wire.proofs.pen.payload_run.Reads as payload-run-reads
-use Rattle.wire.proofs.rows.in_store.Reads as in-store-reads
-use Rattle.wire.proofs.spell.check_all.Reads as check-all-reads
 use Rattle.frame.proofs.check_bare.Goals as goal
 
 pub payload_run-requires : goal.payload_run-requires

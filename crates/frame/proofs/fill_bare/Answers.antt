@@ -1,10 +1,5 @@
 -- `frame::fill_bare` meets its contract: the head, and the trailing run behind it.
 use Rattle.frame.proofs.Bare.{head-ready, bare-run-ready, bare-filled}
-use borrow.Author.Rules.{rules}
-use Rattle.frame.proofs.fill_bare.Reads as reads
-use Rattle.frame.proofs.fill_bare.Lts as lts
-use Rattle.wire.proofs.pen.copy_payload.Reads as copy-payload-reads
-use Rattle.wire.proofs.spell.fill_all.Reads as fill-all-reads
 use Rattle.frame.proofs.fill_bare.Goals as goal
 
 pub fill_all-n-requires : goal.fill_all-n-requires

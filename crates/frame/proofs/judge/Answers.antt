@@ -1,6 +1,5 @@
 -- `frame::judge` meets its contract: each end of the check pass, then each test.
 use native.Mathlib.Omega.{arith}
-use borrow.Author.Rules.{rules}
 use Rattle.frame.proofs.Output.{verdict-wrong, verdict-long, verdict-short, verdict-done}
 use Rattle.frame.proofs.judge.Goals as goal
 

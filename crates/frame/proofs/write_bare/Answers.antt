@@ -2,12 +2,6 @@
 use mathlib.Core.List.{[]}
 use Rattle.frame.specs.Sight.{head_kind}
 use Rattle.frame.proofs.Entries.{writes-refused, fillable, writes-done}
-use borrow.Author.Rules.{rules}
-use Rattle.frame.proofs.write_bare.Reads as reads
-use Rattle.frame.proofs.write_bare.Lts as lts
-use Rattle.frame.proofs.check_bare.Reads as check-bare-reads
-use Rattle.frame.proofs.fill_bare.Reads as fill-bare-reads
-use Rattle.frame.proofs.judge.Reads as judge-reads
 use borrow.Enum.Refused.{opened}
 use Rattle.frame.proofs.write_bare.Goals as goal
 

@@ -6,7 +6,6 @@ use Rattle.wire.specs.Prog.{short}
 use Rattle.wire.specs.Reads.{short_of, ends_out}
 use Rattle.wire.proofs.Layouts.Straight.{Past}
 use Rattle.base.proofs.Parsed.{three-cut, three-there, three-sets}
-use borrow.Author.Rules.{rules}
 use Rattle.base.proofs.parsing.end.Goals as goal
 
 pub returns-in_default : goal.returns-in_default

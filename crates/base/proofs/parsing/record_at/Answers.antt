@@ -4,7 +4,6 @@ use native.Mathlib.Omega.{arith}
 use Rattle.frame.proofs.Entries.{within-measured}
 use Rattle.base.specs.Kind.{kind}
 use Rattle.base.proofs.Parsed.{sets-sound, tops_are}
-use borrow.Author.Rules.{rules}
 use Rattle.base.proofs.parsing.record_at.Goals as goal
 
 pub bounds-body-1 : goal.bounds-body-1

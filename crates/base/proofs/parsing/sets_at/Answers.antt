@@ -1,6 +1,5 @@
 -- `base::parsing::sets_at` meets its contract: the fourth byte is there.
 use Rattle.base.proofs.Parsed.{count-there, sets-listed, sets-absent}
-use borrow.Author.Rules.{rules}
 use Rattle.base.proofs.parsing.sets_at.Goals as goal
 
 pub bounds-body-3 : goal.bounds-body-3

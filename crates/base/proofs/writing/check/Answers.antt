@@ -6,7 +6,6 @@ use Rattle.wire.proofs.Writing.Passes.{more}
 use Rattle.frame.proofs.Passes.{run-outside, all-looked}
 use Rattle.base.specs.Kind.{kind}
 use Rattle.base.proofs.Mirrored.{written-so}
-use borrow.Author.Rules.{rules}
 use Rattle.base.proofs.writing.check.Goals as goal
 
 pub returns-then-in_store : goal.returns-then-in_store

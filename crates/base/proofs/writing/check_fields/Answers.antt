@@ -5,7 +5,6 @@ use Rattle.wire.proofs.Writing.Passes.{then, more, passed, refused}
 use Rattle.wire.proofs.Writing.Plain.{all-checked}
 use Rattle.base.specs.Write.{base_acts}
 use Rattle.base.proofs.Stored.{listed-long}
-use borrow.Author.Rules.{rules}
 use Rattle.base.proofs.writing.check_fields.Goals as goal
 
 pub check_sets-requires : goal.check_sets-requires

@@ -3,7 +3,6 @@ use mathlib.Core.List.{[]}
 use Rattle.frame.proofs.Passes.{fields-ready, run-ready, all-filled}
 use Rattle.base.specs.Kind.{kind}
 use Rattle.base.proofs.Mirrored.{written-so}
-use borrow.Author.Rules.{rules}
 use Rattle.base.proofs.writing.fill.Goals as goal
 
 pub fill_fields-n-requires : goal.fill_fields-n-requires

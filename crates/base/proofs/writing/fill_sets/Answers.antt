@@ -1,7 +1,6 @@
 -- `base::writing::fill_sets` meets its contract: the count, then the bytes from the store.
 use mathlib.Core.List.{List, [], ◌∷◌}
 use mathlib.Core.Path.{sym}
-use lib.ListN.{length}
 use borrow.Author.Tests.{leb-true}
 use Rattle.wire.specs.Bits.{field, join}
 use Rattle.wire.specs.Prog.{Within}
@@ -10,7 +9,6 @@ use Rattle.wire.specs.Pen.{Ready}
 use Rattle.wire.proofs.Fields.{fits-cons, join_first}
 use Rattle.wire.proofs.Writing.Passes.{Filling, fill_start, fill-byte, fill-last, fill_none, byte-ready, run_room}
 use Rattle.base.specs.Write.{listed, sets_acts}
-use borrow.Author.Rules.{rules}
 use Rattle.base.proofs.writing.fill_sets.Goals as goal
 
 pub put-n1-requires : goal.put-n1-requires

@@ -4,7 +4,6 @@ use mathlib.Core.Path.{subst}
 use native.Mathlib.Omega.{arith}
 use Rattle.wire.specs.Bits.{Field, field, total, widths}
 use Rattle.wire.specs.Spell.{Spells}
-use borrow.Author.Rules.{rules}
 use Rattle.base.proofs.writing.flags_byte.Goals as goal
 
 pub returns : goal.returns

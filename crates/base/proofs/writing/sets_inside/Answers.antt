@@ -1,5 +1,4 @@
 -- `base::writing::sets_inside` meets its contract.
-use borrow.Author.Rules.{rules}
 use Rattle.base.proofs.writing.sets_inside.Goals as goal
 
 pub returns-then-sets : goal.returns-then-sets

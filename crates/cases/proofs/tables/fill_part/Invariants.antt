@@ -1,6 +1,5 @@
 -- `cases::tables::fill_part` is safe and ends.
 use Prim.Native.Nat.{◌≤◌}
-use borrow.Author.Rules.{rules}
 use Rattle.cases.proofs.tables.fill_part.Given as goal
 
 abbrev pub invariant-loop-left : goal.invariant-loop-left

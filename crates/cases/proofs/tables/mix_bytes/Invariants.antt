@@ -1,7 +1,6 @@
 -- `cases::tables::mix_bytes` is safe and ends.
 use Prim.Native.Nat.{◌-◌, ◌≤◌}
 use lib.ListN.{length}
-use borrow.Author.Rules.{rules}
 use Rattle.cases.proofs.tables.mix_bytes.Given as goal
 
 abbrev pub invariant-loop-i : goal.invariant-loop-i

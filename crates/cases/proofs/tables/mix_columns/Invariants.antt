@@ -1,6 +1,5 @@
 -- `cases::tables::mix_columns` is safe and ends.
 use Prim.Native.Nat.{◌≤◌}
-use borrow.Author.Rules.{rules}
 use Rattle.cases.proofs.tables.mix_columns.Given as goal
 
 abbrev pub invariant-loop-left : goal.invariant-loop-left

@@ -1,6 +1,5 @@
 -- `cases::tables::put_bytes` is safe and ends.
 use Prim.Native.Nat.{◌-◌, ◌≤◌}
-use borrow.Author.Rules.{rules}
 use Rattle.cases.proofs.tables.put_bytes.Given as goal
 
 abbrev pub invariant-loop-i : goal.invariant-loop-i

@@ -1,6 +1,5 @@
 -- `cases::tables::put_columns` is safe and ends.
 use Prim.Native.Nat.{◌-◌, ◌≤◌}
-use borrow.Author.Rules.{rules}
 use Rattle.cases.proofs.tables.put_columns.Given as goal
 
 abbrev pub invariant-loop-i : goal.invariant-loop-i

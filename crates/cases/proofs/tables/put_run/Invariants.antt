@@ -1,6 +1,5 @@
 -- `cases::tables::put_run` is safe and ends.
 use Prim.Native.Nat.{◌≤◌}
-use borrow.Author.Rules.{rules}
 use Rattle.cases.proofs.tables.put_run.Given as goal
 
 abbrev pub invariant-loop-left : goal.invariant-loop-left

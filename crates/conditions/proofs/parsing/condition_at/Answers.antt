@@ -6,7 +6,6 @@ use Rattle.wire.specs.Straight.{blanks}
 use Rattle.conditions.specs.Layout.{condition}
 use Rattle.conditions.specs.Rows.{behind}
 use Rattle.conditions.proofs.Taken.{condition-long, long-with, condition-with, condition-without}
-use borrow.Author.Rules.{rules}
 use Rattle.conditions.proofs.parsing.condition_at.Goals as goal
 
 pub bounds-body-at : goal.bounds-body-at

@@ -4,7 +4,6 @@ use Rattle.wire.specs.Reads.{ends_out}
 use Rattle.wire.specs.Straight.{ones}
 use Rattle.wire.proofs.Layouts.Straight.{Behind, behind-one, ends-cut}
 use Rattle.conditions.proofs.Taken.{condition-ends, with-detail, no-detail}
-use borrow.Author.Rules.{rules}
 use Rattle.conditions.proofs.parsing.condition_end.Goals as goal
 
 pub returns-in_default : goal.returns-in_default

@@ -4,7 +4,6 @@ use native.Mathlib.Omega.{arith}
 use Rattle.wire.specs.Reads.{ends_out}
 use Rattle.wire.proofs.Layouts.Straight.{Behind, behind-one, one-cut, one_more}
 use Rattle.conditions.specs.Rows.{behind}
-use borrow.Author.Rules.{rules}
 use Rattle.conditions.proofs.parsing.detail_end.Goals as goal
 
 pub returns-in_default : goal.returns-in_default

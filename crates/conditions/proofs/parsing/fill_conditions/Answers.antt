@@ -1,8 +1,7 @@
 use mathlib.Core.Path.{refl}
 use Rattle.wire.specs.Layout.{flat}
-use Rattle.wire.proofs.Reading.Loops.{Filling, fill-next, fill_end, first_done}
+use Rattle.wire.proofs.Reading.Loops.{fill-next, fill_end, first_done}
 use Rattle.conditions.specs.Layout.{condition}
-use borrow.Author.Rules.{rules}
 use Rattle.conditions.proofs.parsing.fill_conditions.Goals as goal
 
 pub loop-left-init : goal.loop-left-init

@@ -1,9 +1,7 @@
 -- `parsing::fill_conditions` meets its contract.
-use mathlib.Core.Path.{refl}
 use Rattle.wire.specs.Layout.{flat}
-use Rattle.wire.proofs.Reading.Loops.{Filling, fill-next, fill_end, first_done}
+use Rattle.wire.proofs.Reading.Loops.{Filling}
 use Rattle.conditions.specs.Layout.{condition}
-use borrow.Author.Rules.{rules}
 use Rattle.conditions.proofs.parsing.fill_conditions.Given as goal
 
 abbrev pub invariant-loop-left : goal.invariant-loop-left

@@ -1,10 +1,7 @@
 use mathlib.Core.Path.{refl, ap, sym, ◌∙◌}
-use Rattle.wire.specs.Layout.{flat}
 use Rattle.wire.specs.Reads.{ends_out}
 use Rattle.wire.proofs.Reading.Walk.{as-done, as_short}
-use Rattle.wire.proofs.Reading.Loops.{Measuring, carry-turn, carry-cut, carry-end}
-use Rattle.conditions.specs.Layout.{condition}
-use borrow.Author.Rules.{rules}
+use Rattle.wire.proofs.Reading.Loops.{carry-turn, carry-cut, carry-end}
 use Rattle.conditions.proofs.parsing.measure_conditions.Goals as goal
 
 pub loop-left-init : goal.loop-left-init

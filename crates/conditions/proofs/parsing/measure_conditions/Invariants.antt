@@ -1,11 +1,7 @@
 -- `parsing::measure_conditions` meets its contract.
-use mathlib.Core.Path.{refl, ap, sym, ◌∙◌}
 use Rattle.wire.specs.Layout.{flat}
-use Rattle.wire.specs.Reads.{ends_out}
-use Rattle.wire.proofs.Reading.Walk.{as-done, as_short}
-use Rattle.wire.proofs.Reading.Loops.{Measuring, carry-turn, carry-cut, carry-end}
+use Rattle.wire.proofs.Reading.Loops.{Measuring}
 use Rattle.conditions.specs.Layout.{condition}
-use borrow.Author.Rules.{rules}
 use Rattle.conditions.proofs.parsing.measure_conditions.Given as goal
 
 abbrev pub invariant-loop-left : goal.invariant-loop-left

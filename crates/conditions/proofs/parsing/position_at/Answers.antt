@@ -3,7 +3,6 @@ use Rattle.wire.specs.Straight.{blanks}
 use Rattle.wire.proofs.Layouts.Straight.{taken_none}
 use Rattle.conditions.specs.Layout.{position}
 use Rattle.conditions.proofs.Taken.{position-there}
-use borrow.Author.Rules.{rules}
 use Rattle.conditions.proofs.parsing.position_at.Goals as goal
 
 pub returns-then-present-eq1 : goal.returns-then-present-eq1

@@ -1,5 +1,4 @@
 -- `parsing::position_from` meets its contract.
-use borrow.Author.Rules.{rules}
 use Rattle.conditions.proofs.parsing.position_from.Goals as goal
 
 pub returns : goal.returns

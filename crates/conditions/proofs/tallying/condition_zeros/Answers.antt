@@ -4,7 +4,6 @@ use native.Mathlib.Omega.{arith}
 use borrow.Author.Tests.{eq-eqb, ne_eqb}
 use Rattle.conditions.specs.Rows.{condition_cols}
 use Rattle.conditions.proofs.Tallied.{condition-tally}
-use borrow.Author.Rules.{rules}
 use Rattle.conditions.proofs.tallying.condition_zeros.Goals as goal
 
 pub returns-then-d-eq1 : goal.returns-then-d-eq1

@@ -1,7 +1,6 @@
 use Rattle.wire.proofs.Reading.Loops.{first_done}
-use Rattle.wire.proofs.Layouts.Families.{Walking, walk_start, walk_turn, walk_end}
-use mathlib.Core.List.{[], ◌∷◌}
-use Rattle.wire.specs.Layout.{flat, of, tally}
+use Rattle.wire.proofs.Layouts.Families.{walk_start, walk_turn, walk_end}
+use Rattle.wire.specs.Layout.{flat}
 use Rattle.conditions.specs.Layout.{condition}
 use borrow.Author.Rules.{rules}
 use Rattle.conditions.proofs.tallying.tally_conditions.Goals as goal

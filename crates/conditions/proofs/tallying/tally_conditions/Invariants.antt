@@ -1,10 +1,8 @@
 -- `tallying::tally_conditions` meets its contract.
-use Rattle.wire.proofs.Reading.Loops.{first_done}
-use Rattle.wire.proofs.Layouts.Families.{Walking, walk_start, walk_turn, walk_end}
+use Rattle.wire.proofs.Layouts.Families.{Walking}
 use mathlib.Core.List.{[], ◌∷◌}
 use Rattle.wire.specs.Layout.{flat, of, tally}
 use Rattle.conditions.specs.Layout.{condition}
-use borrow.Author.Rules.{rules}
 use Rattle.conditions.proofs.tallying.tally_conditions.Given as goal
 
 abbrev pub invariant-loop-left : goal.invariant-loop-left

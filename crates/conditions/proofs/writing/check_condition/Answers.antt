@@ -12,7 +12,6 @@ use Rattle.wire.proofs.Writing.Plain.{met, all-checked}
 use Rattle.conditions.specs.Rows.{condition_cols}
 use Rattle.conditions.specs.Write.{flags_of}
 use Rattle.conditions.proofs.Writes.{condition-acts, id_bytes, when-there, when-absent}
-use borrow.Author.Rules.{rules}
 use Rattle.conditions.proofs.writing.check_condition.Goals as goal
 
 pub check_detail-requires : goal.check_detail-requires

@@ -2,7 +2,6 @@
 use Rattle.wire.proofs.Layouts.Families.{kids-checked, kids-stopped}
 use Rattle.conditions.specs.Write.{row_acts}
 use Rattle.conditions.proofs.Writes.{row-acts}
-use borrow.Author.Rules.{rules}
 use Rattle.conditions.proofs.writing.check_conditions.Goals as goal
 
 pub returns-then-i-count : goal.returns-then-i-count

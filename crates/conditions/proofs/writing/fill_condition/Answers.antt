@@ -4,7 +4,6 @@ use Rattle.wire.proofs.Writing.Passes.{fill-last, fill_end}
 use Rattle.wire.proofs.Writing.Plain.{ready-part}
 use Rattle.conditions.specs.Write.{cols_at}
 use Rattle.conditions.proofs.Writes.{condition-acts, row-begun, id-filled, fill-there, when-absent}
-use borrow.Author.Rules.{rules}
 use Rattle.conditions.proofs.writing.fill_condition.Goals as goal
 
 pub fill_all-n1-requires : goal.fill_all-n1-requires

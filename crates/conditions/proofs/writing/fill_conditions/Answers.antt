@@ -1,10 +1,8 @@
-use Prim.Native.Nat.{ℕ, ◌+◌, ◌-◌, ◌*◌, ◌<◌, ◌≤◌}
-use mathlib.Core.Path.{◌≡◌, refl}
+use Prim.Native.Nat.{◌-◌, ◌<◌}
+use mathlib.Core.Path.{refl}
 use native.Mathlib.Omega.{arith}
-use Rattle.conditions.specs.Write.{row_acts}
-use Rattle.conditions.proofs.Counted.{Left, start_left, turn-ready, turn-left, end-left}
+use Rattle.conditions.proofs.Counted.{start_left, turn-ready, turn-left, end-left}
 use Rattle.conditions.proofs.Writes.{row_at}
-use borrow.Author.Rules.{rules}
 use Rattle.conditions.proofs.writing.fill_conditions.Goals as goal
 
 pub loop-b-init : goal.loop-b-init

@@ -1,11 +1,8 @@
 -- `writing::fill_conditions` meets its contract.
-use Prim.Native.Nat.{ℕ, ◌+◌, ◌-◌, ◌*◌, ◌<◌, ◌≤◌}
-use mathlib.Core.Path.{◌≡◌, refl}
-use native.Mathlib.Omega.{arith}
+use Prim.Native.Nat.{ℕ, ◌+◌, ◌-◌, ◌*◌, ◌≤◌}
+use mathlib.Core.Path.{◌≡◌}
 use Rattle.conditions.specs.Write.{row_acts}
-use Rattle.conditions.proofs.Counted.{Left, start_left, turn-ready, turn-left, end-left}
-use Rattle.conditions.proofs.Writes.{row_at}
-use borrow.Author.Rules.{rules}
+use Rattle.conditions.proofs.Counted.{Left}
 use Rattle.conditions.proofs.writing.fill_conditions.Given as goal
 
 abbrev pub invariant-loop-b : goal.invariant-loop-b

@@ -5,7 +5,6 @@ use Rattle.wire.proofs.Writing.Passes.{fill_start, fill-row}
 use Rattle.wire.proofs.Writing.Plain.{ready-part}
 use Rattle.conditions.specs.Write.{cols_at}
 use Rattle.conditions.proofs.Writes.{flags-filled, gain-filled, position-filled}
-use borrow.Author.Rules.{rules}
 use Rattle.conditions.proofs.writing.fill_detail.Goals as goal
 
 pub fill_all-n1-requires : goal.fill_all-n1-requires

@@ -1,7 +1,6 @@
 -- `writing::fill_gain` meets its contract.
 use Rattle.wire.specs.Spell.{none, more}
 use Rattle.conditions.proofs.Writes.{part-ready, part_filled, part-absent}
-use borrow.Author.Rules.{rules}
 use Rattle.conditions.proofs.writing.fill_gain.Goals as goal
 
 pub fill_all-requires : goal.fill_all-requires

@@ -1,6 +1,5 @@
 -- `writing::fill_position` meets its contract.
 use Rattle.conditions.proofs.Writes.{part-ready, part_filled, part-absent}
-use borrow.Author.Rules.{rules}
 use Rattle.conditions.proofs.writing.fill_position.Goals as goal
 
 pub fill_all-requires : goal.fill_all-requires

@@ -1,7 +1,6 @@
 -- `writing::flags_byte` meets its contract.
 use native.Mathlib.Omega.{arith}
 use Rattle.wire.specs.Bits.{total, widths}
-use borrow.Author.Rules.{rules}
 use Rattle.conditions.proofs.writing.flags_byte.Goals as goal
 
 pub returns : goal.returns

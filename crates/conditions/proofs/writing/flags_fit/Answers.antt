@@ -4,7 +4,6 @@ use lib.Dec.{ltb}
 use mathlib.Core.Bool.{Bool, ◌&&◌}
 use mathlib.Core.Path.{refl, sym, ap, ◌∙◌}
 use Rattle.conditions.proofs.Writes.{flags-fit}
-use borrow.Author.Rules.{rules}
 use Rattle.conditions.proofs.writing.flags_fit.Goals as goal
 
 pub returns-then-four_fit : goal.returns-then-four_fit

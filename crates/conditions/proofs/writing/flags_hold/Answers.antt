@@ -2,7 +2,6 @@
 use mathlib.Core.Path.{sym, ◌∙◌}
 use mathlib.Core.Bool.{◌&&◌}
 use Rattle.wire.proofs.Writing.Plain.{flags-there, flags-absent}
-use borrow.Author.Rules.{rules}
 use Rattle.conditions.proofs.writing.flags_hold.Goals as goal
 
 pub returns-then-d-eq1 : goal.returns-then-d-eq1

@@ -1,8 +1,6 @@
 -- `writing::plain_bytes` meets its contract.
 use mathlib.Core.Path.{sym, ◌∙◌}
-use borrow.Author.Tests.{not-true, not-false}
 use Rattle.conditions.proofs.Writes.{fit_line, odd-id, with-detail, no-detail}
-use borrow.Author.Rules.{rules}
 use Rattle.conditions.proofs.writing.plain_bytes.Goals as goal
 
 pub returns-then-not-two_fit : goal.returns-then-not-two_fit

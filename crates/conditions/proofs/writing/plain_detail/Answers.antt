@@ -1,9 +1,7 @@
 -- `writing::plain_detail` meets its contract.
 use mathlib.Core.Path.{refl, sym, ◌∙◌}
-use borrow.Author.Tests.{not-true, not-false}
 use Rattle.conditions.specs.Write.{cols_at}
 use Rattle.conditions.proofs.Writes.{fit_line, long-so}
-use borrow.Author.Rules.{rules}
 use Rattle.conditions.proofs.writing.plain_detail.Goals as goal
 
 pub returns-then-not-fit : goal.returns-then-not-fit

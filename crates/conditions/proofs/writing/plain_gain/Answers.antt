@@ -2,7 +2,6 @@
 use mathlib.Core.Path.{◌∙◌}
 use Rattle.wire.proofs.Fields.{fit-one}
 use Rattle.conditions.proofs.Writes.{fit_line}
-use borrow.Author.Rules.{rules}
 use Rattle.conditions.proofs.writing.plain_gain.Goals as goal
 
 pub returns-then-there : goal.returns-then-there

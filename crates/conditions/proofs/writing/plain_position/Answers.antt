@@ -1,5 +1,4 @@
 -- `writing::plain_position` meets its contract.
-use borrow.Author.Rules.{rules}
 use Rattle.conditions.proofs.writing.plain_position.Goals as goal
 
 pub returns-then-there : goal.returns-then-there

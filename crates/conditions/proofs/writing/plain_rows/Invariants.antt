@@ -1,12 +1,8 @@
 -- `writing::plain_rows` meets its contract.
 use Prim.Native.Nat.{◌+◌, ◌-◌, ◌*◌, ◌≤◌}
 use mathlib.Core.Path.{◌≡◌}
-use native.Mathlib.Omega.{arith}
 use Rattle.wire.proofs.Writing.Plain.{Going}
 use Rattle.conditions.specs.Write.{row_acts}
-use Rattle.conditions.proofs.Counted.{start-going, turn-going, odd-going, end-going}
-use Rattle.conditions.proofs.Writes.{row_at}
-use borrow.Author.Rules.{rules}
 use Rattle.conditions.proofs.writing.plain_rows.Given as goal
 
 abbrev pub invariant-loop-left : goal.invariant-loop-left

@@ -1,10 +1,8 @@
-use Prim.Native.Nat.{ℕ, ◌+◌, ◌-◌, ◌*◌, ◌<◌, ◌≤◌}
-use mathlib.Core.Path.{◌≡◌, refl}
+use Prim.Native.Nat.{◌+◌, ◌<◌}
+use mathlib.Core.Path.{refl}
 use native.Mathlib.Omega.{arith}
-use Rattle.wire.proofs.Writing.Plain.{Going, quick-few, going_start, going-turn, run-odd, run_end}
-use Rattle.conditions.specs.Write.{row_acts}
+use Rattle.wire.proofs.Writing.Plain.{quick-few, going_start, going-turn, run-odd, run_end}
 use Rattle.conditions.proofs.Writes.{row_at}
-use borrow.Author.Rules.{rules}
 use Rattle.conditions.proofs.writing.plain_run.Goals as goal
 
 pub loop-b-init : goal.loop-b-init

@@ -1,11 +1,8 @@
 -- `writing::plain_run` meets its contract: the rows that were passed are plain, and each makes a byte at least.
-use Prim.Native.Nat.{ℕ, ◌+◌, ◌-◌, ◌*◌, ◌<◌, ◌≤◌}
-use mathlib.Core.Path.{◌≡◌, refl}
-use native.Mathlib.Omega.{arith}
-use Rattle.wire.proofs.Writing.Plain.{Going, quick-few, going_start, going-turn, run-odd, run_end}
+use Prim.Native.Nat.{ℕ, ◌+◌, ◌-◌, ◌*◌, ◌≤◌}
+use mathlib.Core.Path.{◌≡◌}
+use Rattle.wire.proofs.Writing.Plain.{Going}
 use Rattle.conditions.specs.Write.{row_acts}
-use Rattle.conditions.proofs.Writes.{row_at}
-use borrow.Author.Rules.{rules}
 use Rattle.conditions.proofs.writing.plain_run.Given as goal
 
 abbrev pub invariant-loop-b : goal.invariant-loop-b

@@ -1,6 +1,5 @@
 -- `writing::position_bytes` meets its contract.
 use Rattle.wire.specs.Spell.{none, more}
-use borrow.Author.Rules.{rules}
 use Rattle.conditions.proofs.writing.position_bytes.Goals as goal
 
 pub returns : goal.returns

@@ -1,5 +1,4 @@
 -- `parsing::downmix_at` meets its contract.
-use borrow.Author.Rules.{rules}
 use Rattle.downmixes.proofs.parsing.downmix_at.Goals as goal
 
 pub returns : goal.returns

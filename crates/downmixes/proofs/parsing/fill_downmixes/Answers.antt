@@ -1,6 +1,6 @@
 use mathlib.Core.Path.{refl, ap, ◌∙◌}
 use Rattle.wire.specs.Layout.{flat}
-use Rattle.wire.proofs.Reading.Loops.{Filling, fill-next, fill_end}
+use Rattle.wire.proofs.Reading.Loops.{fill-next, fill_end}
 use Rattle.downmixes.specs.Layout.{downmix}
 use Rattle.downmixes.specs.Rows.{downmix_row}
 use Rattle.downmixes.proofs.Downmixes.{downmix-there, downmix-run}

@@ -1,11 +1,7 @@
 -- `parsing::fill_downmixes` meets its contract: what is still to store from here is what was to store from the start.
-use mathlib.Core.Path.{refl, ap, ◌∙◌}
 use Rattle.wire.specs.Layout.{flat}
-use Rattle.wire.proofs.Reading.Loops.{Filling, fill-next, fill_end}
+use Rattle.wire.proofs.Reading.Loops.{Filling}
 use Rattle.downmixes.specs.Layout.{downmix}
-use Rattle.downmixes.specs.Rows.{downmix_row}
-use Rattle.downmixes.proofs.Downmixes.{downmix-there, downmix-run}
-use borrow.Author.Rules.{rules}
 use Rattle.downmixes.proofs.parsing.fill_downmixes.Given as goal
 
 abbrev pub invariant-loop-left : goal.invariant-loop-left

@@ -1,7 +1,6 @@
 -- `parsing::measure_downmixes` meets its contract: two reads of one byte for each row are one comparison.
 use mathlib.Core.Path.{◌∙◌}
 use Rattle.downmixes.proofs.Downmixes.{downmixes-end}
-use borrow.Author.Rules.{rules}
 use Rattle.downmixes.proofs.parsing.measure_downmixes.Goals as goal
 
 pub returns : goal.returns

@@ -1,9 +1,8 @@
 use mathlib.Core.Path.{ap, sym, ◌∙◌}
-use mathlib.Core.List.{[], ◌∷◌}
 use native.Mathlib.Omega.{arith}
 use Rattle.wire.specs.Bits.{part, zeros}
-use Rattle.wire.specs.Layout.{flat, of, tally}
-use Rattle.wire.proofs.Reading.Adding.{Adding, adding-start, adding-turn, adding-end}
+use Rattle.wire.specs.Layout.{flat}
+use Rattle.wire.proofs.Reading.Adding.{adding-start, adding-turn, adding-end}
 use Rattle.downmixes.specs.Layout.{downmix}
 use Rattle.downmixes.proofs.Downmixes.{downmix-there, downmix-run, downmix-tally}
 use borrow.Author.Rules.{rules}

@@ -1,7 +1,6 @@
 -- `writing::check_downmixes` meets its contract: it counts the plain rows, and names the fault of the first that is not.
 use Rattle.wire.proofs.Writing.Plain.{plain-odd, plain_end}
 use Rattle.downmixes.proofs.Downmixes.{row-checked}
-use borrow.Author.Rules.{rules}
 use Rattle.downmixes.proofs.writing.check_downmixes.Goals as goal
 
 pub returns-then-i-count : goal.returns-then-i-count

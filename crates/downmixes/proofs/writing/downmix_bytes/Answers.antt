@@ -1,6 +1,5 @@
 -- `writing::downmix_bytes` meets its contract.
 use Rattle.wire.specs.Spell.{none, more}
-use borrow.Author.Rules.{rules}
 use Rattle.downmixes.proofs.writing.downmix_bytes.Goals as goal
 
 pub returns : goal.returns

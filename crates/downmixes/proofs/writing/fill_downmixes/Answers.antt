@@ -1,12 +1,8 @@
-use Prim.Native.Nat.{◌-◌, ◌≤◌}
 use native.Mathlib.Omega.{arith}
 use native.Mathlib.Nat.{sub-zero}
-use Rattle.wire.specs.Act.{rows}
-use Rattle.wire.proofs.Writing.Passes.{Filling, rows-turn, rows_end, fill_start, fill-row, fill-turn, fill_end}
+use Rattle.wire.proofs.Writing.Passes.{rows-turn, rows_end, fill_start, fill-row, fill-turn, fill_end}
 use Rattle.wire.proofs.Writing.Plain.{filled-long}
-use Rattle.downmixes.specs.Write.{row_acts}
 use Rattle.downmixes.proofs.Downmixes.{row-ready, row-filled}
-use borrow.Author.Rules.{rules}
 use Rattle.downmixes.proofs.writing.fill_downmixes.Goals as goal
 
 pub loop-i-init : goal.loop-i-init

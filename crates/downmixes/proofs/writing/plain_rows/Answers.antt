@@ -1,11 +1,8 @@
-use Prim.Native.Nat.{◌-◌, ◌+◌, ◌*◌}
+use Prim.Native.Nat.{◌+◌, ◌*◌}
 use mathlib.Core.Path.{◌≡◌, refl}
 use native.Mathlib.Omega.{arith}
-use Rattle.wire.proofs.Writing.Plain.{Going, going_start, going-turn, going-odd, going_end}
-use Rattle.downmixes.specs.Write.{row_acts}
-use borrow.Author.Tests.{not-true, not-false}
+use Rattle.wire.proofs.Writing.Plain.{going_start, going-turn, going-odd, going_end}
 use Rattle.downmixes.proofs.Downmixes.{row_plain, row-odd}
-use borrow.Author.Rules.{rules}
 use Rattle.downmixes.proofs.writing.plain_rows.Goals as goal
 
 pub loop-i-init : goal.loop-i-init

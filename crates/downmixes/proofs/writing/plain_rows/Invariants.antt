@@ -1,12 +1,7 @@
 -- `writing::plain_rows` meets its contract: the rows passed, each two bytes.
-use Prim.Native.Nat.{◌-◌, ◌+◌, ◌*◌}
-use mathlib.Core.Path.{◌≡◌, refl}
-use native.Mathlib.Omega.{arith}
-use Rattle.wire.proofs.Writing.Plain.{Going, going_start, going-turn, going-odd, going_end}
+use Prim.Native.Nat.{◌-◌, ◌*◌}
+use Rattle.wire.proofs.Writing.Plain.{Going}
 use Rattle.downmixes.specs.Write.{row_acts}
-use borrow.Author.Tests.{not-true, not-false}
-use Rattle.downmixes.proofs.Downmixes.{row_plain, row-odd}
-use borrow.Author.Rules.{rules}
 use Rattle.downmixes.proofs.writing.plain_rows.Given as goal
 
 abbrev pub invariant-loop-i : goal.invariant-loop-i

@@ -1,7 +1,6 @@
 -- `parsing::bare_effect_at` meets its contract.
 use mathlib.Core.Path.{refl}
 use Rattle.instructions.proofs.Taken.{bare-taken}
-use borrow.Author.Rules.{rules}
 use Rattle.instructions.proofs.parsing.bare_effect_at.Goals as goal
 
 pub returns : goal.returns

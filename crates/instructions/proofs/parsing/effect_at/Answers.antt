@@ -4,7 +4,6 @@ use mathlib.Core.Path.{refl}
 use native.Mathlib.Omega.{arith}
 use lib.ListN.{length, get_or}
 use Rattle.instructions.proofs.Taken.{effect-taken, loud-there}
-use borrow.Author.Rules.{rules}
 use Rattle.instructions.proofs.parsing.effect_at.Goals as goal
 
 pub target_size-requires : goal.target_size-requires

@@ -2,7 +2,6 @@
 use mathlib.Core.Path.{ap}
 use Rattle.wire.specs.Reads.{is_done}
 use Rattle.instructions.proofs.Taken.{ids-there, ids-room, instruction-filled}
-use borrow.Author.Rules.{rules}
 use Rattle.instructions.proofs.parsing.fill_instruction.Goals as goal
 
 pub instruction_at-p-requires : goal.instruction_at-p-requires

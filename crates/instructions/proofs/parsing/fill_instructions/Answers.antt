@@ -1,10 +1,9 @@
 use mathlib.Core.Path.{refl, ap, ◌∙◌}
 use native.Mathlib.Omega.{arith}
 use lib.Seq.{sets}
-use Rattle.wire.proofs.Layouts.Families.{Families, families-start, family-ask, families-turn, families-end}
+use Rattle.wire.proofs.Layouts.Families.{families-start, family-ask, families-turn, families-end}
 use Rattle.instructions.specs.Layout.{additional, instruction}
 use Rattle.instructions.proofs.Taken.{fills}
-use borrow.Author.Rules.{rules}
 use Rattle.instructions.proofs.parsing.fill_instructions.Goals as goal
 
 pub loop-left-init : goal.loop-left-init

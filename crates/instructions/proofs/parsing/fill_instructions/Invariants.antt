@@ -1,11 +1,6 @@
 -- `parsing::fill_instructions` meets its contract: what is still to store in both tables from here is what was to store from the start.
-use mathlib.Core.Path.{refl, ap, ◌∙◌}
-use native.Mathlib.Omega.{arith}
-use lib.Seq.{sets}
-use Rattle.wire.proofs.Layouts.Families.{Families, families-start, family-ask, families-turn, families-end}
+use Rattle.wire.proofs.Layouts.Families.{Families}
 use Rattle.instructions.specs.Layout.{additional, instruction}
-use Rattle.instructions.proofs.Taken.{fills}
-use borrow.Author.Rules.{rules}
 use Rattle.instructions.proofs.parsing.fill_instructions.Given as goal
 
 abbrev pub invariant-loop-left : goal.invariant-loop-left

@@ -4,7 +4,6 @@ use mathlib.Core.Path.{refl}
 use native.Mathlib.Omega.{arith}
 use lib.ListN.{length}
 use Rattle.instructions.proofs.Taken.{id_of, settings-total, settings-there, instruction-taken}
-use borrow.Author.Rules.{rules}
 use Rattle.instructions.proofs.parsing.instruction_with.Goals as goal
 
 pub overflow_sub-begins : goal.overflow_sub-begins

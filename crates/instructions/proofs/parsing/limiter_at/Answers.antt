@@ -3,7 +3,6 @@ use Rattle.wire.specs.Straight.{blanks}
 use Rattle.wire.proofs.Layouts.Straight.{taken_none}
 use Rattle.instructions.specs.Layout.{limiter}
 use Rattle.instructions.proofs.Taken.{limiter-there}
-use borrow.Author.Rules.{rules}
 use Rattle.instructions.proofs.parsing.limiter_at.Goals as goal
 
 pub returns-then-present-eq1 : goal.returns-then-present-eq1

@@ -1,5 +1,5 @@
 use lib.ListN.{length}
-use Rattle.wire.proofs.Reading.Loops.{Summing, sum-start, sum-turn, sum-cut, sum-end, sum-small, summed-as}
+use Rattle.wire.proofs.Reading.Loops.{sum-start, sum-turn, sum-cut, sum-end, sum-small, summed-as}
 use Rattle.wire.proofs.Layouts.Families.{kids-summed}
 use Rattle.instructions.specs.Layout.{instructions}
 use borrow.Author.Rules.{rules}

@@ -1,9 +1,7 @@
 -- `parsing::measure_instructions` meets its contract: the additional IDs so far, and those of the instructions that are left.
 use lib.ListN.{length}
-use Rattle.wire.proofs.Reading.Loops.{Summing, sum-start, sum-turn, sum-cut, sum-end, sum-small, summed-as}
-use Rattle.wire.proofs.Layouts.Families.{kids-summed}
+use Rattle.wire.proofs.Reading.Loops.{Summing}
 use Rattle.instructions.specs.Layout.{instructions}
-use borrow.Author.Rules.{rules}
 use Rattle.instructions.proofs.parsing.measure_instructions.Given as goal
 
 abbrev pub invariant-loop-left : goal.invariant-loop-left

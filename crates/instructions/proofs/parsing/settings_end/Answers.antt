@@ -10,7 +10,6 @@ use Rattle.wire.proofs.Layouts.Straight.{Behind, behind-one, one-cut, one_more}
 use Rattle.scopes.specs.Rows.{id_bytes}
 use Rattle.instructions.specs.Layout.{types}
 use Rattle.instructions.proofs.Taken.{settings-spans}
-use borrow.Author.Rules.{rules}
 use Rattle.instructions.proofs.parsing.settings_end.Goals as goal
 
 pub returns-in_default : goal.returns-in_default

@@ -3,7 +3,6 @@ use mathlib.Core.Path.{refl}
 use native.Mathlib.Omega.{arith}
 use Rattle.instructions.proofs.Taken.{ids-there, ids-few}
 use Rattle.instructions.proofs.Tallied.{instruction-tallied}
-use borrow.Author.Rules.{rules}
 use Rattle.instructions.proofs.tallying.instruction_zeros.Goals as goal
 
 pub pairs_zeros-below-requires : goal.pairs_zeros-below-requires

@@ -3,9 +3,8 @@ use Rattle.wire.specs.Layout.{family_tally}
 use Rattle.wire.specs.Prog.{run}
 use Rattle.wire.proofs.Reading.Walk.{as-done}
 use Rattle.wire.proofs.Reading.Loops.{first_done}
-use Rattle.wire.proofs.Reading.Adding.{Adding, adding-start, adding-turn, adding-end}
+use Rattle.wire.proofs.Reading.Adding.{adding-start, adding-turn, adding-end}
 use Rattle.instructions.specs.Layout.{additional, instruction, instructions}
-use borrow.Author.Rules.{rules}
 use Rattle.instructions.proofs.tallying.tally_instructions.Goals as goal
 
 pub loop-left-init : goal.loop-left-init

@@ -1,12 +1,7 @@
 -- `tallying::tally_instructions` meets its contract: what is summed up, and what is left, come to the whole.
-use mathlib.Core.Path.{sym}
 use Rattle.wire.specs.Layout.{family_tally}
-use Rattle.wire.specs.Prog.{run}
-use Rattle.wire.proofs.Reading.Walk.{as-done}
-use Rattle.wire.proofs.Reading.Loops.{first_done}
-use Rattle.wire.proofs.Reading.Adding.{Adding, adding-start, adding-turn, adding-end}
+use Rattle.wire.proofs.Reading.Adding.{Adding}
 use Rattle.instructions.specs.Layout.{additional, instruction, instructions}
-use borrow.Author.Rules.{rules}
 use Rattle.instructions.proofs.tallying.tally_instructions.Given as goal
 
 abbrev pub invariant-loop-left : goal.invariant-loop-left

@@ -1,7 +1,6 @@
 -- `parsing::entry_at` meets its contract: the two bytes of an entry that was measured, and where its label stands.
 use native.Mathlib.Omega.{arith}
 use Rattle.labels.proofs.Taken.{entry-there, entry-taken}
-use borrow.Author.Rules.{rules}
 use Rattle.labels.proofs.parsing.entry_at.Goals as goal
 
 pub bounds-body-at : goal.bounds-body-at

@@ -1,9 +1,6 @@
 use mathlib.Core.Path.{refl}
-use Rattle.wire.specs.Layout.{borne_row}
-use Rattle.wire.proofs.Reading.Loops.{fill-as, Filling, fill_end, first_done}
-use Rattle.labels.specs.Layout.{label}
+use Rattle.wire.proofs.Reading.Loops.{fill-as, fill_end, first_done}
 use Rattle.labels.proofs.Taken.{an_entry}
-use borrow.Author.Rules.{rules}
 use Rattle.labels.proofs.parsing.fill_entries.Goals as goal
 
 pub loop-left-init : goal.loop-left-init

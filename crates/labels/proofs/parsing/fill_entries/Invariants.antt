@@ -1,10 +1,8 @@
 -- `parsing::fill_entries` meets its contract: what is still to store from here is what was to store from the start.
-use mathlib.Core.Path.{refl}
 use Rattle.wire.specs.Layout.{borne_row}
-use Rattle.wire.proofs.Reading.Loops.{fill-as, Filling, fill_end, first_done}
+use Rattle.wire.proofs.Reading.Loops.{Filling}
 use Rattle.labels.specs.Layout.{label}
 use Rattle.labels.proofs.Taken.{an_entry}
-use borrow.Author.Rules.{rules}
 use Rattle.labels.proofs.parsing.fill_entries.Given as goal
 
 abbrev pub invariant-loop-left : goal.invariant-loop-left

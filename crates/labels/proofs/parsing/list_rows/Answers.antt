@@ -1,6 +1,5 @@
 -- `parsing::list_rows` meets its contract: the count, and where that many entries end.
 use Rattle.labels.proofs.Taken.{count-lacks, count-got, entries-lack, list_counted}
-use borrow.Author.Rules.{rules}
 use Rattle.labels.proofs.parsing.list_rows.Goals as goal
 
 pub returns-in_default : goal.returns-in_default

@@ -1,10 +1,7 @@
-use Prim.Native.Nat.{ℕ}
 use mathlib.Core.Path.{refl, ap, sym, ◌∙◌}
 use Rattle.wire.specs.Reads.{ends_out}
 use Rattle.wire.proofs.Reading.Walk.{as-done, as_short}
-use Rattle.wire.proofs.Reading.Loops.{Measuring, carry-turn, carry-cut, carry-end}
-use Rattle.labels.proofs.Taken.{an_entry}
-use borrow.Author.Rules.{rules}
+use Rattle.wire.proofs.Reading.Loops.{carry-turn, carry-cut, carry-end}
 use Rattle.labels.proofs.parsing.measure_entries.Goals as goal
 
 pub loop-left-init : goal.loop-left-init

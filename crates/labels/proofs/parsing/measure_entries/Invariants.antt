@@ -1,11 +1,7 @@
 -- `parsing::measure_entries` meets its contract: the end from here is the end from the start, whatever the width.
 use Prim.Native.Nat.{ℕ}
-use mathlib.Core.Path.{refl, ap, sym, ◌∙◌}
-use Rattle.wire.specs.Reads.{ends_out}
-use Rattle.wire.proofs.Reading.Walk.{as-done, as_short}
-use Rattle.wire.proofs.Reading.Loops.{Measuring, carry-turn, carry-cut, carry-end}
+use Rattle.wire.proofs.Reading.Loops.{Measuring}
 use Rattle.labels.proofs.Taken.{an_entry}
-use borrow.Author.Rules.{rules}
 use Rattle.labels.proofs.parsing.measure_entries.Given as goal
 
 abbrev pub invariant-loop-left : goal.invariant-loop-left

@@ -1,9 +1,6 @@
 use native.Mathlib.Omega.{arith}
-use Rattle.wire.specs.Layout.{borne_tally}
-use Rattle.wire.proofs.Reading.Loops.{Summing, sum-start, sum-next, sum-end}
-use Rattle.labels.specs.Layout.{label}
+use Rattle.wire.proofs.Reading.Loops.{sum-start, sum-next, sum-end}
 use Rattle.labels.proofs.Taken.{an_entry, entry-summed}
-use borrow.Author.Rules.{rules}
 use Rattle.labels.proofs.tallying.tally_entries.Goals as goal
 
 pub loop-left-init : goal.loop-left-init

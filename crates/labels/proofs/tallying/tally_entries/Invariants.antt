@@ -1,10 +1,8 @@
 -- `tallying::tally_entries` meets its contract: what is summed up, and what is left, come to the whole.
-use native.Mathlib.Omega.{arith}
 use Rattle.wire.specs.Layout.{borne_tally}
-use Rattle.wire.proofs.Reading.Loops.{Summing, sum-start, sum-next, sum-end}
+use Rattle.wire.proofs.Reading.Loops.{Summing}
 use Rattle.labels.specs.Layout.{label}
-use Rattle.labels.proofs.Taken.{an_entry, entry-summed}
-use borrow.Author.Rules.{rules}
+use Rattle.labels.proofs.Taken.{an_entry}
 use Rattle.labels.proofs.tallying.tally_entries.Given as goal
 
 abbrev pub invariant-loop-left : goal.invariant-loop-left

@@ -1,9 +1,6 @@
-use Prim.Native.Nat.{◌-◌, ◌≤◌}
 use native.Mathlib.Omega.{arith}
 use native.Mathlib.Nat.{add-sub_cancel_left}
-use Rattle.wire.specs.Act.{rows}
-use Rattle.wire.proofs.Writing.Passes.{Filling, rows_end, fill_start, fill_end, all-filled}
-use Rattle.labels.specs.Write.{row_acts}
+use Rattle.wire.proofs.Writing.Passes.{rows_end, fill_start, fill_end, all-filled}
 use Rattle.labels.proofs.Written.{row_inside, row-ready, row-filled}
 use borrow.Author.Rules.{rules}
 use Rattle.labels.proofs.writing.fill_entries.Goals as goal

@@ -1,12 +1,8 @@
 -- `writing::fill_entries` meets its contract: what is left to store from a row on.
 use Prim.Native.Nat.{◌-◌, ◌≤◌}
-use native.Mathlib.Omega.{arith}
-use native.Mathlib.Nat.{add-sub_cancel_left}
 use Rattle.wire.specs.Act.{rows}
-use Rattle.wire.proofs.Writing.Passes.{Filling, rows_end, fill_start, fill_end, all-filled}
+use Rattle.wire.proofs.Writing.Passes.{Filling}
 use Rattle.labels.specs.Write.{row_acts}
-use Rattle.labels.proofs.Written.{row_inside, row-ready, row-filled}
-use borrow.Author.Rules.{rules}
 use Rattle.labels.proofs.writing.fill_entries.Given as goal
 
 abbrev pub invariant-loop-i : goal.invariant-loop-i

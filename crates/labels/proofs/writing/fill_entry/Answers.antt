@@ -1,6 +1,5 @@
 -- `writing::fill_entry` meets its contract: the ID, the length, and the bytes from the store.
 use Rattle.labels.proofs.Written.{id-ready, label_inside, length-fits, length-room, label-room, entry-filled}
-use borrow.Author.Rules.{rules}
 use Rattle.labels.proofs.writing.fill_entry.Goals as goal
 
 pub fill_all-n1-requires : goal.fill_all-n1-requires

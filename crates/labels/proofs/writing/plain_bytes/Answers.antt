@@ -1,6 +1,5 @@
 -- `writing::plain_bytes` meets its contract: a range, an ID and a length without a fault, and what they make.
 use Rattle.labels.proofs.Written.{entry-plain, entry-odd}
-use borrow.Author.Rules.{rules}
 use Rattle.labels.proofs.writing.plain_bytes.Goals as goal
 
 pub returns-then-in_store-id_byte : goal.returns-then-in_store-id_byte

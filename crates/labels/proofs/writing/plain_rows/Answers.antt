@@ -1,9 +1,6 @@
-use Prim.Native.Nat.{◌+◌, ◌-◌}
 use native.Mathlib.Omega.{arith}
-use Rattle.wire.proofs.Writing.Plain.{Going, going_start, going_end, quick-few}
-use Rattle.labels.specs.Write.{row_acts}
+use Rattle.wire.proofs.Writing.Plain.{going_start, going_end, quick-few}
 use Rattle.labels.proofs.Written.{list_inside, row_plain, row-odd}
-use borrow.Author.Rules.{rules}
 use Rattle.labels.proofs.writing.plain_rows.Goals as goal
 
 pub loop-i-init : goal.loop-i-init

@@ -1,10 +1,7 @@
 -- `writing::plain_rows` meets its contract: the rows before the first that is not plain, and their bytes.
 use Prim.Native.Nat.{◌+◌, ◌-◌}
-use native.Mathlib.Omega.{arith}
-use Rattle.wire.proofs.Writing.Plain.{Going, going_start, going_end, quick-few}
+use Rattle.wire.proofs.Writing.Plain.{Going}
 use Rattle.labels.specs.Write.{row_acts}
-use Rattle.labels.proofs.Written.{list_inside, row_plain, row-odd}
-use borrow.Author.Rules.{rules}
 use Rattle.labels.proofs.writing.plain_rows.Given as goal
 
 abbrev pub invariant-loop-i : goal.invariant-loop-i

@@ -2,7 +2,7 @@ use mathlib.Core.Path.{refl, sym, ◌∙◌}
 use Rattle.wire.specs.Prog.{run}
 use Rattle.wire.specs.Layout.{borne_row}
 use Rattle.wire.proofs.Reading.Walk.{as-done}
-use Rattle.wire.proofs.Reading.Loops.{Filling, fill-next, fill_end, first_done}
+use Rattle.wire.proofs.Reading.Loops.{fill-next, fill_end, first_done}
 use Rattle.wire.proofs.Tables.{each-length}
 use Rattle.loudness.specs.Layout as L
 use borrow.Author.Rules.{rules}

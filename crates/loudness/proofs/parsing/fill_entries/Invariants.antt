@@ -1,12 +1,7 @@
 -- `parsing::fill_entries` meets its contract: what is still to store from here is what was to store from the start.
-use mathlib.Core.Path.{refl, sym, ◌∙◌}
-use Rattle.wire.specs.Prog.{run}
 use Rattle.wire.specs.Layout.{borne_row}
-use Rattle.wire.proofs.Reading.Walk.{as-done}
-use Rattle.wire.proofs.Reading.Loops.{Filling, fill-next, fill_end, first_done}
-use Rattle.wire.proofs.Tables.{each-length}
+use Rattle.wire.proofs.Reading.Loops.{Filling}
 use Rattle.loudness.specs.Layout as L
-use borrow.Author.Rules.{rules}
 use Rattle.loudness.proofs.parsing.fill_entries.Given as goal
 
 abbrev pub invariant-loop-left : goal.invariant-loop-left

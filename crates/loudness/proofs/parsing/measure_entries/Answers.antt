@@ -1,9 +1,7 @@
 use mathlib.Core.Path.{refl, ap, sym, ◌∙◌}
 use Rattle.wire.specs.Reads.{ends_out}
 use Rattle.wire.proofs.Reading.Walk.{as-done, as_short}
-use Rattle.wire.proofs.Reading.Loops.{Measuring, carry-turn, carry-cut, carry-end}
-use Rattle.loudness.specs.Layout.{entries}
-use borrow.Author.Rules.{rules}
+use Rattle.wire.proofs.Reading.Loops.{carry-turn, carry-cut, carry-end}
 use Rattle.loudness.proofs.parsing.measure_entries.Goals as goal
 
 pub loop-left-init : goal.loop-left-init

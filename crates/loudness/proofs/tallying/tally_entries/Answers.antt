@@ -1,12 +1,11 @@
 use mathlib.Core.Path.{sym, ◌∙◌}
 use Rattle.wire.specs.Prog.{run}
-use Rattle.wire.specs.Layout.{borne_row, borne_tally}
+use Rattle.wire.specs.Layout.{borne_row}
 use Rattle.wire.proofs.Reading.Walk.{as-done}
 use Rattle.wire.proofs.Reading.Loops.{first_done}
-use Rattle.wire.proofs.Reading.Adding.{Adding, adding-start, adding-turn, adding-end}
+use Rattle.wire.proofs.Reading.Adding.{adding-start, adding-turn, adding-end}
 use Rattle.loudness.specs.Layout.{entry, entries}
 use Rattle.loudness.proofs.Taken.{entry-tally}
-use borrow.Author.Rules.{rules}
 use Rattle.loudness.proofs.tallying.tally_entries.Goals as goal
 
 pub loop-left-init : goal.loop-left-init

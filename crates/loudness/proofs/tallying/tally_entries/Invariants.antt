@@ -1,13 +1,7 @@
 -- `tallying::tally_entries` meets its contract: what is summed up, and what is left, come to the whole.
-use mathlib.Core.Path.{sym, ◌∙◌}
-use Rattle.wire.specs.Prog.{run}
-use Rattle.wire.specs.Layout.{borne_row, borne_tally}
-use Rattle.wire.proofs.Reading.Walk.{as-done}
-use Rattle.wire.proofs.Reading.Loops.{first_done}
-use Rattle.wire.proofs.Reading.Adding.{Adding, adding-start, adding-turn, adding-end}
+use Rattle.wire.specs.Layout.{borne_tally}
+use Rattle.wire.proofs.Reading.Adding.{Adding}
 use Rattle.loudness.specs.Layout.{entry, entries}
-use Rattle.loudness.proofs.Taken.{entry-tally}
-use borrow.Author.Rules.{rules}
 use Rattle.loudness.proofs.tallying.tally_entries.Given as goal
 
 abbrev pub invariant-loop-left : goal.invariant-loop-left

@@ -1,7 +1,6 @@
 -- `writing::check_entries` meets its contract: it counts the plain rows, and names the fault of the first that is not.
 use Rattle.wire.proofs.Writing.Plain.{plain-odd, plain_end}
 use Rattle.loudness.proofs.Written.{row-acts}
-use borrow.Author.Rules.{rules}
 use Rattle.loudness.proofs.writing.check_entries.Goals as goal
 
 pub returns-then-i-count : goal.returns-then-i-count

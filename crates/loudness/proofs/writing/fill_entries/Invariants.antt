@@ -1,13 +1,8 @@
 -- `writing::fill_entries` meets its contract: what is left to store from a row on.
 use Prim.Native.Nat.{◌-◌, ◌≤◌}
-use native.Mathlib.Omega.{arith}
-use native.Mathlib.Nat.{sub-zero}
 use Rattle.wire.specs.Act.{rows}
-use Rattle.wire.proofs.Writing.Passes.{Filling, rows-turn, rows_end, fill_start, fill-row, fill-turn, fill_end}
-use Rattle.wire.proofs.Writing.Plain.{filled-long}
+use Rattle.wire.proofs.Writing.Passes.{Filling}
 use Rattle.loudness.specs.Write.{row_acts}
-use Rattle.loudness.proofs.Written.{row-acts}
-use borrow.Author.Rules.{rules}
 use Rattle.loudness.proofs.writing.fill_entries.Given as goal
 
 abbrev pub invariant-loop-i : goal.invariant-loop-i

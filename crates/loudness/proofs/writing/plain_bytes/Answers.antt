@@ -2,7 +2,6 @@
 use native.Mathlib.Omega.{arith}
 use Rattle.wire.proofs.Writing.Plain.{quick-few}
 use Rattle.loudness.proofs.Written.{entry-plain, entry-odd}
-use borrow.Author.Rules.{rules}
 use Rattle.loudness.proofs.writing.plain_bytes.Goals as goal
 
 pub overflow_add-result-then-in_store-k : goal.overflow_add-result-then-in_store-k

@@ -1,10 +1,9 @@
-use Prim.Native.Nat.{◌+◌, ◌-◌}
+use Prim.Native.Nat.{◌+◌}
 use native.Mathlib.Omega.{arith}
 use Rattle.wire.specs.Pen.{Quick}
 use Rattle.wire.proofs.Writing.Plain.{Going, going_start, going-turn, going-odd, going_end}
 use Rattle.loudness.specs.Write.{row_acts}
 use Rattle.loudness.proofs.Written.{row-acts}
-use borrow.Author.Rules.{rules}
 use Rattle.loudness.proofs.writing.plain_rows.Goals as goal
 
 pub loop-i-init : goal.loop-i-init

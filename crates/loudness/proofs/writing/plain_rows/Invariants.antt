@@ -1,11 +1,7 @@
 -- `writing::plain_rows` meets its contract: the rows before the first that is not plain, and their bytes.
-use Prim.Native.Nat.{◌+◌, ◌-◌}
-use native.Mathlib.Omega.{arith}
-use Rattle.wire.specs.Pen.{Quick}
-use Rattle.wire.proofs.Writing.Plain.{Going, going_start, going-turn, going-odd, going_end}
+use Prim.Native.Nat.{◌-◌}
+use Rattle.wire.proofs.Writing.Plain.{Going}
 use Rattle.loudness.specs.Write.{row_acts}
-use Rattle.loudness.proofs.Written.{row-acts}
-use borrow.Author.Rules.{rules}
 use Rattle.loudness.proofs.writing.plain_rows.Given as goal
 
 abbrev pub invariant-loop-i : goal.invariant-loop-i

@@ -1,6 +1,6 @@
 use mathlib.Core.Path.{refl}
 use Rattle.wire.specs.Layout.{flat}
-use Rattle.wire.proofs.Reading.Loops.{Filling, fill-next, fill_end}
+use Rattle.wire.proofs.Reading.Loops.{fill-next, fill_end}
 use Rattle.pairs.specs.Layout.{pair}
 use Rattle.pairs.proofs.Pairs.{pair-run, pair-there}
 use borrow.Author.Rules.{rules}

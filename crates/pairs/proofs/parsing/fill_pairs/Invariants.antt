@@ -1,10 +1,7 @@
 -- `parsing::fill_pairs` meets its contract: what is still to store from here is what was to store from the start.
-use mathlib.Core.Path.{refl}
 use Rattle.wire.specs.Layout.{flat}
-use Rattle.wire.proofs.Reading.Loops.{Filling, fill-next, fill_end}
+use Rattle.wire.proofs.Reading.Loops.{Filling}
 use Rattle.pairs.specs.Layout.{pair}
-use Rattle.pairs.proofs.Pairs.{pair-run, pair-there}
-use borrow.Author.Rules.{rules}
 use Rattle.pairs.proofs.parsing.fill_pairs.Given as goal
 
 abbrev pub invariant-loop-left : goal.invariant-loop-left

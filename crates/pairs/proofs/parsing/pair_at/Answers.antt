@@ -1,5 +1,4 @@
 -- `parsing::pair_at` meets its contract.
-use borrow.Author.Rules.{rules}
 use Rattle.pairs.proofs.parsing.pair_at.Goals as goal
 
 pub returns : goal.returns

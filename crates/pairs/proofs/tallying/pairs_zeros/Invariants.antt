@@ -1,13 +1,8 @@
 -- `tallying::pairs_zeros` meets its contract: what is summed up, and what is left, come to the whole.
-use mathlib.Core.Path.{ap, sym, ◌∙◌}
 use mathlib.Core.List.{[], ◌∷◌}
-use native.Mathlib.Omega.{arith}
-use Rattle.wire.specs.Bits.{part, zeros}
 use Rattle.wire.specs.Layout.{flat, of, tally}
-use Rattle.wire.proofs.Reading.Adding.{Adding, adding-start, adding-turn, adding-end}
+use Rattle.wire.proofs.Reading.Adding.{Adding}
 use Rattle.pairs.specs.Layout.{pair}
-use Rattle.pairs.proofs.Pairs.{pair-run, pair-there, pair-tally}
-use borrow.Author.Rules.{rules}
 use Rattle.pairs.proofs.tallying.pairs_zeros.Given as goal
 
 abbrev pub invariant-loop-left : goal.invariant-loop-left

@@ -3,7 +3,6 @@ use native.Mathlib.Nat.{one-mul}
 use Rattle.wire.proofs.Layouts.Families.{kids-checked, kids-stopped}
 use Rattle.pairs.specs.Write.{pair_acts}
 use Rattle.pairs.proofs.Pairs.{pair-stopped}
-use borrow.Author.Rules.{rules}
 use Rattle.pairs.proofs.writing.check_pairs.Goals as goal
 
 pub returns-then-k-r : goal.returns-then-k-r

@@ -1,12 +1,8 @@
-use Prim.Native.Nat.{◌-◌, ◌≤◌}
 use native.Mathlib.Omega.{arith}
 use native.Mathlib.Nat.{add-sub_cancel_left}
-use Rattle.wire.specs.Act.{rows}
-use Rattle.wire.proofs.Writing.Passes.{Filling, rows-turn, rows_end, all-filled, fill_start, fill-row, fill-turn, fill_end}
+use Rattle.wire.proofs.Writing.Passes.{rows-turn, rows_end, all-filled, fill_start, fill-row, fill-turn, fill_end}
 use Rattle.wire.proofs.Writing.Plain.{filled-long}
-use Rattle.pairs.specs.Write.{pair_acts}
 use Rattle.pairs.proofs.Pairs.{pair-ready, pair-filled}
-use borrow.Author.Rules.{rules}
 use Rattle.pairs.proofs.writing.fill_pairs.Goals as goal
 
 pub loop-i-init : goal.loop-i-init

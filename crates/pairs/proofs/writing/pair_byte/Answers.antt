@@ -1,6 +1,5 @@
 -- `writing::pair_byte` meets its contract.
 use native.Mathlib.Nat.{add-zero}
-use borrow.Author.Rules.{rules}
 use Rattle.pairs.proofs.writing.pair_byte.Goals as goal
 
 pub returns : goal.returns

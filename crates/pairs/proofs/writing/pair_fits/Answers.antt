@@ -1,6 +1,5 @@
 -- `writing::pair_fits` meets its contract.
 use native.Mathlib.Nat.{add-zero}
-use borrow.Author.Rules.{rules}
 use Rattle.pairs.proofs.writing.pair_fits.Goals as goal
 
 pub returns : goal.returns

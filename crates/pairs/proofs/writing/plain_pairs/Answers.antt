@@ -1,11 +1,10 @@
-use Prim.Native.Nat.{◌-◌, ◌+◌}
+use Prim.Native.Nat.{◌+◌}
 use mathlib.Core.Path.{refl}
 use native.Mathlib.Omega.{arith}
-use Rattle.wire.proofs.Writing.Plain.{Going, going_start, going-turn, going-odd, going_end}
-use Rattle.pairs.specs.Write.{pair_acts}
+use Rattle.wire.proofs.Writing.Plain.{going_start, going-turn, going-odd, going_end}
 use Rattle.pairs.proofs.Pairs.{pair-plain, pair-odd}
 use borrow.Author.Rules.{rules}
-use borrow.Author.Tests.{not-true, not-false}
+use borrow.Author.Tests.{not-false}
 use Rattle.pairs.proofs.writing.plain_pairs.Goals as goal
 
 pub loop-i-init : goal.loop-i-init

@@ -4,7 +4,6 @@ use mathlib.Core.Path.{ap}
 use native.Mathlib.Omega.{arith}
 use Rattle.presets.specs.declared.rows.GroupPreset.{GroupPreset}
 use Rattle.presets.proofs.Taken.{asked, preset-filled}
-use borrow.Author.Rules.{rules}
 use Rattle.presets.proofs.parsing.fill_preset.Goals as goal
 
 pub preset_from-preset-requires : goal.preset_from-preset-requires

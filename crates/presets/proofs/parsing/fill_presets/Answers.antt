@@ -1,10 +1,9 @@
 use mathlib.Core.Path.{refl}
 use native.Mathlib.Omega.{arith}
-use Rattle.wire.proofs.Layouts.Families.{Families, families-start, family-ask, families-turn, families-end}
+use Rattle.wire.proofs.Layouts.Families.{families-start, family-ask, families-turn, families-end}
 use Rattle.conditions.specs.Layout.{condition}
 use Rattle.presets.specs.Layout.{preset}
 use Rattle.presets.proofs.Taken.{test-so}
-use borrow.Author.Rules.{rules}
 use Rattle.presets.proofs.parsing.fill_presets.Goals as goal
 
 pub loop-left-init : goal.loop-left-init

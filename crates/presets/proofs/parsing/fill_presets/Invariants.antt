@@ -1,11 +1,7 @@
 -- `parsing::fill_presets` meets its contract.
-use mathlib.Core.Path.{refl}
-use native.Mathlib.Omega.{arith}
-use Rattle.wire.proofs.Layouts.Families.{Families, families-start, family-ask, families-turn, families-end}
+use Rattle.wire.proofs.Layouts.Families.{Families}
 use Rattle.conditions.specs.Layout.{condition}
 use Rattle.presets.specs.Layout.{preset}
-use Rattle.presets.proofs.Taken.{test-so}
-use borrow.Author.Rules.{rules}
 use Rattle.presets.proofs.parsing.fill_presets.Given as goal
 
 abbrev pub invariant-loop-left : goal.invariant-loop-left

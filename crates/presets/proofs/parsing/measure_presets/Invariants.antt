@@ -1,9 +1,7 @@
 -- `parsing::measure_presets` meets its contract.
 use lib.ListN.{length}
-use Rattle.wire.proofs.Reading.Loops.{Summing, sum-start, sum-turn, sum-cut, sum-end, sum-small, summed-as}
-use Rattle.wire.proofs.Layouts.Families.{kids-summed}
+use Rattle.wire.proofs.Reading.Loops.{Summing}
 use Rattle.presets.specs.Layout.{presets}
-use borrow.Author.Rules.{rules}
 use Rattle.presets.proofs.parsing.measure_presets.Given as goal
 
 abbrev pub invariant-loop-left : goal.invariant-loop-left

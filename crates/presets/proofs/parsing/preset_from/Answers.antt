@@ -1,5 +1,4 @@
 -- `parsing::preset_from` meets its contract.
-use borrow.Author.Rules.{rules}
 use Rattle.presets.proofs.parsing.preset_from.Goals as goal
 
 pub returns : goal.returns

@@ -3,7 +3,6 @@ use native.Mathlib.Omega.{arith}
 use mathlib.Core.Path.{ap}
 use Rattle.wire.specs.Reads.{ends_out}
 use Rattle.presets.proofs.Taken.{Three, three, three-lack, preset-lacks, preset-got}
-use borrow.Author.Rules.{rules}
 use Rattle.presets.proofs.parsing.preset_rows.Goals as goal
 
 pub returns-in_default : goal.returns-in_default

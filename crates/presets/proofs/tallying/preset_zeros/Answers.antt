@@ -4,7 +4,6 @@ use mathlib.Core.Path.{sym, ◌∙◌}
 use native.Mathlib.Omega.{arith}
 use Rattle.presets.specs.Rows.{preset_cols}
 use Rattle.presets.proofs.Taken.{preset-tally}
-use borrow.Author.Rules.{rules}
 use Rattle.presets.proofs.tallying.preset_zeros.Goals as goal
 
 pub returns : goal.returns

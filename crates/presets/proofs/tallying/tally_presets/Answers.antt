@@ -4,10 +4,9 @@ use Rattle.wire.specs.Prog.{run}
 use Rattle.wire.specs.Layout.{family_tally}
 use Rattle.wire.proofs.Reading.Walk.{as-done}
 use Rattle.wire.proofs.Reading.Loops.{first_done}
-use Rattle.wire.proofs.Reading.Adding.{Adding, adding-start, adding-turn, adding-end}
+use Rattle.wire.proofs.Reading.Adding.{adding-start, adding-turn, adding-end}
 use Rattle.conditions.specs.Layout.{condition}
 use Rattle.presets.specs.Layout.{preset, presets}
-use borrow.Author.Rules.{rules}
 use Rattle.presets.proofs.tallying.tally_presets.Goals as goal
 
 pub loop-left-init : goal.loop-left-init

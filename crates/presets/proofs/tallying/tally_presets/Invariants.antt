@@ -1,14 +1,8 @@
 -- `tallying::tally_presets` meets its contract.
-use mathlib.Core.Path.{sym}
-use native.Mathlib.Omega.{arith}
-use Rattle.wire.specs.Prog.{run}
 use Rattle.wire.specs.Layout.{family_tally}
-use Rattle.wire.proofs.Reading.Walk.{as-done}
-use Rattle.wire.proofs.Reading.Loops.{first_done}
-use Rattle.wire.proofs.Reading.Adding.{Adding, adding-start, adding-turn, adding-end}
+use Rattle.wire.proofs.Reading.Adding.{Adding}
 use Rattle.conditions.specs.Layout.{condition}
 use Rattle.presets.specs.Layout.{preset, presets}
-use borrow.Author.Rules.{rules}
 use Rattle.presets.proofs.tallying.tally_presets.Given as goal
 
 abbrev pub invariant-loop-left : goal.invariant-loop-left

@@ -1,7 +1,6 @@
 -- `writing::check_presets` meets its contract.
 use Rattle.wire.proofs.Writing.Plain.{plain-odd, plain_end}
 use Rattle.presets.proofs.Writes.{row-acts}
-use borrow.Author.Rules.{rules}
 use Rattle.presets.proofs.writing.check_presets.Goals as goal
 
 pub returns-then-i-count : goal.returns-then-i-count

@@ -1,13 +1,10 @@
 -- `writing::fill_presets` meets its contract.
 use Prim.Native.Nat.{◌+◌, ◌-◌, ◌*◌, ◌≤◌}
 use mathlib.Core.Path.{◌≡◌}
-use native.Mathlib.Omega.{arith}
 use Rattle.wire.specs.Layout.{family_acts}
 use Rattle.conditions.specs.Layout.{condition}
-use Rattle.conditions.proofs.Counted.{Left, start_left, turn-ready, turn-left, end-left}
+use Rattle.conditions.proofs.Counted.{Left}
 use Rattle.presets.specs.Layout.{preset}
-use Rattle.presets.proofs.Writes.{row_at}
-use borrow.Author.Rules.{rules}
 use Rattle.presets.proofs.writing.fill_presets.Given as goal
 
 abbrev pub invariant-loop-left : goal.invariant-loop-left

@@ -4,7 +4,6 @@ use lib.Dec.{ltb, leb}
 use mathlib.Core.Bool.{Bool, ◌&&◌}
 use mathlib.Core.Path.{refl, sym, ap, ◌∙◌}
 use Rattle.presets.proofs.Writes.{front_fits}
-use borrow.Author.Rules.{rules}
 use Rattle.presets.proofs.writing.front_fits.Goals as goal
 
 pub returns-then-four_fit : goal.returns-then-four_fit

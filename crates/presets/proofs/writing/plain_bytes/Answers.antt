@@ -5,7 +5,7 @@ use mathlib.Core.List.{List}
 use mathlib.Core.Path.{◌≡◌, sym, ◌∙◌}
 use mathlib.Core.Bool.{true, ◌&&◌}
 use native.Mathlib.Omega.{arith}
-use borrow.Author.Tests.{leb-true, not-true, not-false}
+use borrow.Author.Tests.{leb-true}
 use Rattle.wire.specs.Act.{Act}
 use Rattle.wire.specs.Spell.{PlainRun, fit_all}
 use Rattle.wire.proofs.Writing.Acts.{and_both, both-and}

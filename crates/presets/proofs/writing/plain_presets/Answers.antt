@@ -1,11 +1,5 @@
-use Prim.Native.Nat.{◌-◌, ◌*◌, ◌≤◌}
-use mathlib.Core.Path.{◌≡◌}
 use native.Mathlib.Omega.{arith}
-use Rattle.wire.specs.Layout.{family_acts}
-use Rattle.wire.proofs.Writing.Plain.{Going}
-use Rattle.conditions.specs.Layout.{condition}
 use Rattle.conditions.proofs.Counted.{start-going, turn-going, odd-going, end-going}
-use Rattle.presets.specs.Layout.{preset}
 use Rattle.presets.proofs.Writes.{row_at}
 use borrow.Author.Rules.{rules}
 use Rattle.presets.proofs.writing.plain_presets.Goals as goal

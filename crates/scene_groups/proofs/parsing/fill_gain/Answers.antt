@@ -4,7 +4,6 @@ use Rattle.wire.proofs.Layouts.Straight.{size-there}
 use Rattle.wire.specs.Straight.{blanks}
 use Rattle.scene_groups.specs.Rows.{gain_row}
 use Rattle.scene_groups.proofs.Groups.{gain-there, put-there, put-none}
-use borrow.Author.Rules.{rules}
 use Rattle.scene_groups.proofs.parsing.fill_gain.Goals as goal
 
 pub gain_from-g-requires : goal.gain_from-g-requires

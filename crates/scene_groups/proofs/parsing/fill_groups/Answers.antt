@@ -1,5 +1,5 @@
 use mathlib.Core.Path.{refl}
-use Rattle.wire.proofs.Reading.Loops.{Filling, fill-next, fill_end, first_done}
+use Rattle.wire.proofs.Reading.Loops.{fill-next, fill_end, first_done}
 use Rattle.wire.specs.Layout.{flat}
 use Rattle.scene_groups.specs.Layout.{group}
 use borrow.Author.Rules.{rules}

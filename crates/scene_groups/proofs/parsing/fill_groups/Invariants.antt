@@ -1,9 +1,7 @@
 -- `fill_groups` stores each row: what is still to store from here is what was to store from the start.
-use mathlib.Core.Path.{refl}
-use Rattle.wire.proofs.Reading.Loops.{Filling, fill-next, fill_end, first_done}
+use Rattle.wire.proofs.Reading.Loops.{Filling}
 use Rattle.wire.specs.Layout.{flat}
 use Rattle.scene_groups.specs.Layout.{group}
-use borrow.Author.Rules.{rules}
 use Rattle.scene_groups.proofs.parsing.fill_groups.Given as goal
 
 abbrev pub invariant-loop-left : goal.invariant-loop-left

@@ -4,7 +4,6 @@ use Rattle.wire.proofs.Layouts.Straight.{size-there}
 use Rattle.wire.specs.Straight.{blanks}
 use Rattle.scene_groups.specs.Rows.{language_row}
 use Rattle.scene_groups.proofs.Groups.{language-there, put-there, put-none}
-use borrow.Author.Rules.{rules}
 use Rattle.scene_groups.proofs.parsing.fill_language.Goals as goal
 
 pub language_from-l-requires : goal.language_from-l-requires

@@ -4,7 +4,6 @@ use Rattle.wire.proofs.Layouts.Straight.{size-there}
 use Rattle.wire.specs.Straight.{blanks}
 use Rattle.scene_groups.specs.Rows.{position_row}
 use Rattle.scene_groups.proofs.Groups.{position-there, put-there, put-none}
-use borrow.Author.Rules.{rules}
 use Rattle.scene_groups.proofs.parsing.fill_position.Goals as goal
 
 pub position_from-p-requires : goal.position_from-p-requires

@@ -3,7 +3,6 @@ use Rattle.wire.proofs.Layouts.Straight.{size-there, taken_none}
 use Rattle.wire.specs.Straight.{blanks}
 use Rattle.scene_groups.specs.Layout.{gain}
 use Rattle.scene_groups.proofs.Groups.{gain-there}
-use borrow.Author.Rules.{rules}
 use Rattle.scene_groups.proofs.parsing.gain_at.Goals as goal
 
 pub gain_from-requires : goal.gain_from-requires

@@ -1,7 +1,6 @@
 -- `gain_from` takes the fields of the two bytes of a gain.
 use mathlib.Core.Path.{ap, ◌∙◌}
 use Rattle.wire.specs.Bits.{part}
-use borrow.Author.Rules.{rules}
 use Rattle.scene_groups.proofs.parsing.gain_from.Goals as goal
 
 pub returns : goal.returns

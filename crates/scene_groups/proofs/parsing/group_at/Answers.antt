@@ -9,7 +9,6 @@ use Rattle.wire.proofs.Layouts.Straight.{Whole, flat-done}
 use Rattle.scene_groups.specs.Layout.{group}
 use Rattle.scene_groups.specs.Rows.{head_of}
 use Rattle.scene_groups.proofs.Groups.{fives, twos, threes, group-room, group-done, flag-below}
-use borrow.Author.Rules.{rules}
 use Rattle.scene_groups.proofs.parsing.group_at.Goals as goal
 
 pub bounds-body-at : goal.bounds-body-at

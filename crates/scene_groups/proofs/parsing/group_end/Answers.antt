@@ -7,7 +7,6 @@ use Rattle.wire.specs.Reads.{ends_out}
 use Rattle.wire.specs.Straight.{ones}
 use Rattle.wire.proofs.Layouts.Straight.{ends-cut}
 use Rattle.scene_groups.proofs.Groups.{group-ends, Three, three, Singly, singly, singly-cut, with-language, no-language}
-use borrow.Author.Rules.{rules}
 use Rattle.scene_groups.proofs.parsing.group_end.Goals as goal
 
 pub returns-in_default : goal.returns-in_default

@@ -1,6 +1,5 @@
 -- `head_row` takes the seven fields of three bytes.
 use mathlib.Core.List.{[], ◌∷◌}
-use borrow.Author.Rules.{rules}
 use Rattle.scene_groups.proofs.parsing.head_row.Goals as goal
 
 pub returns : goal.returns

@@ -3,7 +3,6 @@ use Rattle.wire.proofs.Layouts.Straight.{size-there, taken_none}
 use Rattle.wire.specs.Straight.{blanks}
 use Rattle.scene_groups.specs.Layout.{language}
 use Rattle.scene_groups.proofs.Groups.{language-there}
-use borrow.Author.Rules.{rules}
 use Rattle.scene_groups.proofs.parsing.language_at.Goals as goal
 
 pub language_from-requires : goal.language_from-requires

@@ -1,7 +1,6 @@
 -- `language_from` takes the three bytes of a language.
 use mathlib.Core.Path.{ap, ◌∙◌}
 use Rattle.wire.specs.Bits.{part}
-use borrow.Author.Rules.{rules}
 use Rattle.scene_groups.proofs.parsing.language_from.Goals as goal
 
 pub returns : goal.returns

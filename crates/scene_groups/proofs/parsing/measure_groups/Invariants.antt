@@ -1,11 +1,7 @@
 -- `measure_groups` is where the rows end: the end from here is the end from the start.
-use mathlib.Core.Path.{refl, ap, sym, ◌∙◌}
-use Rattle.wire.specs.Reads.{ends_out}
-use Rattle.wire.proofs.Reading.Walk.{as-done, as_short}
-use Rattle.wire.proofs.Reading.Loops.{Measuring, carry-turn, carry-cut, carry-end}
+use Rattle.wire.proofs.Reading.Loops.{Measuring}
 use Rattle.wire.specs.Layout.{flat}
 use Rattle.scene_groups.specs.Layout.{group}
-use borrow.Author.Rules.{rules}
 use Rattle.scene_groups.proofs.parsing.measure_groups.Given as goal
 
 abbrev pub invariant-loop-left : goal.invariant-loop-left

@@ -3,7 +3,6 @@ use Rattle.wire.proofs.Layouts.Straight.{size-there, taken_none}
 use Rattle.wire.specs.Straight.{blanks}
 use Rattle.scene_groups.specs.Layout.{position}
 use Rattle.scene_groups.proofs.Groups.{position-there}
-use borrow.Author.Rules.{rules}
 use Rattle.scene_groups.proofs.parsing.position_at.Goals as goal
 
 pub position_from-requires : goal.position_from-requires

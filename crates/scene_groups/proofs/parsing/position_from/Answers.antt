@@ -1,7 +1,6 @@
 -- `position_from` takes the fields of the five bytes of a position.
 use mathlib.Core.Path.{ap, ◌∙◌}
 use Rattle.wire.specs.Bits.{part}
-use borrow.Author.Rules.{rules}
 use Rattle.scene_groups.proofs.parsing.position_from.Goals as goal
 
 pub returns : goal.returns

@@ -2,7 +2,6 @@
 use mathlib.Core.Path.{refl}
 use Rattle.wire.proofs.Fields.{part-below}
 use Rattle.scene_groups.proofs.Groups.{singles-so}
-use borrow.Author.Rules.{rules}
 use Rattle.scene_groups.proofs.parsing.singles.Goals as goal
 
 pub returns : goal.returns

@@ -4,7 +4,6 @@ use mathlib.Core.Path.{sym, ◌∙◌}
 use native.Mathlib.Omega.{arith}
 use Rattle.scene_groups.specs.Rows.{group_cols}
 use Rattle.scene_groups.proofs.Tallied.{group-tally}
-use borrow.Author.Rules.{rules}
 use Rattle.scene_groups.proofs.tallying.group_zeros.Goals as goal
 
 pub returns : goal.returns

@@ -2,7 +2,6 @@
 use Prim.Native.Nat.{◌+◌}
 use native.Mathlib.Omega.{arith}
 use borrow.Author.Tests.{eq-eqb, ne_eqb}
-use borrow.Author.Rules.{rules}
 use Rattle.scene_groups.proofs.tallying.position_zeros.Goals as goal
 
 pub returns-then-p-eq1 : goal.returns-then-p-eq1

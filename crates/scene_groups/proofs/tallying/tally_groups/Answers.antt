@@ -1,9 +1,7 @@
-use mathlib.Core.List.{[], ◌∷◌}
-use Rattle.wire.specs.Layout.{flat, of, tally}
+use Rattle.wire.specs.Layout.{flat}
 use Rattle.wire.proofs.Reading.Loops.{first_done}
-use Rattle.wire.proofs.Reading.Adding.{Adding, adding-start, adding-turn, adding-end}
+use Rattle.wire.proofs.Reading.Adding.{adding-start, adding-turn, adding-end}
 use Rattle.scene_groups.specs.Layout.{group}
-use borrow.Author.Rules.{rules}
 use Rattle.scene_groups.proofs.tallying.tally_groups.Goals as goal
 
 pub loop-left-init : goal.loop-left-init

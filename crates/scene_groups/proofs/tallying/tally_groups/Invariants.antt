@@ -1,10 +1,8 @@
 -- `tally_groups` sums the tallies of the rows: what is summed up, and what is left, come to the whole.
 use mathlib.Core.List.{[], ◌∷◌}
 use Rattle.wire.specs.Layout.{flat, of, tally}
-use Rattle.wire.proofs.Reading.Loops.{first_done}
-use Rattle.wire.proofs.Reading.Adding.{Adding, adding-start, adding-turn, adding-end}
+use Rattle.wire.proofs.Reading.Adding.{Adding}
 use Rattle.scene_groups.specs.Layout.{group}
-use borrow.Author.Rules.{rules}
 use Rattle.scene_groups.proofs.tallying.tally_groups.Given as goal
 
 abbrev pub invariant-loop-left : goal.invariant-loop-left

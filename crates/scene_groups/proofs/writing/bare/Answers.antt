@@ -1,7 +1,6 @@
 -- `bare` tests the three flags of the parts.
 use mathlib.Core.Bool.{◌&&◌}
 use lib.Dec.{eqb}
-use borrow.Author.Rules.{rules}
 use Rattle.scene_groups.proofs.writing.bare.Goals as goal
 
 pub returns : goal.returns

@@ -9,7 +9,6 @@ use Rattle.wire.specs.Layout.{Columns}
 use Rattle.scene_groups.specs.Rows.{group_cols, group_of, position_of, gain_of, language_of}
 use Rattle.scene_groups.specs.Write.{head_fields, position_part, gain_part, language_part}
 use Rattle.scene_groups.proofs.Writes.{group-acts, plain_acts, part_acts, gain_acts, language_acts}
-use borrow.Author.Rules.{rules}
 use Rattle.scene_groups.proofs.writing.fill_group.Goals as goal
 
 pub fill_all-n1-requires : goal.fill_all-n1-requires

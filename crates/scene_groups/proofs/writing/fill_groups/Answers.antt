@@ -1,11 +1,7 @@
-use Prim.Native.Nat.{◌-◌, ◌≤◌}
 use native.Mathlib.Omega.{arith}
 use native.Mathlib.Nat.{sub-zero}
-use Rattle.wire.specs.Act.{rows}
-use Rattle.wire.proofs.Writing.Passes.{Filling, rows-turn, rows_end, fill_start, fill-row, fill-turn, fill_end}
-use Rattle.scene_groups.specs.Write.{row_acts}
+use Rattle.wire.proofs.Writing.Passes.{rows-turn, rows_end, fill_start, fill-row, fill-turn, fill_end}
 use Rattle.scene_groups.proofs.Writes.{row-acts}
-use borrow.Author.Rules.{rules}
 use Rattle.scene_groups.proofs.writing.fill_groups.Goals as goal
 
 pub loop-i-init : goal.loop-i-init

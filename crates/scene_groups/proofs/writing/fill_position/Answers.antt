@@ -4,7 +4,6 @@ use Rattle.wire.specs.Spell.{Spelt}
 use Rattle.scene_groups.specs.Rows.{position_of}
 use Rattle.scene_groups.specs.Write.{position_fields}
 use Rattle.scene_groups.proofs.Writes.{ready-there, filled-there, filled-absent}
-use borrow.Author.Rules.{rules}
 use Rattle.scene_groups.proofs.writing.fill_position.Goals as goal
 
 pub fill_all-requires : goal.fill_all-requires

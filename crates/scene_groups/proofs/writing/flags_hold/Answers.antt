@@ -1,6 +1,5 @@
 -- `flags_hold` tests the five flags of a row.
 use mathlib.Core.Bool.{◌&&◌}
-use borrow.Author.Rules.{rules}
 use Rattle.scene_groups.proofs.writing.flags_hold.Goals as goal
 
 pub returns : goal.returns

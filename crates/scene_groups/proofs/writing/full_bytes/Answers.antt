@@ -5,7 +5,6 @@ use native.Mathlib.Omega.{arith}
 use Rattle.scene_groups.specs.Rows.{group_cols, group_of}
 use Rattle.scene_groups.proofs.Groups.{fives, twos, threes}
 use Rattle.scene_groups.proofs.Writes.{part-most, plain-so, odd-so}
-use borrow.Author.Rules.{rules}
 use Rattle.scene_groups.proofs.writing.full_bytes.Goals as goal
 
 pub overflow_add-result : goal.overflow_add-result

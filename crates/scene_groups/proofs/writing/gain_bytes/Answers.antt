@@ -1,6 +1,5 @@
 -- `gain_bytes` spells the two bytes of a gain.
 use Rattle.wire.specs.Spell.{none, more}
-use borrow.Author.Rules.{rules}
 use Rattle.scene_groups.proofs.writing.gain_bytes.Goals as goal
 
 pub returns : goal.returns

@@ -1,6 +1,5 @@
 -- `head_bytes` spells the three bytes that are always there.
 use Rattle.wire.specs.Spell.{none, more}
-use borrow.Author.Rules.{rules}
 use Rattle.scene_groups.proofs.writing.head_bytes.Goals as goal
 
 pub returns : goal.returns

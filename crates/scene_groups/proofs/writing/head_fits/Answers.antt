@@ -6,7 +6,6 @@ use mathlib.Core.Path.{refl, sym, ◌∙◌}
 use Rattle.scene_groups.specs.Rows.{group_cols, group_of}
 use Rattle.scene_groups.specs.Write.{kind_fits}
 use Rattle.scene_groups.proofs.Writes.{head-fits}
-use borrow.Author.Rules.{rules}
 use Rattle.scene_groups.proofs.writing.head_fits.Goals as goal
 
 pub returns-then-kind_fits : goal.returns-then-kind_fits

@@ -1,5 +1,4 @@
 -- `id_fits` meets its contract: the columns are those of the row.
-use borrow.Author.Rules.{rules}
 use Rattle.scene_groups.proofs.writing.id_fits.Goals as goal
 
 pub returns : goal.returns

@@ -1,5 +1,4 @@
 -- `kind_fits` meets its contract: the columns are those of the row.
-use borrow.Author.Rules.{rules}
 use Rattle.scene_groups.proofs.writing.kind_fits.Goals as goal
 
 pub returns : goal.returns

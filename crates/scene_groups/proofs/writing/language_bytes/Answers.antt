@@ -1,6 +1,5 @@
 -- `language_bytes` spells the three bytes of a language.
 use Rattle.wire.specs.Spell.{none, more}
-use borrow.Author.Rules.{rules}
 use Rattle.scene_groups.proofs.writing.language_bytes.Goals as goal
 
 pub returns : goal.returns

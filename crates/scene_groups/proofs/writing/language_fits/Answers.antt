@@ -1,7 +1,6 @@
 -- `language_fits` tests the bytes of a language that is there.
 use mathlib.Core.Path.{sym, ◌∙◌}
 use Rattle.scene_groups.proofs.Writes.{fits-there, fits-absent}
-use borrow.Author.Rules.{rules}
 use Rattle.scene_groups.proofs.writing.language_fits.Goals as goal
 
 pub returns-then-column-eq1 : goal.returns-then-column-eq1

@@ -1,6 +1,5 @@
 -- `plain` tests the three bytes and each part that is there.
 use mathlib.Core.Bool.{◌&&◌}
-use borrow.Author.Rules.{rules}
 use Rattle.scene_groups.proofs.writing.plain.Goals as goal
 
 pub returns : goal.returns

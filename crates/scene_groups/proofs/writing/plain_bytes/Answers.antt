@@ -1,7 +1,6 @@
 -- `plain_bytes` looks at the three bytes of a row without parts, and at all of any other.
 use Rattle.scene_groups.specs.Rows.{group_cols, group_of}
 use Rattle.scene_groups.proofs.Writes.{bare-so, bare-odd}
-use borrow.Author.Rules.{rules}
 use Rattle.scene_groups.proofs.writing.plain_bytes.Goals as goal
 
 pub returns-then-head_fits : goal.returns-then-head_fits

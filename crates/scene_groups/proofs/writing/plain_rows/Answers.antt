@@ -1,11 +1,9 @@
-use Prim.Native.Nat.{◌+◌, ◌-◌, ◌*◌}
-use mathlib.Core.Path.{◌≡◌}
+use Prim.Native.Nat.{◌+◌}
 use native.Mathlib.Omega.{arith}
 use Rattle.wire.specs.Pen.{Quick}
 use Rattle.wire.proofs.Writing.Plain.{Going, going_start, going-turn, going-odd, going_end}
 use Rattle.scene_groups.specs.Write.{row_acts}
 use Rattle.scene_groups.proofs.Writes.{row_at}
-use borrow.Author.Rules.{rules}
 use Rattle.scene_groups.proofs.writing.plain_rows.Goals as goal
 
 pub loop-i-init : goal.loop-i-init

@@ -1,12 +1,8 @@
 -- `plain_rows` counts the rows before the first that is not plain, and their bytes.
-use Prim.Native.Nat.{◌+◌, ◌-◌, ◌*◌}
+use Prim.Native.Nat.{◌-◌, ◌*◌}
 use mathlib.Core.Path.{◌≡◌}
-use native.Mathlib.Omega.{arith}
-use Rattle.wire.specs.Pen.{Quick}
-use Rattle.wire.proofs.Writing.Plain.{Going, going_start, going-turn, going-odd, going_end}
+use Rattle.wire.proofs.Writing.Plain.{Going}
 use Rattle.scene_groups.specs.Write.{row_acts}
-use Rattle.scene_groups.proofs.Writes.{row_at}
-use borrow.Author.Rules.{rules}
 use Rattle.scene_groups.proofs.writing.plain_rows.Given as goal
 
 abbrev pub invariant-loop-i : goal.invariant-loop-i

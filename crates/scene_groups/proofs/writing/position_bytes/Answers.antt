@@ -1,6 +1,5 @@
 -- `position_bytes` spells the five bytes of a position.
 use Rattle.wire.specs.Spell.{none, more}
-use borrow.Author.Rules.{rules}
 use Rattle.scene_groups.proofs.writing.position_bytes.Goals as goal
 
 pub returns : goal.returns

@@ -1,7 +1,6 @@
 -- `scopes::parsing::case_of` meets its contract.
 use native.Mathlib.Omega.{arith}
 use Rattle.scopes.proofs.Taken.{case-past, case-group, case-preset, case-plain}
-use borrow.Author.Rules.{rules}
 use Rattle.scopes.proofs.parsing.case_of.Goals as goal
 
 pub returns-then-kind-gt3 : goal.returns-then-kind-gt3

@@ -1,12 +1,8 @@
 -- `scopes::parsing::contains` meets its contract: what is left of the list is searched.
 use Prim.Native.Nat.{◌-◌, ◌≤◌}
-use mathlib.Core.Path.{◌≡◌, refl, sym, ◌∙◌}
-use native.Mathlib.Omega.{arith}
+use mathlib.Core.Path.{◌≡◌}
 use lib.ListN.{length, drop}
-use borrow.Author.Tests.{eq-eqb, ne_eqb}
-use borrow.Author.Rules.{rules}
 use Rattle.wire.specs.Layout.{has}
-use Rattle.scopes.proofs.Taken.{has-turn, has_end}
 use Rattle.scopes.proofs.parsing.contains.Given as goal
 
 abbrev pub invariant-loop-i : goal.invariant-loop-i

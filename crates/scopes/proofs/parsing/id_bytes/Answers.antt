@@ -1,7 +1,6 @@
 -- `scopes::parsing::id_bytes` meets its contract.
 use native.Mathlib.Omega.{arith}
 use Rattle.scopes.proofs.Taken.{id-there, id-absent}
-use borrow.Author.Rules.{rules}
 use Rattle.scopes.proofs.parsing.id_bytes.Goals as goal
 
 pub returns-then-case_of-eq0 : goal.returns-then-case_of-eq0

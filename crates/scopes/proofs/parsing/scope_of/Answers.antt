@@ -5,7 +5,6 @@ use borrow.Author.Tests.{eq-eqb, ne_eqb}
 use Rattle.wire.specs.Bits.{part}
 use Rattle.scopes.specs.declared.rows.DrcScope.TheVariants.{Group, Preset}
 use Rattle.scopes.proofs.Taken.{id-inside}
-use borrow.Author.Rules.{rules}
 use Rattle.scopes.proofs.parsing.scope_of.Goals as goal
 
 pub bounds-body-at : goal.bounds-body-at

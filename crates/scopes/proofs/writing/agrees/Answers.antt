@@ -3,7 +3,6 @@ use mathlib.Core.Path.{sym, ap, ◌∙◌}
 use lib.Dec.{eqb}
 use Rattle.scopes.specs.Layout.{case_at}
 use Rattle.scopes.specs.Rows.{case_is}
-use borrow.Author.Rules.{rules}
 use Rattle.scopes.proofs.writing.agrees.Goals as goal
 
 pub returns-in-Plain : goal.returns-in-Plain

@@ -1,6 +1,5 @@
 -- `scopes::writing::fill_scope` meets its contract: the type byte, then the ID byte where it has one.
 use Rattle.scopes.proofs.Written.{type-ready, id-ready, scope-filled}
-use borrow.Author.Rules.{rules}
 use Rattle.scopes.proofs.writing.fill_scope.Goals as goal
 
 pub fill_all-m-requires : goal.fill_all-m-requires

@@ -2,7 +2,6 @@
 use mathlib.Core.List.{[]}
 use native.Mathlib.Omega.{arith}
 use Rattle.wire.specs.Bits.{total, widths}
-use borrow.Author.Rules.{rules}
 use Rattle.scopes.proofs.writing.id_byte.Goals as goal
 
 pub returns-in-Plain : goal.returns-in-Plain

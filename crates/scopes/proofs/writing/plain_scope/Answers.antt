@@ -1,13 +1,12 @@
 -- `scopes::writing::plain_scope` meets its contract: its bytes, or 0 where one of the tests fails.
-use mathlib.Core.Path.{◌≡◌, refl, sym, ap, ◌∙◌}
+use mathlib.Core.Path.{◌≡◌, refl, sym, ◌∙◌}
 use Prim.Native.Nat.{◌^◌}
 use mathlib.Core.Bool.{true}
-use lib.Dec.{eqb, ltb}
+use lib.Dec.{ltb}
 use borrow.Author.Tests.{eq-eqb, eqb-true}
 use Rattle.wire.specs.Bits.{fit}
 use Rattle.wire.proofs.Writing.Plain.{no-quick}
 use Rattle.scopes.proofs.Written.{scope-plain, scope-odd, unknown-odd}
-use borrow.Author.Rules.{rules}
 use Rattle.scopes.proofs.writing.plain_scope.Goals as goal
 use Rattle.scopes.proofs.writing.plain_scope.Goals.{else-fits-via-then-fits+else-case_of-eq0, else-fits-via-else-fits, else-two_fit-via-then-two_fit+then-fits-2+else-case_of-eq1, else-two_fit-via-then-two_fit+else-fits-2, else-two_fit-via-else-two_fit, else-two_fit-2-via-then-two_fit-2+else-case_of-eq2, else-two_fit-2-via-else-two_fit-2}
 

@@ -1,5 +1,4 @@
 -- `scopes::writing::type_byte` meets its contract.
-use borrow.Author.Rules.{rules}
 use Rattle.scopes.proofs.writing.type_byte.Goals as goal
 
 pub returns : goal.returns

@@ -1,8 +1,7 @@
 use mathlib.Core.Path.{refl}
 use Rattle.wire.specs.Layout.{flat}
-use Rattle.wire.proofs.Reading.Loops.{Filling, fill-next, fill_end, first_done}
+use Rattle.wire.proofs.Reading.Loops.{fill-next, fill_end, first_done}
 use Rattle.stream_groups.specs.Layout.{group}
-use borrow.Author.Rules.{rules}
 use Rattle.stream_groups.proofs.parsing.fill_groups.Goals as goal
 
 pub loop-left-init : goal.loop-left-init

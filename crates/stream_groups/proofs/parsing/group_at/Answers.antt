@@ -2,7 +2,6 @@
 use Rattle.wire.proofs.Layouts.Straight.{Whole, flat-done}
 use Rattle.stream_groups.specs.Layout.{group}
 use Rattle.stream_groups.proofs.Taken.{first-there, second-there, main-done, outside-done}
-use borrow.Author.Rules.{rules}
 use Rattle.stream_groups.proofs.parsing.group_at.Goals as goal
 
 pub bounds-body-at : goal.bounds-body-at

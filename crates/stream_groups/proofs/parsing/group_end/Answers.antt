@@ -4,7 +4,6 @@ use native.Mathlib.Omega.{arith}
 use Rattle.wire.specs.Reads.{byte_out}
 use Rattle.wire.proofs.Layouts.Straight.{Behind}
 use Rattle.stream_groups.proofs.Taken.{group-cut, group-behind, group-main, group-outside}
-use borrow.Author.Rules.{rules}
 use Rattle.stream_groups.proofs.parsing.group_end.Goals as goal
 
 pub returns-in_default : goal.returns-in_default

@@ -1,10 +1,7 @@
 use mathlib.Core.Path.{refl, ap, sym, ◌∙◌}
 use Rattle.wire.specs.Reads.{ends_out}
-use Rattle.wire.specs.Layout.{flat}
 use Rattle.wire.proofs.Reading.Walk.{as-done, as_short}
-use Rattle.wire.proofs.Reading.Loops.{Measuring, carry-turn, carry-cut, carry-end}
-use Rattle.stream_groups.specs.Layout.{group}
-use borrow.Author.Rules.{rules}
+use Rattle.wire.proofs.Reading.Loops.{carry-turn, carry-cut, carry-end}
 use Rattle.stream_groups.proofs.parsing.groups_end.Goals as goal
 
 pub loop-left-init : goal.loop-left-init

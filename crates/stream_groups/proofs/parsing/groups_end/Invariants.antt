@@ -1,11 +1,7 @@
 -- `groups_end` is where the rows end: the end from here is the end from the start.
-use mathlib.Core.Path.{refl, ap, sym, ◌∙◌}
-use Rattle.wire.specs.Reads.{ends_out}
 use Rattle.wire.specs.Layout.{flat}
-use Rattle.wire.proofs.Reading.Walk.{as-done, as_short}
-use Rattle.wire.proofs.Reading.Loops.{Measuring, carry-turn, carry-cut, carry-end}
+use Rattle.wire.proofs.Reading.Loops.{Measuring}
 use Rattle.stream_groups.specs.Layout.{group}
-use borrow.Author.Rules.{rules}
 use Rattle.stream_groups.proofs.parsing.groups_end.Given as goal
 
 abbrev pub invariant-loop-left : goal.invariant-loop-left

@@ -1,6 +1,5 @@
 -- `measure_groups` goes on with a test of each byte where the quick pass stopped, or from the start.
 use mathlib.Core.Path.{◌∙◌}
-use borrow.Author.Rules.{rules}
 use Rattle.stream_groups.proofs.parsing.measure_groups.Goals as goal
 
 pub returns-then-count-body : goal.returns-then-count-body

@@ -2,7 +2,6 @@ use Prim.Native.Nat.{◌+◌, ◌-◌}
 use mathlib.Core.Path.{refl}
 use native.Mathlib.Omega.{arith}
 use Rattle.stream_groups.proofs.Taken.{Sparing, spare-turn}
-use borrow.Author.Rules.{rules}
 use Rattle.stream_groups.proofs.parsing.quick_groups.Goals as goal
 use Rattle.stream_groups.proofs.parsing.quick_groups.Goals.{then-part-eq0+else-spare-eq0, else-part-eq0}
 

@@ -1,7 +1,6 @@
 -- `check_groups` counts the plain rows, and names the fault of the first that is not.
 use Rattle.wire.proofs.Writing.Plain.{plain-odd, plain_end}
 use Rattle.stream_groups.proofs.Writes.{row-acts}
-use borrow.Author.Rules.{rules}
 use Rattle.stream_groups.proofs.writing.check_groups.Goals as goal
 
 pub returns-then-i-count : goal.returns-then-i-count

@@ -9,7 +9,6 @@ use Rattle.wire.proofs.Writing.Plain.{ready-part, fill-part, filled-long}
 use Rattle.stream_groups.specs.Rows.{group_cols}
 use Rattle.stream_groups.specs.Write.{group_byte, location_part}
 use Rattle.stream_groups.proofs.Writes.{group-acts, plain_acts, location_acts}
-use borrow.Author.Rules.{rules}
 use Rattle.stream_groups.proofs.writing.fill_group.Goals as goal
 
 pub fill_all-n1-requires : goal.fill_all-n1-requires

@@ -1,13 +1,8 @@
 -- `fill_groups` stores the bytes of the rows: what is left to store from a row on.
 use Prim.Native.Nat.{◌-◌, ◌≤◌}
-use native.Mathlib.Omega.{arith}
-use native.Mathlib.Nat.{sub-zero}
 use Rattle.wire.specs.Act.{rows}
-use Rattle.wire.proofs.Writing.Passes.{Filling, rows-turn, rows_end, fill_start, fill-row, fill-turn, fill_end}
-use Rattle.wire.proofs.Writing.Plain.{filled-long}
+use Rattle.wire.proofs.Writing.Passes.{Filling}
 use Rattle.stream_groups.specs.Write.{row_acts}
-use Rattle.stream_groups.proofs.Writes.{row-acts}
-use borrow.Author.Rules.{rules}
 use Rattle.stream_groups.proofs.writing.fill_groups.Given as goal
 
 abbrev pub invariant-loop-i : goal.invariant-loop-i

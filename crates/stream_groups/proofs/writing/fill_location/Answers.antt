@@ -6,7 +6,6 @@ use Rattle.wire.specs.Pen.{Ready}
 use Rattle.wire.specs.Spell.{none, more}
 use Rattle.wire.proofs.Writing.Passes.{fill_none}
 use Rattle.stream_groups.specs.Write.{location_byte}
-use borrow.Author.Rules.{rules}
 use Rattle.stream_groups.proofs.writing.fill_location.Goals as goal
 
 pub fill_all-requires : goal.fill_all-requires

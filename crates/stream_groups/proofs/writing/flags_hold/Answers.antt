@@ -5,8 +5,6 @@ use lib.Dec.{eqb}
 use borrow.Author.Tests.{eq-eqb, ne_eqb}
 use Rattle.wire.specs.Bits.{is_flag}
 use Rattle.wire.specs.Act.{pick}
-use Rattle.stream_groups.specs.declared.rows.Auxiliary.{Auxiliary}
-use borrow.Author.Rules.{rules}
 use Rattle.stream_groups.proofs.writing.flags_hold.Goals as goal
 use Rattle.stream_groups.proofs.writing.flags_hold.Goals.{then-a-eq1, else-a-eq1}
 

@@ -5,7 +5,6 @@ use native.Mathlib.Omega.{arith}
 use Rattle.wire.specs.Layout.{Columns}
 use Rattle.stream_groups.specs.Rows.{group_cols, group_of}
 use Rattle.stream_groups.proofs.Writes.{plain-main, plain-located, odd-id, odd-flags, odd-location}
-use borrow.Author.Rules.{rules}
 use Rattle.stream_groups.proofs.writing.plain_bytes.Goals as goal
 
 pub returns-then-groups-b-ge128 : goal.returns-then-groups-b-ge128

@@ -1,7 +1,6 @@
 -- `parsing::fill_switch_group` meets its contract: its first two bytes, its members, and its default.
 use native.Mathlib.Omega.{arith}
 use Rattle.switch_groups.proofs.Switches.{two-there, members-ask, default-there, switch-filled}
-use borrow.Author.Rules.{rules}
 use Rattle.switch_groups.proofs.parsing.fill_switch_group.Goals as goal
 
 pub bounds-body-at : goal.bounds-body-at

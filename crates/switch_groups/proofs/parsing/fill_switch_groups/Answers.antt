@@ -1,10 +1,9 @@
 use mathlib.Core.Path.{refl, ap, ◌∙◌}
 use native.Mathlib.Omega.{arith}
 use lib.Seq.{sets}
-use Rattle.wire.proofs.Layouts.Families.{Families, families-start, family-ask, families-turn, families-end}
+use Rattle.wire.proofs.Layouts.Families.{families-start, family-ask, families-turn, families-end}
 use Rattle.switch_groups.specs.Layout.{member, switch_group}
 use Rattle.switch_groups.proofs.Switches.{fills}
-use borrow.Author.Rules.{rules}
 use Rattle.switch_groups.proofs.parsing.fill_switch_groups.Goals as goal
 
 pub loop-left-init : goal.loop-left-init

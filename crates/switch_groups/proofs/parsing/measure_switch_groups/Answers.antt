@@ -1,9 +1,8 @@
 use native.Mathlib.Omega.{arith}
 use lib.ListN.{length}
-use Rattle.wire.proofs.Reading.Loops.{Summing, sum-start, sum-turn, sum-cut, sum-end, sum-small, summed-as}
+use Rattle.wire.proofs.Reading.Loops.{sum-start, sum-turn, sum-cut, sum-end, sum-small, summed-as}
 use Rattle.wire.proofs.Layouts.Families.{kids-summed}
 use Rattle.switch_groups.specs.Layout.{switch_group_list}
-use borrow.Author.Rules.{rules}
 use Rattle.switch_groups.proofs.parsing.measure_switch_groups.Goals as goal
 
 pub loop-left-init : goal.loop-left-init

@@ -1,10 +1,7 @@
 -- `parsing::measure_switch_groups` meets its contract: the members so far, and those of the switch groups that are left.
-use native.Mathlib.Omega.{arith}
 use lib.ListN.{length}
-use Rattle.wire.proofs.Reading.Loops.{Summing, sum-start, sum-turn, sum-cut, sum-end, sum-small, summed-as}
-use Rattle.wire.proofs.Layouts.Families.{kids-summed}
+use Rattle.wire.proofs.Reading.Loops.{Summing}
 use Rattle.switch_groups.specs.Layout.{switch_group_list}
-use borrow.Author.Rules.{rules}
 use Rattle.switch_groups.proofs.parsing.measure_switch_groups.Given as goal
 
 abbrev pub invariant-loop-left : goal.invariant-loop-left

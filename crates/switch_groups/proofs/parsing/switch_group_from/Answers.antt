@@ -1,5 +1,4 @@
 -- `parsing::switch_group_from` meets its contract.
-use borrow.Author.Rules.{rules}
 use Rattle.switch_groups.proofs.parsing.switch_group_from.Goals as goal
 
 pub returns : goal.returns

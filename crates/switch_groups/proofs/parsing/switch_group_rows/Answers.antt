@@ -3,7 +3,6 @@ use mathlib.Core.Path.{ap}
 use native.Mathlib.Omega.{arith}
 use Rattle.wire.specs.Reads.{ends_out}
 use Rattle.switch_groups.proofs.Switches.{Two, two, two-lack, all-lack, all-got}
-use borrow.Author.Rules.{rules}
 use Rattle.switch_groups.proofs.parsing.switch_group_rows.Goals as goal
 
 pub returns-in_default : goal.returns-in_default

@@ -3,9 +3,8 @@ use Rattle.wire.specs.Layout.{family_tally}
 use Rattle.wire.specs.Prog.{run}
 use Rattle.wire.proofs.Reading.Walk.{as-done}
 use Rattle.wire.proofs.Reading.Loops.{first_done}
-use Rattle.wire.proofs.Reading.Adding.{Adding, adding-start, adding-turn, adding-end}
+use Rattle.wire.proofs.Reading.Adding.{adding-start, adding-turn, adding-end}
 use Rattle.switch_groups.specs.Layout.{member, switch_group, switch_group_list}
-use borrow.Author.Rules.{rules}
 use Rattle.switch_groups.proofs.tallying.tally_switch_groups.Goals as goal
 
 pub loop-left-init : goal.loop-left-init

@@ -1,12 +1,7 @@
 -- `tallying::tally_switch_groups` meets its contract: what is summed up, and what is left, come to the whole.
-use mathlib.Core.Path.{sym}
 use Rattle.wire.specs.Layout.{family_tally}
-use Rattle.wire.specs.Prog.{run}
-use Rattle.wire.proofs.Reading.Walk.{as-done}
-use Rattle.wire.proofs.Reading.Loops.{first_done}
-use Rattle.wire.proofs.Reading.Adding.{Adding, adding-start, adding-turn, adding-end}
+use Rattle.wire.proofs.Reading.Adding.{Adding}
 use Rattle.switch_groups.specs.Layout.{member, switch_group, switch_group_list}
-use borrow.Author.Rules.{rules}
 use Rattle.switch_groups.proofs.tallying.tally_switch_groups.Given as goal
 
 abbrev pub invariant-loop-left : goal.invariant-loop-left

@@ -9,7 +9,6 @@ use Rattle.wire.proofs.Layouts.Families.{front_acts}
 use Rattle.switch_groups.specs.Layout.{switch_group}
 use Rattle.switch_groups.specs.Rows.{switch_group_cols}
 use Rattle.switch_groups.proofs.Writes.{front, front-behind, front-near, front-stopped, row-checked}
-use borrow.Author.Rules.{rules}
 use Rattle.switch_groups.proofs.writing.check_switch_group.Goals as goal
 
 pub returns-in_default : goal.returns-in_default

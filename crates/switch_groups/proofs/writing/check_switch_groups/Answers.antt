@@ -1,7 +1,6 @@
 -- `writing::check_switch_groups` meets its contract.
 use Rattle.wire.proofs.Writing.Plain.{plain-odd, plain_end}
 use Rattle.switch_groups.proofs.Writes.{row-acts}
-use borrow.Author.Rules.{rules}
 use Rattle.switch_groups.proofs.writing.check_switch_groups.Goals as goal
 
 pub returns-then-i-count : goal.returns-then-i-count

@@ -4,7 +4,6 @@ use mathlib.Core.Bool.{Bool, ◌&&◌}
 use Prim.Native.Nat.{◌^◌}
 use lib.Dec.{leb, ltb}
 use Rattle.switch_groups.proofs.Writes.{id_fits, default_fits, fields-so}
-use borrow.Author.Rules.{rules}
 use Rattle.switch_groups.proofs.writing.fields_fit.Goals as goal
 use Rattle.switch_groups.proofs.writing.fields_fit.Goals.{then-four_fit, else-four_fit, then-fits, else-fits}
 

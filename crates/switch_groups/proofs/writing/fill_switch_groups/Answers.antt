@@ -1,13 +1,8 @@
-use Prim.Native.Nat.{◌-◌, ◌≤◌}
 use native.Mathlib.Omega.{arith}
 use native.Mathlib.Nat.{sub-zero}
-use Rattle.wire.specs.Act.{rows}
-use Rattle.wire.specs.Layout.{family_acts}
-use Rattle.wire.proofs.Writing.Passes.{Filling, rows-turn, rows_end, fill_start, fill-row, fill-turn, fill_end}
+use Rattle.wire.proofs.Writing.Passes.{rows-turn, rows_end, fill_start, fill-row, fill-turn, fill_end}
 use Rattle.wire.proofs.Writing.Plain.{filled-long}
-use Rattle.switch_groups.specs.Layout.{member, switch_group}
 use Rattle.switch_groups.proofs.Writes.{row-acts}
-use borrow.Author.Rules.{rules}
 use Rattle.switch_groups.proofs.writing.fill_switch_groups.Goals as goal
 
 pub loop-i-init : goal.loop-i-init

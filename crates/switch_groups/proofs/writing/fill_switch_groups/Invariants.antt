@@ -1,14 +1,9 @@
 -- `writing::fill_switch_groups` meets its contract: what is left to store from a row on.
 use Prim.Native.Nat.{◌-◌, ◌≤◌}
-use native.Mathlib.Omega.{arith}
-use native.Mathlib.Nat.{sub-zero}
 use Rattle.wire.specs.Act.{rows}
 use Rattle.wire.specs.Layout.{family_acts}
-use Rattle.wire.proofs.Writing.Passes.{Filling, rows-turn, rows_end, fill_start, fill-row, fill-turn, fill_end}
-use Rattle.wire.proofs.Writing.Plain.{filled-long}
+use Rattle.wire.proofs.Writing.Passes.{Filling}
 use Rattle.switch_groups.specs.Layout.{member, switch_group}
-use Rattle.switch_groups.proofs.Writes.{row-acts}
-use borrow.Author.Rules.{rules}
 use Rattle.switch_groups.proofs.writing.fill_switch_groups.Given as goal
 
 abbrev pub invariant-loop-i : goal.invariant-loop-i

@@ -1,6 +1,5 @@
 -- `writing::plain_bytes` meets its contract: a fault of its own, one of a member, or none.
 use Rattle.switch_groups.proofs.Writes.{row-uncounted, row-odd, row-behind, row_plain, row-odd-kid}
-use borrow.Author.Rules.{rules}
 use Rattle.switch_groups.proofs.writing.plain_bytes.Goals as goal
 use Rattle.switch_groups.proofs.writing.plain_bytes.Goals.{else-counted-via-then-counted+else-fields_fit, else-counted-via-else-counted}
 

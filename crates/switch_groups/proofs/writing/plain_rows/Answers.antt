@@ -1,12 +1,9 @@
-use Prim.Native.Nat.{◌-◌, ◌*◌}
-use mathlib.Core.Path.{◌≡◌}
 use native.Mathlib.Omega.{arith}
 use Rattle.wire.specs.Pen.{Quick}
 use Rattle.wire.specs.Layout.{family_acts}
-use Rattle.wire.proofs.Writing.Plain.{Going, going_start, going-turn, going-odd, going_end}
+use Rattle.wire.proofs.Writing.Plain.{going_start, going-turn, going-odd, going_end}
 use Rattle.switch_groups.specs.Layout.{member, switch_group}
 use Rattle.switch_groups.proofs.Writes.{row-quick}
-use borrow.Author.Rules.{rules}
 use Rattle.switch_groups.proofs.writing.plain_rows.Goals as goal
 
 pub loop-i-init : goal.loop-i-init

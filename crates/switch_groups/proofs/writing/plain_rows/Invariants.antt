@@ -1,13 +1,9 @@
 -- `writing::plain_rows` meets its contract: the plain rows passed, and their bytes.
 use Prim.Native.Nat.{◌-◌, ◌*◌}
 use mathlib.Core.Path.{◌≡◌}
-use native.Mathlib.Omega.{arith}
-use Rattle.wire.specs.Pen.{Quick}
 use Rattle.wire.specs.Layout.{family_acts}
-use Rattle.wire.proofs.Writing.Plain.{Going, going_start, going-turn, going-odd, going_end}
+use Rattle.wire.proofs.Writing.Plain.{Going}
 use Rattle.switch_groups.specs.Layout.{member, switch_group}
-use Rattle.switch_groups.proofs.Writes.{row-quick}
-use borrow.Author.Rules.{rules}
 use Rattle.switch_groups.proofs.writing.plain_rows.Given as goal
 
 abbrev pub invariant-loop-i : goal.invariant-loop-i

@@ -3,7 +3,6 @@ use Rattle.wire.specs.Straight.{blanks}
 use Rattle.wire.proofs.Layouts.Straight.{taken_none}
 use Rattle.target_loudness.specs.Layout.{lower}
 use Rattle.target_loudness.proofs.Taken.{lower-there}
-use borrow.Author.Rules.{rules}
 use Rattle.target_loudness.proofs.parsing.lower_at.Goals as goal
 
 pub returns-then-present-eq1 : goal.returns-then-present-eq1

@@ -2,7 +2,6 @@
 use Rattle.wire.specs.Straight.{blanks}
 use Rattle.wire.proofs.Layouts.Straight.{taken_none, size-there}
 use Rattle.target_loudness.specs.Layout.{target}
-use borrow.Author.Rules.{rules}
 use Rattle.target_loudness.proofs.parsing.target_at.Goals as goal
 
 pub target_from-requires : goal.target_from-requires

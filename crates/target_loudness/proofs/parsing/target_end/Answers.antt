@@ -6,7 +6,6 @@ use Rattle.wire.specs.Reads.{ends_out}
 use Rattle.wire.proofs.Layouts.Straight.{Behind, behind-one, one-cut, one_more}
 use Rattle.wire.proofs.Fields.{part-below}
 use Rattle.target_loudness.proofs.Taken.{there-ends, none-ends}
-use borrow.Author.Rules.{rules}
 use Rattle.target_loudness.proofs.parsing.target_end.Goals as goal
 
 pub returns-in_default : goal.returns-in_default

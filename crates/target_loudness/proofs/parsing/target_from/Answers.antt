@@ -2,7 +2,6 @@
 use Prim.Native.Nat.{ℕ, ◌+◌}
 use mathlib.Core.Path.{ap}
 use Rattle.target_loudness.proofs.Taken.{target-taken}
-use borrow.Author.Rules.{rules}
 use Rattle.target_loudness.proofs.parsing.target_from.Goals as goal
 
 pub returns : goal.returns

@@ -1,7 +1,6 @@
 -- `tallying::lower_zeros` meets its contract.
 use native.Mathlib.Omega.{arith}
 use borrow.Author.Tests.{eq-eqb, ne_eqb}
-use borrow.Author.Rules.{rules}
 use Rattle.target_loudness.proofs.tallying.lower_zeros.Goals as goal
 
 pub returns-then-l-eq1 : goal.returns-then-l-eq1

@@ -2,7 +2,6 @@
 use native.Mathlib.Omega.{arith}
 use Rattle.wire.specs.Bits.{total, widths}
 use Rattle.wire.specs.Spell.{none, more}
-use borrow.Author.Rules.{rules}
 use Rattle.target_loudness.proofs.writing.depends_bytes.Goals as goal
 
 pub returns : goal.returns

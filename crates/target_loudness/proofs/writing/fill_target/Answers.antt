@@ -1,7 +1,6 @@
 -- `writing::fill_target` meets its contract.
 use Rattle.target_loudness.specs.Rows.{target_cols}
 use Rattle.target_loudness.proofs.Writes.{upper-ready, lower-ready, depends-ready, target-filled, none_filled}
-use borrow.Author.Rules.{rules}
 use Rattle.target_loudness.proofs.writing.fill_target.Goals as goal
 
 pub fill_all-n1-requires : goal.fill_all-n1-requires

@@ -1,7 +1,6 @@
 -- `writing::flags_hold` meets its contract.
 use mathlib.Core.Path.{sym, ◌∙◌}
 use Rattle.wire.proofs.Writing.Plain.{flags-there, flags-absent}
-use borrow.Author.Rules.{rules}
 use Rattle.target_loudness.proofs.writing.flags_hold.Goals as goal
 
 pub returns-then-t-eq1 : goal.returns-then-t-eq1

@@ -1,6 +1,5 @@
 -- `writing::lower_bytes` meets its contract.
 use Rattle.wire.specs.Spell.{none, more}
-use borrow.Author.Rules.{rules}
 use Rattle.target_loudness.proofs.writing.lower_bytes.Goals as goal
 
 pub returns : goal.returns

@@ -1,7 +1,6 @@
 -- `writing::target_fits` meets its contract.
 use Rattle.target_loudness.specs.Rows.{target_cols}
 use Rattle.target_loudness.proofs.Writes.{fits-with, fits-without, fits-none}
-use borrow.Author.Rules.{rules}
 use Rattle.target_loudness.proofs.writing.target_fits.Goals as goal
 
 pub returns-then-t-eq1-2 : goal.returns-then-t-eq1-2

@@ -3,7 +3,6 @@ use native.Mathlib.Omega.{arith}
 use borrow.Author.Tests.{ne_eqb}
 use Rattle.target_loudness.specs.Rows.{target_cols}
 use Rattle.target_loudness.proofs.Writes.{long-there}
-use borrow.Author.Rules.{rules}
 use Rattle.target_loudness.proofs.writing.target_long.Goals as goal
 
 pub returns-then-t-eq1 : goal.returns-then-t-eq1

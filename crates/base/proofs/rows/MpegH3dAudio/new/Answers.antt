@@ -1,5 +1,4 @@
 -- `MpegH3dAudio::new` meets its contract: six ones are 63, two are 3.
-use borrow.Author.Rules.{rules}
 use Rattle.base.proofs.rows.MpegH3dAudio.new.Goals as goal
 
 pub returns : goal.returns

@@ -1,5 +1,4 @@
 -- `rows::DownmixDefinition::new` meets its contract.
-use borrow.Author.Rules.{rules}
 use Rattle.downmixes.proofs.rows.DownmixDefinition.new.Goals as goal
 
 pub returns : goal.returns

@@ -1,5 +1,4 @@
 -- `rows::DrcInstructions::new` meets its contract.
-use borrow.Author.Rules.{rules}
 use Rattle.instructions.proofs.rows.DrcInstructions.new.Goals as goal
 
 pub returns : goal.returns

@@ -1,5 +1,4 @@
 -- `rows::DrcInstructions::of_columns` meets its contract.
-use borrow.Author.Rules.{rules}
 use Rattle.instructions.proofs.rows.DrcInstructions.of_columns.Goals as goal
 
 pub returns : goal.returns

@@ -1,5 +1,4 @@
 -- `labels::rows::Descriptions::of_groups` meets its contract.
-use borrow.Author.Rules.{rules}
 use Rattle.labels.proofs.rows.Descriptions.of_groups.Goals as goal
 
 pub returns : goal.returns

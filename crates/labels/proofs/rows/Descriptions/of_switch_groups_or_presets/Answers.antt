@@ -1,5 +1,4 @@
 -- `labels::rows::Descriptions::of_switch_groups_or_presets` meets its contract.
-use borrow.Author.Rules.{rules}
 use Rattle.labels.proofs.rows.Descriptions.of_switch_groups_or_presets.Goals as goal
 
 pub returns : goal.returns

@@ -1,5 +1,4 @@
 -- `labels::rows::TextLabelEntry::preset` meets its contract.
-use borrow.Author.Rules.{rules}
 use Rattle.labels.proofs.rows.TextLabelEntry.preset.Goals as goal
 
 pub returns : goal.returns

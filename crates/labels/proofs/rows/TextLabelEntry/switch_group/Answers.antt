@@ -1,5 +1,4 @@
 -- `labels::rows::TextLabelEntry::switch_group` meets its contract.
-use borrow.Author.Rules.{rules}
 use Rattle.labels.proofs.rows.TextLabelEntry.switch_group.Goals as goal
 
 pub returns : goal.returns

@@ -1,5 +1,4 @@
 -- `rows::LoudnessInfoEntry::new` meets its contract.
-use borrow.Author.Rules.{rules}
 use Rattle.loudness.proofs.rows.LoudnessInfoEntry.new.Goals as goal
 
 pub returns : goal.returns

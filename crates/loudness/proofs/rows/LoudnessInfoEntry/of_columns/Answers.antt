@@ -1,5 +1,4 @@
 -- `rows::LoudnessInfoEntry::of_columns` meets its contract.
-use borrow.Author.Rules.{rules}
 use Rattle.loudness.proofs.rows.LoudnessInfoEntry.of_columns.Goals as goal
 
 pub returns : goal.returns

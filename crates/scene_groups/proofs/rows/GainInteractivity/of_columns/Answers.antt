@@ -1,5 +1,4 @@
 -- `GainInteractivity::of_columns` is the part's columns, each where it stands in the row.
-use borrow.Author.Rules.{rules}
 use Rattle.scene_groups.proofs.rows.GainInteractivity.of_columns.Goals as goal
 
 pub returns : goal.returns

@@ -1,5 +1,4 @@
 -- `SceneGroup::new` is a group with its reserved bits all ones and no part.
-use borrow.Author.Rules.{rules}
 use Rattle.scene_groups.proofs.rows.SceneGroup.new.Goals as goal
 
 pub returns : goal.returns

@@ -1,6 +1,5 @@
 -- `SceneGroup::of_columns` is seven columns of its own, and its parts.
 use lib.ListN.{get_or}
-use borrow.Author.Rules.{rules}
 use Rattle.scene_groups.proofs.rows.SceneGroup.of_columns.Goals as goal
 
 pub returns : goal.returns

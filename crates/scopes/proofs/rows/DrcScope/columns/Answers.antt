@@ -1,7 +1,6 @@
 -- `DrcScope::columns` gives the four columns of each case.
 use mathlib.Core.Path.{sym, ap}
 use Rattle.scopes.specs.Rows.{scope_row}
-use borrow.Author.Rules.{rules}
 use Rattle.scopes.proofs.rows.DrcScope.columns.Goals as goal
 
 pub returns-in-Plain : goal.returns-in-Plain

@@ -1,7 +1,6 @@
 -- `DrcScope::of_columns` tells the cases apart.
 use mathlib.Core.Path.{refl}
 use borrow.Author.Tests.{eq-eqb, ne_eqb}
-use borrow.Author.Rules.{rules}
 use Rattle.scopes.proofs.rows.DrcScope.of_columns.Goals as goal
 
 pub returns-then-case-eq0 : goal.returns-then-case-eq0

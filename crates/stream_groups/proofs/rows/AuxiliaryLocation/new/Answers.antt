@@ -1,5 +1,4 @@
 -- `AuxiliaryLocation::new` has the flag as a bit, and the ID.
-use borrow.Author.Rules.{rules}
 use Rattle.stream_groups.proofs.rows.AuxiliaryLocation.new.Goals as goal
 
 pub returns : goal.returns

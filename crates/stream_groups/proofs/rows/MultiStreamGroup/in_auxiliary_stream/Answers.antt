@@ -1,5 +1,4 @@
 -- `in_auxiliary_stream` makes a group outside the main stream, with its location.
-use borrow.Author.Rules.{rules}
 use Rattle.stream_groups.proofs.rows.MultiStreamGroup.in_auxiliary_stream.Goals as goal
 
 pub returns : goal.returns

@@ -1,5 +1,4 @@
 -- `in_main_stream` makes a group in the main stream, which has no location.
-use borrow.Author.Rules.{rules}
 use Rattle.stream_groups.proofs.rows.MultiStreamGroup.in_main_stream.Goals as goal
 
 pub returns : goal.returns

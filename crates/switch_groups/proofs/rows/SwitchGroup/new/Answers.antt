@@ -1,5 +1,4 @@
 -- `rows::SwitchGroup::new` meets its contract.
-use borrow.Author.Rules.{rules}
 use Rattle.switch_groups.proofs.rows.SwitchGroup.new.Goals as goal
 
 pub returns : goal.returns

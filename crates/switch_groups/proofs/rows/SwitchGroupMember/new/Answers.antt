@@ -1,5 +1,4 @@
 -- `rows::SwitchGroupMember::new` meets its contract.
-use borrow.Author.Rules.{rules}
 use Rattle.switch_groups.proofs.rows.SwitchGroupMember.new.Goals as goal
 
 pub returns : goal.returns

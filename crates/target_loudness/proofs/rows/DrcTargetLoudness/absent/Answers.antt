@@ -1,5 +1,4 @@
 -- `rows::DrcTargetLoudness::absent` meets its contract.
-use borrow.Author.Rules.{rules}
 use Rattle.target_loudness.proofs.rows.DrcTargetLoudness.absent.Goals as goal
 
 pub returns : goal.returns

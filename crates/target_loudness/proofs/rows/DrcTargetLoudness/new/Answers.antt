@@ -1,5 +1,4 @@
 -- `rows::DrcTargetLoudness::new` meets its contract.
-use borrow.Author.Rules.{rules}
 use Rattle.target_loudness.proofs.rows.DrcTargetLoudness.new.Goals as goal
 
 pub returns : goal.returns

@@ -1,5 +1,4 @@
 -- `rows::TargetLoudnessLower::new` meets its contract.
-use borrow.Author.Rules.{rules}
 use Rattle.target_loudness.proofs.rows.TargetLoudnessLower.new.Goals as goal
 
 pub returns : goal.returns
