@@ -2,7 +2,7 @@
 // In code the compiler rejects it (mismatched types), in a contract the prover: must-fail/ has an edit for each pair.
 #![tactic(auto)]
 
-ghost use Rattle.std.specs.Prelude.{◌≡◌, ◌&&◌};
+ghost use Rattle.std.specs.Prelude.{◌≡◌, ◌&&◌, true, IsOk};
 ghost use Rattle.ids.specs.Ids.{same_group, same_switch_group, same_group_preset, same_drc_set};
 
 use wire::ids::{DrcSetId, GroupId, GroupPresetId, SwitchGroupId};
@@ -20,10 +20,21 @@ fn each_same(
         & (preset.same(preset) & drc_set.same(drc_set))
 }
 
-fn main() {
-    check::expect(GroupId(5).same(GroupId(5)));
-    check::expect(SwitchGroupId(5).same(SwitchGroupId(5)));
-    check::expect(GroupPresetId(5).same(GroupPresetId(5)));
-    check::expect(DrcSetId(5).same(DrcSetId(5)));
-    check::expect(each_same(GroupId(5), SwitchGroupId(5), GroupPresetId(5), DrcSetId(5)));
+#[derive(Debug, Drop)]
+struct NotSame;
+
+// The requires makes each call a proof obligation; the run tests it again.
+fn expect(ok: bool) -> Result<(), NotSame>
+    requires { ok ≡ true }
+    ensures { IsOk result }
+{
+    if ok { Ok(()) } else { Err(NotSame) }
+}
+
+fn main() -> Result<(), NotSame> {
+    expect(GroupId(5).same(GroupId(5)))?;
+    expect(SwitchGroupId(5).same(SwitchGroupId(5)))?;
+    expect(GroupPresetId(5).same(GroupPresetId(5)))?;
+    expect(DrcSetId(5).same(DrcSetId(5)))?;
+    expect(each_same(GroupId(5), SwitchGroupId(5), GroupPresetId(5), DrcSetId(5)))
 }
