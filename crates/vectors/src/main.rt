@@ -6,15 +6,22 @@ mod reads;
 mod show;
 mod writes;
 
+ghost use Rattle.std.specs.Prelude.{◌≤◌, length, IfOk};
+
 use cases::list::State;
 use cases::tables::{Bytes, Columns};
 use cases::{list, tables};
+use show::Lines;
+use std::io;
+use std::io::{BufWriter, Read, Stdin, Write};
 
 // The list comes in pieces, at most 64.
-fn main() {
-    let mut piece = io::large_buffer();
-    let mut line = io::large_buffer();
-    let mut body = io::large_buffer();
+fn main(rt: HostRuntime) -> io::Result<()> {
+    let mut input = rt.stdin();
+    let mut out = BufWriter::new(rt.alloc(), rt.stdout())?;
+    let mut piece = [0u8; 65536];
+    let mut line: Bytes = [0; 65536];
+    let mut body: Bytes = [0; 65536];
     let mut columns = [0u16; 40960];
     let mut s = State {
         line: 0,
@@ -23,64 +30,96 @@ fn main() {
         lent: [0; 6],
         out: 0,
     };
-    let mut left: usize = 64;
-    while 0 < left {
-        let n = io::read_full(0, &mut piece);
-        s = run(s, &piece[..n], &mut line, &mut body, &mut columns);
-        left -= 1;
+    for _ in 0..64 {
+        let n = fill(&mut input, &mut piece)?;
+        s = run(s, &piece[..n], &mut line, &mut body, &mut columns, &mut out)?;
     }
+    out.flush()
 }
 
-fn run(s: State, piece: &[u8], line: &mut Bytes, body: &mut Bytes, columns: &mut Columns) -> State {
-    let mut t = s;
-    let mut i: usize = 0;
-    while i < piece.len() {
-        t = byte(t, piece[i], line, body, columns);
-        i += 1;
+// Reads until the piece is full or the input ends, and returns how many bytes it put at the start.
+fn fill(input: &mut Stdin, piece: &mut [u8]) -> io::Result<usize>
+    ensures { IfOk result (λ n. n ≤ length piece.new) }
+{
+    let mut n: usize = 0;
+    while n < piece.len() {
+        let more = input.read(&mut piece[n..])?;
+        if more == 0 {
+            break;
+        }
+        n += more;
     }
-    t
+    Ok(n)
+}
+
+fn run(
+    s: State,
+    piece: &[u8],
+    line: &mut Bytes,
+    body: &mut Bytes,
+    columns: &mut Columns,
+    out: &mut Lines,
+) -> io::Result<State> {
+    let mut t = s;
+    for b in piece {
+        t = byte(t, *b, line, body, columns, out)?;
+    }
+    Ok(t)
 }
 
 // A byte of a line, or its end.
-fn byte(s: State, b: u8, line: &mut Bytes, body: &mut Bytes, columns: &mut Columns) -> State {
+fn byte(
+    s: State,
+    b: u8,
+    line: &mut Bytes,
+    body: &mut Bytes,
+    columns: &mut Columns,
+    out: &mut Lines,
+) -> io::Result<State> {
     let n = s.line;
     let mut t = s;
     if 65536 <= n {
-        return s;
+        return Ok(s);
     }
     if b != b'\n' {
         line[n] = b;
         t.line = n + 1;
-        return t;
+        return Ok(t);
     }
     t.line = 0;
-    step(t, tables::front_bytes(&line[..], n), body, columns)
+    step(t, tables::front_bytes(&line[..], n), body, columns, out)
 }
 
 // A line is a letter and numbers: bytes in hexadecimal digits, all others in decimal ones.
-fn step(s: State, line: &[u8], body: &mut Bytes, columns: &mut Columns) -> State {
+fn step(
+    s: State,
+    line: &[u8],
+    body: &mut Bytes,
+    columns: &mut Columns,
+    out: &mut Lines,
+) -> io::Result<State> {
     if line.len() == 0 {
-        return s;
+        return Ok(s);
     }
     let letter = line[0];
     let part = list::part(letter);
     let mut v = [0usize; 4096];
     let n = list::numbers(line, list::is_hex(letter), &mut v);
     if part == 0 {
-        return list::with_bytes(s, letter, n, &v, body);
+        return Ok(list::with_bytes(s, letter, n, &v, body));
     }
     if part == 1 {
-        return list::with_columns(s, letter, n, &v, columns);
+        return Ok(list::with_columns(s, letter, n, &v, columns));
     }
     if part == 2 {
-        return list::with_numbers(s, letter, &v);
+        return Ok(list::with_numbers(s, letter, &v));
     }
     if part == 3 {
-        writes::command(s, letter, &v, &body[..], columns);
-        return s;
+        writes::command(s, letter, &v, &body[..], columns, out)?;
+        return Ok(s);
     }
     if part == 4 {
-        reads::command(s, letter, &v, body, columns);
+        reads::command(s, letter, &v, body, columns, out)?;
     }
-    s
+    Ok(s)
 }
