@@ -6,26 +6,28 @@ use drc_kind::rows::{DrcLoudnessInfo, Info, MpegH3dAudioDrcLoudness};
 use instructions::rows::{DrcInstructions, LimiterPeakTarget};
 use loudness::rows::LoudnessInfoEntry;
 use scopes::rows::DrcScope;
+use std::io;
+use std::io::Stdout;
 use target_loudness::rows::{DrcTargetLoudness, TargetLoudnessLower};
 use wire::bits::wide;
 use wire::ids::{DrcSetId, GroupId, GroupPresetId};
 
-pub fn print() {
-    print_top();
-    print_downmixes();
-    print_scopes();
-    print_loudness();
-    print_targets();
-    print_instructions();
+pub fn print(out: Stdout) -> io::Result<()> {
+    print_top(out)?;
+    print_downmixes(out)?;
+    print_scopes(out)?;
+    print_loudness(out)?;
+    print_targets(out)?;
+    print_instructions(out)
 }
 
 // ---- the top record
 
-fn top(m: MpegH3dAudioDrcLoudness) {
-    show::line(b"MpegH3dAudioDrcLoudness::new", &m.columns());
+fn top(out: Stdout, m: MpegH3dAudioDrcLoudness) -> io::Result<()> {
+    show::line(out, b"MpegH3dAudioDrcLoudness::new", &m.columns())
 }
 
-fn info(i: DrcLoudnessInfo) {
+fn info(out: Stdout, i: DrcLoudnessInfo) -> io::Result<()> {
     let columns = [
         wide(i.reserved_drc),
         wide(i.reserved_loudness),
@@ -34,62 +36,62 @@ fn info(i: DrcLoudnessInfo) {
         i.loudness_infos,
         i.downmix_definitions,
     ];
-    show::line(b"DrcLoudnessInfo::new", &columns);
+    show::line(out, b"DrcLoudnessInfo::new", &columns)
 }
 
-fn print_top() {
+fn print_top(out: Stdout) -> io::Result<()> {
     let i = DrcLoudnessInfo::new(4, 5, 6);
-    top(MpegH3dAudioDrcLoudness::new(Info::absent()));
-    top(MpegH3dAudioDrcLoudness::new(Info::of(i)));
-    info(i);
-    info(DrcLoudnessInfo::new(301, 0, 302));
+    top(out, MpegH3dAudioDrcLoudness::new(Info::absent()))?;
+    top(out, MpegH3dAudioDrcLoudness::new(Info::of(i)))?;
+    info(out, i)?;
+    info(out, DrcLoudnessInfo::new(301, 0, 302))
 }
 
 // ---- downmix definitions
 
-fn downmix(m: DownmixDefinition) {
-    show::line(b"DownmixDefinition::new", &m.columns());
+fn downmix(out: Stdout, m: DownmixDefinition) -> io::Result<()> {
+    show::line(out, b"DownmixDefinition::new", &m.columns())
 }
 
-fn print_downmixes() {
-    downmix(DownmixDefinition::new(11, 12, 13));
-    downmix(DownmixDefinition::new(201, 202, 203));
+fn print_downmixes(out: Stdout) -> io::Result<()> {
+    downmix(out, DownmixDefinition::new(11, 12, 13))?;
+    downmix(out, DownmixDefinition::new(201, 202, 203))
 }
 
 // ---- scopes
 
-fn group(s: DrcScope) {
-    show::line(b"DrcScope::group", &s.columns());
+fn group(out: Stdout, s: DrcScope) -> io::Result<()> {
+    show::line(out, b"DrcScope::group", &s.columns())
 }
 
-fn preset(s: DrcScope) {
-    show::line(b"DrcScope::preset", &s.columns());
+fn preset(out: Stdout, s: DrcScope) -> io::Result<()> {
+    show::line(out, b"DrcScope::preset", &s.columns())
 }
 
-fn print_scopes() {
-    group(DrcScope::group(11, GroupId(12)));
-    group(DrcScope::group(201, GroupId(202)));
-    preset(DrcScope::preset(GroupPresetId(11)));
-    preset(DrcScope::preset(GroupPresetId(201)));
+fn print_scopes(out: Stdout) -> io::Result<()> {
+    group(out, DrcScope::group(11, GroupId(12)))?;
+    group(out, DrcScope::group(201, GroupId(202)))?;
+    preset(out, DrcScope::preset(GroupPresetId(11)))?;
+    preset(out, DrcScope::preset(GroupPresetId(201)))
 }
 
 // ---- loudness entries
 
-fn entry(e: LoudnessInfoEntry) {
-    show::line(b"LoudnessInfoEntry::new", &e.columns());
+fn entry(out: Stdout, e: LoudnessInfoEntry) -> io::Result<()> {
+    show::line(out, b"LoudnessInfoEntry::new", &e.columns())
 }
 
-fn print_loudness() {
+fn print_loudness(out: Stdout) -> io::Result<()> {
     let group = DrcScope::group(12, GroupId(13));
     let preset = DrcScope::preset(GroupPresetId(201));
-    entry(LoudnessInfoEntry::new(DrcScope::Plain(11), bytes(4)));
-    entry(LoudnessInfoEntry::new(group, bytes(5)));
-    entry(LoudnessInfoEntry::new(preset, bytes(301)));
+    entry(out, LoudnessInfoEntry::new(DrcScope::Plain(11), bytes(4)))?;
+    entry(out, LoudnessInfoEntry::new(group, bytes(5)))?;
+    entry(out, LoudnessInfoEntry::new(preset, bytes(301)))
 }
 
 // ---- instructions
 
-fn target(t: DrcTargetLoudness) {
+fn target(out: Stdout, t: DrcTargetLoudness) -> io::Result<()> {
     let lower = t.lower;
     let columns = [
         t.present,
@@ -102,7 +104,7 @@ fn target(t: DrcTargetLoudness) {
         t.depends_on_drc_set.0,
         t.no_independent_use_or_reserved,
     ];
-    show::line(b"DrcTargetLoudness::new", &columns);
+    show::line(out, b"DrcTargetLoudness::new", &columns)
 }
 
 // With the lower value, which the constructor leaves out.
@@ -112,26 +114,29 @@ fn with_lower() -> DrcTargetLoudness {
     t
 }
 
-fn print_targets() {
-    target(DrcTargetLoudness::new(11, DrcSetId(12), 13));
-    target(DrcTargetLoudness::new(201, DrcSetId(202), 203));
-    target(with_lower());
+fn print_targets(out: Stdout) -> io::Result<()> {
+    target(out, DrcTargetLoudness::new(11, DrcSetId(12), 13))?;
+    target(out, DrcTargetLoudness::new(201, DrcSetId(202), 203))?;
+    target(out, with_lower())
 }
 
-fn instruction(d: DrcInstructions) {
-    show::line(b"DrcInstructions::new", &d.columns());
+fn instruction(out: Stdout, d: DrcInstructions) -> io::Result<()> {
+    show::line(out, b"DrcInstructions::new", &d.columns())
 }
 
 // The last instruction has all of its parts, which the constructor leaves out.
-fn print_instructions() {
+fn print_instructions(out: Stdout) -> io::Result<()> {
     let group = DrcScope::group(16, GroupId(17));
     let preset = DrcScope::preset(GroupPresetId(201));
-    instruction(DrcInstructions::new(DrcScope::Plain(11), DrcSetId(12), 13, 14));
-    instruction(DrcInstructions::new(group, DrcSetId(18), 19, 20));
-    instruction(DrcInstructions::new(preset, DrcSetId(202), 203, 60001));
+    instruction(
+        out,
+        DrcInstructions::new(DrcScope::Plain(11), DrcSetId(12), 13, 14),
+    )?;
+    instruction(out, DrcInstructions::new(group, DrcSetId(18), 19, 20))?;
+    instruction(out, DrcInstructions::new(preset, DrcSetId(202), 203, 60001))?;
     let mut d = DrcInstructions::new(DrcScope::Plain(25), DrcSetId(26), 27, 28);
     d.additional_downmix_ids = rows(4);
     d.limiter_peak_target = LimiterPeakTarget::new(29);
     d.target_loudness = with_lower();
-    instruction(d);
+    instruction(out, d)
 }

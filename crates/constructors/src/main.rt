@@ -10,10 +10,13 @@ mod scene_lines;
 mod show;
 mod text_label_lines;
 
-fn main() {
-    base_lines::print();
-    scene_lines::print();
-    text_label_lines::print();
-    multi_stream_lines::print();
-    drc_loudness_lines::print();
+use std::io;
+
+fn main(rt: HostRuntime) -> io::Result<()> {
+    let out = rt.stdout();
+    base_lines::print(out)?;
+    scene_lines::print(out)?;
+    text_label_lines::print(out)?;
+    multi_stream_lines::print(out)?;
+    drc_loudness_lines::print(out)
 }

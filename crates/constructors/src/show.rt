@@ -1,20 +1,20 @@
 // Lines on standard output.
+use std::io;
+use std::io::Stdout;
 
-fn column(x: u16) {
-    io::write_all(1, b" ");
-    io::print_decimal(1, x as u64);
+fn column(out: Stdout, x: u16) -> io::Result<()> {
+    print!(out; " {x}")
 }
 
-fn columns(row: &[u16]) {
-    let mut i: usize = 0;
-    while i < row.len() {
-        column(row[i]);
-        i += 1;
+fn columns(out: Stdout, row: &[u16]) -> io::Result<()> {
+    for x in row {
+        column(out, *x)?;
     }
+    Ok(())
 }
 
-pub fn line(name: &[u8], row: &[u16]) {
-    io::write_all(1, name);
-    columns(row);
-    io::write_all(1, b"\n");
+pub fn line(out: Stdout, name: &[u8], row: &[u16]) -> io::Result<()> {
+    out.write_all(name)?;
+    columns(out, row)?;
+    println!(out)
 }
