@@ -3,16 +3,29 @@
 
 mod line;
 
-fn main() {
+ghost use Rattle.std.specs.Prelude.{◌≤◌, length, IfOk};
+
+use std::io;
+use std::io::{Read, Stdin};
+
+// Reads until the buffer is full or the input ends, and returns how many bytes it put at the start.
+fn fill(input: &mut Stdin, buffer: &mut [u8]) -> io::Result<usize>
+    ensures { IfOk result (λ n. n ≤ length buffer.new) }
+{
+    let mut n: usize = 0;
+    while n < buffer.len() {
+        let more = input.read(&mut buffer[n..])?;
+        if more == 0 {
+            break;
+        }
+        n += more;
+    }
+    Ok(n)
+}
+
+fn main(rt: HostRuntime) -> io::Result<()> {
     let mut input = [0u8; 4098];
-    let n = io::read_full(0, &mut input);
+    let n = fill(&mut rt.stdin(), &mut input)?;
     let l = line::decide(&input[..n]);
-    io::print_decimal(1, l.number as u64);
-    io::write_all(1, b" ");
-    io::print_decimal(1, l.first as u64);
-    io::write_all(1, b" ");
-    io::print_decimal(1, l.k as u64);
-    io::write_all(1, b" ");
-    io::print_decimal(1, l.tally as u64);
-    io::write_all(1, b"\n");
+    println!(rt; "{} {} {} {}", l.number, l.first, l.k, l.tally)
 }
