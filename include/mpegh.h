@@ -1,7 +1,7 @@
 /*
  * The MPEG-H 3D audio descriptor bodies of Rec. ITU-T H.222.0 for C and C++: base (kind 1), scene (2), text label (3), multi-stream (4),
  * DRC and loudness (5).
- * Link with target/staticlib/libmpegh_c.a (`rt staticlib mpegh_c`, x86-64). Of the C library the archive needs memmove and nothing else.
+ * Link with target/staticlib/libmpegh_c.a (`examples/archive` builds it, for x86-64). Of the C library the archive needs memmove and nothing else.
  *
  * Every kind has four functions:
  *
