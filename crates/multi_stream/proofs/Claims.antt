@@ -30,7 +30,6 @@ use Rattle.frame.proofs.Proofs as P
 use Rattle.stream_groups.specs.Layout.{group}
 use Rattle.multi_stream.specs.declared.rows.MultiStreamMain.{MultiStreamMain}
 use Rattle.multi_stream.specs.declared.rows.MpegH3dAudioMultiStream.{MpegH3dAudioMultiStream}
-use Rattle.multi_stream.specs.declared.Sizes as Multi
 use Rattle.multi_stream.specs.declared.Reading.{Reading}
 use Rattle.multi_stream.specs.declared.Reading.TheVariants as R
 use Rattle.multi_stream.specs.declared.Measured.{Measured}

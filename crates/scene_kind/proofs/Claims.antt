@@ -26,7 +26,7 @@ use Rattle.frame.proofs.Judged.{was, ran-well, measured as was-measured}
 use Rattle.frame.proofs.Lawful.{Samples}
 use Rattle.frame.proofs.Proofs as P
 use Rattle.pairs.specs.Layout.{pair}
-use Rattle.switch_groups.specs.Layout.{member, switch_group}
+use Rattle.switch_groups.specs.Layout.{switch_group}
 use Rattle.presets.specs.Layout.{preset}
 use Rattle.scene_kind.specs.declared.rows.MpegH3dAudioScene.{MpegH3dAudioScene}
 use Rattle.scene_kind.specs.Layout as T

@@ -9,7 +9,6 @@ use Rattle.multi_stream.specs.Rows.{MultiStream}
 use Rattle.multi_stream.specs.Kind.{kind}
 use Rattle.multi_stream.specs.Contract.{sized}
 use Rattle.multi_stream.proofs.Sighted.{sizes-are}
-use borrow.Author.Rules.{rules}
 use Rattle.multi_stream.proofs.measure.Goals as goal
 
 pub returns-then-body-gt65535 : goal.returns-then-body-gt65535

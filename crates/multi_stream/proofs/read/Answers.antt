@@ -3,7 +3,6 @@ use Rattle.frame.proofs.Entries.{reads-unmeasured, reads-filled}
 use Rattle.frame.proofs.Tables.{reads-lowest}
 use Rattle.multi_stream.specs.Kind.{kind}
 use Rattle.multi_stream.proofs.Sighted.{room-so, has_room}
-use borrow.Author.Rules.{rules}
 use Rattle.multi_stream.proofs.read.Goals as goal
 
 pub fill-requires : goal.fill-requires

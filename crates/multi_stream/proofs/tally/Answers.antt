@@ -3,7 +3,6 @@ use Rattle.frame.proofs.Entries.{tallies-topped, tallies-unmeasured}
 use Rattle.multi_stream.specs.Kind.{kind}
 use Rattle.multi_stream.specs.Contract.{zeros_of}
 use Rattle.multi_stream.proofs.Sighted.{zeros-are}
-use borrow.Author.Rules.{rules}
 use Rattle.multi_stream.proofs.tally.Goals as goal
 
 pub record_at-requires : goal.record_at-requires

@@ -7,7 +7,6 @@ use Rattle.frame.proofs.Entries.{writes-refused, fillable, writes-done}
 use Rattle.multi_stream.specs.Write.{head_fields}
 use Rattle.multi_stream.specs.Kind.{kind}
 use Rattle.multi_stream.proofs.Mirrored.{acts-are, bare-acts}
-use borrow.Author.Rules.{rules}
 use borrow.Enum.Refused.{opened}
 use Rattle.multi_stream.proofs.write.Goals as goal
 

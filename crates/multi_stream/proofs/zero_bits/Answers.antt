@@ -1,6 +1,5 @@
 -- `multi_stream::zero_bits` meets its contract.
 use native.Mathlib.Omega.{arith}
-use borrow.Author.Rules.{rules}
 use Rattle.multi_stream.proofs.zero_bits.Goals as goal
 
 pub returns-then-main : goal.returns-then-main

@@ -1,6 +1,5 @@
 -- `writing::all_flags_hold` meets its contract.
 use mathlib.Core.Bool.{◌&&◌}
-use borrow.Author.Rules.{rules}
 use Rattle.instruction_writing.proofs.writing.all_flags_hold.Goals as goal
 
 pub returns : goal.returns

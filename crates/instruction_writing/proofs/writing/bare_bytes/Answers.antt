@@ -1,6 +1,5 @@
 -- `writing::bare_bytes` meets its contract: its six bytes, or 0 if a field is over its width or its range is outside of its table.
 use Rattle.instruction_writing.proofs.Writes.{bare-plain, bare-odd}
-use borrow.Author.Rules.{rules}
 use Rattle.instruction_writing.proofs.writing.bare_bytes.Goals as goal
 
 pub returns-then-inside-typed : goal.returns-then-inside-typed

@@ -1,6 +1,5 @@
 -- `writing::check_front` meets its contract.
 use Rattle.instruction_writing.proofs.Writes.{front}
-use borrow.Author.Rules.{rules}
 use Rattle.instruction_writing.proofs.writing.check_front.Goals as goal
 
 pub returns : goal.returns

@@ -1,7 +1,6 @@
 -- `writing::check_instruction` meets its contract: what stands before the additional IDs, and behind that the IDs and the rest.
 use native.Mathlib.Omega.{arith}
 use Rattle.instruction_writing.proofs.Writes.{front-behind, front-near, front-stopped, row-checked}
-use borrow.Author.Rules.{rules}
 use Rattle.instruction_writing.proofs.writing.check_instruction.Goals as goal
 
 pub returns-in_default : goal.returns-in_default

@@ -1,7 +1,6 @@
 -- `writing::check_instructions` meets its contract.
 use Rattle.wire.proofs.Writing.Plain.{plain-odd, plain_end}
 use Rattle.instruction_writing.proofs.Writes.{row-looked}
-use borrow.Author.Rules.{rules}
 use Rattle.instruction_writing.proofs.writing.check_instructions.Goals as goal
 
 pub returns-then-i-count : goal.returns-then-i-count

@@ -1,7 +1,6 @@
 -- `writing::effect_fits` meets its contract.
 use native.Mathlib.Omega.{arith}
 use Rattle.instruction_writing.proofs.Writes.{fits-with, fits-without}
-use borrow.Author.Rules.{rules}
 use Rattle.instruction_writing.proofs.writing.effect_fits.Goals as goal
 
 pub returns-then-limiter-eq1 : goal.returns-then-limiter-eq1

@@ -1,7 +1,6 @@
 -- `writing::fill_effect` meets its contract.
 use Rattle.wire.proofs.Writing.Plain.{filled-long}
 use Rattle.instruction_writing.proofs.Writes.{word-ready, limiter-ready, loud-ready, effect-filled}
-use borrow.Author.Rules.{rules}
 use Rattle.instruction_writing.proofs.writing.fill_effect.Goals as goal
 
 pub fill_all-n1-requires : goal.fill_all-n1-requires

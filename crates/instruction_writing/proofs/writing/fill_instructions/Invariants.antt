@@ -1,14 +1,8 @@
 -- `writing::fill_instructions` meets its contract: what is left to store from a row on.
 use Prim.Native.Nat.{◌-◌, ◌≤◌}
-use mathlib.Core.Path.{refl}
-use native.Mathlib.Omega.{arith}
-use native.Mathlib.Nat.{sub-zero}
 use Rattle.wire.specs.Act.{rows}
-use Rattle.wire.proofs.Writing.Passes.{Filling, rows-turn, rows_end, fill_start, fill-row, fill-turn, fill_end}
-use Rattle.wire.proofs.Writing.Plain.{filled-long}
+use Rattle.wire.proofs.Writing.Passes.{Filling}
 use Rattle.instruction_writing.specs.Write.{row_acts}
-use Rattle.instruction_writing.proofs.Writes.{row-asked, row-stored}
-use borrow.Author.Rules.{rules}
 use Rattle.instruction_writing.proofs.writing.fill_instructions.Given as goal
 
 abbrev pub invariant-loop-i : goal.invariant-loop-i

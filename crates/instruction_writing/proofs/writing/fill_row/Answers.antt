@@ -1,7 +1,6 @@
 -- `writing::fill_row` meets its contract: the bytes of a bare row, or of any.
 use mathlib.Core.Path.{sym, ◌∙◌}
 use Rattle.instruction_writing.proofs.Writes.{same_asked, same-stored, bare-type-ready, bare-settings-ready, bare-word-ready, bare-filled}
-use borrow.Author.Rules.{rules}
 use Rattle.instruction_writing.proofs.writing.fill_row.Goals as goal
 
 pub fill_all-n1-requires : goal.fill_all-n1-requires

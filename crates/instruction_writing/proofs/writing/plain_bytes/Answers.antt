@@ -1,7 +1,6 @@
 -- `writing::plain_bytes` meets its contract: a fault of its own, one of an additional ID, or none.
 use native.Mathlib.Omega.{arith}
 use Rattle.instruction_writing.proofs.Writes.{tested, row_plain, row-odd-kid, row-odd}
-use borrow.Author.Rules.{rules}
 use Rattle.instruction_writing.proofs.writing.plain_bytes.Goals as goal
 
 pub plain_pairs-requires : goal.plain_pairs-requires

@@ -1,10 +1,7 @@
-use Prim.Native.Nat.{◌-◌}
 use mathlib.Core.Path.{refl}
 use native.Mathlib.Omega.{arith}
-use Rattle.wire.proofs.Writing.Plain.{Going, going_start, going-turn, going-odd, going_end}
-use Rattle.instruction_writing.specs.Write.{row_acts}
+use Rattle.wire.proofs.Writing.Plain.{going_start, going-turn, going-odd, going_end}
 use Rattle.instruction_writing.proofs.Writes.{row-quick}
-use borrow.Author.Rules.{rules}
 use Rattle.instruction_writing.proofs.writing.plain_rows.Goals as goal
 
 pub loop-i-init : goal.loop-i-init

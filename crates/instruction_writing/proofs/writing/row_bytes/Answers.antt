@@ -1,7 +1,6 @@
 -- `writing::row_bytes` meets its contract: a bare row, or any.
 use mathlib.Core.Path.{sym, ◌∙◌}
 use Rattle.instruction_writing.proofs.Writes.{same-quick}
-use borrow.Author.Rules.{rules}
 use Rattle.instruction_writing.proofs.writing.row_bytes.Goals as goal
 
 pub bare_bytes-requires : goal.bare_bytes-requires

@@ -2,7 +2,6 @@
 use native.Mathlib.Omega.{arith}
 use Rattle.wire.specs.Bits.{total, widths}
 use Rattle.wire.specs.Spell.{none, more}
-use borrow.Author.Rules.{rules}
 use Rattle.instruction_writing.proofs.writing.settings_bytes.Goals as goal
 
 pub returns : goal.returns

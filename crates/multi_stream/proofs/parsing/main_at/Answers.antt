@@ -3,7 +3,6 @@ use mathlib.Core.Path.{sym, ap, ◌∙◌}
 use native.Mathlib.Omega.{arith}
 use Rattle.multi_stream.specs.declared.rows.MainStream.{MainStream}
 use Rattle.multi_stream.proofs.Parsed.{both-there, main-placed, aside-placed}
-use borrow.Author.Rules.{rules}
 use Rattle.multi_stream.proofs.parsing.main_at.Goals as goal
 
 pub bounds-body-1 : goal.bounds-body-1

@@ -9,7 +9,6 @@ use Rattle.wire.proofs.Reading.Loops.{summed-done, summed-short}
 use Rattle.wire.proofs.Layouts.Straight.{ones-past}
 use Rattle.multi_stream.specs.Read.{main}
 use Rattle.multi_stream.proofs.Parsed.{main-cut, groups-cut, groups-summed}
-use borrow.Author.Rules.{rules}
 use Rattle.multi_stream.proofs.parsing.main_rows.Goals as goal
 
 pub returns-in_default : goal.returns-in_default

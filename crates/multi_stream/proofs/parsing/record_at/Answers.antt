@@ -2,7 +2,6 @@
 use Rattle.frame.proofs.Entries.{within-measured}
 use Rattle.multi_stream.specs.Kind.{kind}
 use Rattle.multi_stream.proofs.Sighted.{main-sound, tops_are}
-use borrow.Author.Rules.{rules}
 use Rattle.multi_stream.proofs.parsing.record_at.Goals as goal
 
 pub bounds-body-0 : goal.bounds-body-0

@@ -3,7 +3,6 @@ use mathlib.Core.Path.{ap}
 use Rattle.wire.specs.Reads.{byte_out}
 use Rattle.wire.proofs.Reading.Loops.{summed-short}
 use Rattle.multi_stream.proofs.Parsed.{first-there, first-cut, body-summed}
-use borrow.Author.Rules.{rules}
 use Rattle.multi_stream.proofs.parsing.rows.Goals as goal
 
 pub returns-in_default : goal.returns-in_default

@@ -6,7 +6,6 @@ use Rattle.wire.proofs.Writing.Passes.{more}
 use Rattle.frame.proofs.Passes.{run-outside, all-looked}
 use Rattle.multi_stream.specs.Kind.{kind}
 use Rattle.multi_stream.proofs.Mirrored.{acts-are}
-use borrow.Author.Rules.{rules}
 use Rattle.multi_stream.proofs.writing.check.Goals as goal
 
 pub returns-then-in_store : goal.returns-then-in_store

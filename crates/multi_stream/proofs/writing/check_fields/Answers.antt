@@ -4,7 +4,6 @@ use native.Mathlib.Omega.{arith}
 use Rattle.wire.proofs.Writing.Passes.{then, more, passed, refused}
 use Rattle.wire.proofs.Writing.Plain.{all-checked}
 use Rattle.multi_stream.specs.Write.{multi_stream_acts}
-use borrow.Author.Rules.{rules}
 use Rattle.multi_stream.proofs.writing.check_fields.Goals as goal
 
 pub check_main-requires : goal.check_main-requires

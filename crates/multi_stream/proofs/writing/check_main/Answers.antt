@@ -3,7 +3,6 @@ use native.Mathlib.Omega.{arith}
 use Rattle.wire.proofs.Writing.Plain.{all-checked}
 use Rattle.wire.proofs.Writing.Parts.{part-stops, part-goes, part-absent, rows-there}
 use Rattle.multi_stream.specs.Write.{main_acts}
-use borrow.Author.Rules.{rules}
 use Rattle.multi_stream.proofs.writing.check_main.Goals as goal
 
 pub returns-in_default : goal.returns-in_default

@@ -5,7 +5,6 @@ use Rattle.wire.specs.Act.{Act, byte, when}
 use Rattle.wire.proofs.Writing.Passes.{Filling, fill_start, fill-demand, fill-last, demanded}
 use Rattle.wire.proofs.Writing.Plain.{ready-part, fill-part}
 use Rattle.multi_stream.specs.Write.{head_fields, main_acts, multi_stream_acts}
-use borrow.Author.Rules.{rules}
 use Rattle.multi_stream.proofs.writing.fill_fields.Goals as goal
 
 pub fill_all-n-requires : goal.fill_all-n-requires

@@ -9,7 +9,6 @@ use mathlib.Core.Bool.{true}
 use mathlib.Core.Path.{◌≡◌}
 use Rattle.stream_groups.specs.Write.{row_acts}
 use Rattle.multi_stream.specs.Write.{main_fields, main_acts}
-use borrow.Author.Rules.{rules}
 use Rattle.multi_stream.proofs.writing.fill_main.Goals as goal
 
 pub fill_all-n1-requires : goal.fill_all-n1-requires

@@ -1,6 +1,5 @@
 -- `multi_stream::writing::groups_within` meets its contract.
 use Rattle.wire.proofs.Writing.Parts.{within-there, within-absent}
-use borrow.Author.Rules.{rules}
 use Rattle.multi_stream.proofs.writing.groups_within.Goals as goal
 
 pub returns-then-main : goal.returns-then-main

@@ -1,6 +1,5 @@
 -- `multi_stream::writing::main_bytes` meets its contract.
 use Rattle.wire.specs.Spell.{none, more}
-use borrow.Author.Rules.{rules}
 use Rattle.multi_stream.proofs.writing.main_bytes.Goals as goal
 
 pub returns : goal.returns

@@ -1,5 +1,4 @@
 -- `DrcLoudnessInfo::new` has its reserved bits all ones.
-use borrow.Author.Rules.{rules}
 use Rattle.drc_kind.proofs.rows.DrcLoudnessInfo.new.Goals as goal
 
 pub returns : goal.returns

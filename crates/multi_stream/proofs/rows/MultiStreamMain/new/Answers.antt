@@ -1,5 +1,4 @@
 -- `multi_stream::rows::MultiStreamMain::new` meets its contract.
-use borrow.Author.Rules.{rules}
 use Rattle.multi_stream.proofs.rows.MultiStreamMain.new.Goals as goal
 
 pub returns : goal.returns

@@ -1,6 +1,5 @@
 -- `MpegH3dAudioScene::columns` meets its contract: column by column.
 use mathlib.Core.List.{[], ◌∷◌}
-use borrow.Author.Rules.{rules}
 use Rattle.scene_kind.proofs.rows.MpegH3dAudioScene.columns.Goals as goal
 
 pub returns : goal.returns
