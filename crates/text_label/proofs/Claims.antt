@@ -26,7 +26,6 @@ use Rattle.frame.proofs.Tables.{rows_at}
 use Rattle.frame.proofs.Proofs as P
 use Rattle.text_label.specs.declared.rows.TextLabelLanguage.{TextLabelLanguage}
 use Rattle.text_label.specs.declared.rows.MpegH3dAudioTextLabel.{MpegH3dAudioTextLabel}
-use Rattle.text_label.specs.declared.Sizes as Label
 use Rattle.text_label.specs.declared.Reading.{Reading}
 use Rattle.text_label.specs.declared.Reading.TheVariants as R
 use Rattle.text_label.specs.declared.Measured.{Measured}

@@ -7,7 +7,7 @@ use lib.ListN.{length, get_or, length-append, length-map}
 use lib.Seq.{sets, slice}
 use Rattle.wire.specs.Lists.{each}
 use Rattle.wire.specs.Prog.{done, run, many}
-use Rattle.wire.specs.Layout.{of, row, Borne, borne, borne_row}
+use Rattle.wire.specs.Layout.{of, Borne, borne, borne_row}
 use Rattle.wire.specs.Nest.{Fillable, Nested, Nests}
 use Rattle.wire.proofs.Reading.Steps.{sets-append}
 use Rattle.wire.proofs.Tables.{flat-map}

@@ -9,7 +9,6 @@ use Rattle.text_label.specs.declared.rows.TextLabelLanguage.{TextLabelLanguage}
 use Rattle.text_label.specs.declared.rows.MpegH3dAudioTextLabel.{MpegH3dAudioTextLabel}
 use Rattle.text_label.specs.Rows.{language_of, Language}
 use Rattle.text_label.specs.Kind.{lists}
-use Rattle.text_label.specs.declared.Sizes.{Sizes}
 use Rattle.text_label.specs.declared.Reading.{Reading}
 use Rattle.text_label.specs.declared.Reading.TheVariants as R
 use Rattle.text_label.specs.declared.Measured.{Measured}

@@ -1,6 +1,5 @@
 -- Reading: without languages the record stands at once; else the body is measured, room is asked, and both tables are filled.
 use Rattle.text_label.proofs.Sighted.{bare-sizes, bare-reads, not-measured, well-measured, lacks-room, both-roomy, well-read}
-use borrow.Author.Rules.{rules}
 use Rattle.text_label.proofs.read.Goals as goal
 
 pub record_at-requires : goal.record_at-requires

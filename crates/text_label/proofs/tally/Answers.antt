@@ -1,7 +1,6 @@
 -- `text_label::tally` meets its contract: the reserved bits at 0 of a body that was measured.
 use Rattle.frame.proofs.Entries.{tallies-unmeasured}
 use Rattle.text_label.specs.Kind.{kind}
-use borrow.Author.Rules.{rules}
 use Rattle.text_label.proofs.tally.Goals as goal
 
 pub zero_bits-requires : goal.zero_bits-requires

@@ -1,7 +1,6 @@
 -- `text_label::write` meets its contract: what is answered after the check pass, and the fill pass.
 use Rattle.frame.proofs.Entries.{writes-refused, fillable, writes-done}
 use Rattle.text_label.specs.Kind.{kind}
-use borrow.Author.Rules.{rules}
 use borrow.Enum.Refused.{opened}
 use Rattle.text_label.proofs.write.Goals as goal
 

@@ -1,6 +1,5 @@
 -- `drc_writing::writing::all_within` meets its contract.
 use Rattle.drc_writing.proofs.Writes.{all_there, none-there}
-use borrow.Author.Rules.{rules}
 use Rattle.drc_writing.proofs.writing.all_within.Goals as goal
 
 pub returns-then-i : goal.returns-then-i

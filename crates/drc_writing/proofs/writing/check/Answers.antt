@@ -6,7 +6,6 @@ use Rattle.wire.proofs.Writing.Passes.{more}
 use Rattle.frame.proofs.Passes.{run-outside, all-looked}
 use Rattle.drc_kind.specs.Kind.{kind}
 use Rattle.drc_writing.proofs.Writes.{drc-acts}
-use borrow.Author.Rules.{rules}
 use Rattle.drc_writing.proofs.writing.check.Goals as goal
 
 pub payload_run-requires : goal.payload_run-requires

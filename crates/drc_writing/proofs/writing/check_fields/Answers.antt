@@ -5,7 +5,6 @@ use Rattle.wire.proofs.Writing.Passes.{then, more, passed, refused}
 use Rattle.wire.proofs.Writing.Plain.{all-checked}
 use Rattle.frame.specs.Entry.{first_table, other_tables}
 use Rattle.drc_writing.specs.Write.{drc_acts}
-use borrow.Author.Rules.{rules}
 use Rattle.drc_writing.proofs.writing.check_fields.Goals as goal
 
 pub check_info-requires : goal.check_info-requires

@@ -5,7 +5,6 @@ use Rattle.wire.proofs.Writing.Plain.{all-checked}
 use Rattle.wire.proofs.Writing.Parts.{part-stops, part-goes, part-absent}
 use Rattle.drc_writing.specs.Write.{info_acts}
 use Rattle.drc_writing.proofs.Writes.{listed}
-use borrow.Author.Rules.{rules}
 use Rattle.drc_writing.proofs.writing.check_info.Goals as goal
 
 pub returns-in_default : goal.returns-in_default

@@ -3,7 +3,6 @@ use native.Mathlib.Omega.{arith}
 use Rattle.wire.proofs.Writing.Passes.{then, more, here, stopped}
 use Rattle.frame.specs.Entry.{first_table, other_tables}
 use Rattle.drc_writing.proofs.Writes.{instructions-stand, entries-stand, downmixes-stand}
-use borrow.Author.Rules.{rules}
 use Rattle.drc_writing.proofs.writing.check_lists.Goals as goal
 
 pub check_instructions-p1-requires : goal.check_instructions-p1-requires

@@ -7,7 +7,6 @@ use Rattle.wire.proofs.Writing.Plain.{ready-part, fill-part}
 use Rattle.frame.specs.Kind.{Lent}
 use Rattle.frame.specs.Entry.{first_table, other_tables}
 use Rattle.drc_writing.specs.Write.{head_fields, info_acts, drc_acts}
-use borrow.Author.Rules.{rules}
 use Rattle.drc_writing.proofs.writing.fill_fields.Goals as goal
 
 pub fill_all-n1-requires : goal.fill_all-n1-requires

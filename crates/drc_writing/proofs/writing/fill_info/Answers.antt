@@ -7,7 +7,6 @@ use Rattle.frame.specs.Kind.{Lent}
 use Rattle.drc_writing.specs.Write.{lists_acts, info_acts}
 use Rattle.wire.proofs.Writing.Parts.{part-empty}
 use Rattle.drc_writing.proofs.Writes.{listed, info-begins, info-clean}
-use borrow.Author.Rules.{rules}
 use Rattle.drc_writing.proofs.writing.fill_info.Goals as goal
 
 pub fill_all-n1-requires : goal.fill_all-n1-requires

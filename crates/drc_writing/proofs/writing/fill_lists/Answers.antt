@@ -11,7 +11,6 @@ use Rattle.loudness.specs.Write as L
 use Rattle.downmixes.specs.Write as D
 use Rattle.drc_writing.specs.Write.{lists_acts}
 use Rattle.drc_writing.proofs.Writes.{instructions-stand, entries-stand, downmixes-stand}
-use borrow.Author.Rules.{rules}
 use Rattle.drc_writing.proofs.writing.fill_lists.Goals as goal
 
 pub fill_instructions-n1-requires : goal.fill_instructions-n1-requires

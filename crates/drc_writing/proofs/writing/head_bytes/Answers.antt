@@ -1,6 +1,5 @@
 -- `drc_writing::writing::head_bytes` meets its contract.
 use Rattle.wire.specs.Spell.{none, more}
-use borrow.Author.Rules.{rules}
 use Rattle.drc_writing.proofs.writing.head_bytes.Goals as goal
 
 pub returns : goal.returns

@@ -1,6 +1,5 @@
 -- `scene_writing::writing::all_within` meets its contract.
 use mathlib.Core.Bool.{◌&&◌}
-use borrow.Author.Rules.{rules}
 use Rattle.scene_writing.proofs.writing.all_within.Goals as goal
 
 pub returns : goal.returns

@@ -6,7 +6,6 @@ use Rattle.wire.proofs.Writing.Passes.{more}
 use Rattle.frame.proofs.Passes.{run-outside, all-looked}
 use Rattle.scene_kind.specs.Kind.{kind}
 use Rattle.scene_writing.proofs.Writes.{scene-acts}
-use borrow.Author.Rules.{rules}
 use Rattle.scene_writing.proofs.writing.check.Goals as goal
 
 pub payload_run-requires : goal.payload_run-requires

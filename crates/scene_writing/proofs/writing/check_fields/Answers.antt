@@ -6,7 +6,6 @@ use Rattle.wire.proofs.Writing.Plain.{all-checked}
 use Rattle.frame.specs.Entry.{first_table, other_tables}
 use Rattle.scene_writing.specs.Write.{scene_acts}
 use Rattle.scene_writing.proofs.Writes.{insides}
-use borrow.Author.Rules.{rules}
 use Rattle.scene_writing.proofs.writing.check_fields.Goals as goal
 
 pub check_groups_section-p2-requires : goal.check_groups_section-p2-requires

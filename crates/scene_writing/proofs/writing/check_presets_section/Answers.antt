@@ -4,7 +4,6 @@ use Rattle.wire.proofs.Writing.Plain.{all-checked}
 use Rattle.wire.proofs.Writing.Parts.{part-stops, part-goes, part-absent, rows-there}
 use Rattle.scene_writing.specs.Write.{section_acts}
 use Rattle.scene_writing.proofs.Writes.{count_fits}
-use borrow.Author.Rules.{rules}
 use Rattle.scene_writing.proofs.writing.check_presets_section.Goals as goal
 
 pub returns-in_default : goal.returns-in_default

@@ -1,6 +1,5 @@
 -- `scene_writing::writing::count_byte` meets its contract.
 use Rattle.wire.specs.Spell.{none, more}
-use borrow.Author.Rules.{rules}
 use Rattle.scene_writing.proofs.writing.count_byte.Goals as goal
 
 pub returns : goal.returns

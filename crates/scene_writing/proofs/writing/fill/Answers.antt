@@ -4,7 +4,6 @@ use Rattle.frame.specs.Kind.{Lent}
 use Rattle.frame.proofs.Passes.{fields-ready, run-ready, all-filled}
 use Rattle.scene_kind.specs.Kind.{kind}
 use Rattle.scene_writing.proofs.Writes.{scene-acts}
-use borrow.Author.Rules.{rules}
 use Rattle.scene_writing.proofs.writing.fill.Goals as goal
 
 pub fill_fields-n-requires : goal.fill_fields-n-requires

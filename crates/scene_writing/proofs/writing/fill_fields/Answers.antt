@@ -13,7 +13,6 @@ use Rattle.conditions.specs.Layout.{condition}
 use Rattle.presets.specs.Layout.{preset}
 use Rattle.scene_writing.specs.Write.{head_bytes, groups_acts, switch_groups_acts, presets_acts, scene_acts}
 use Rattle.scene_writing.proofs.Writes.{Inside, insides}
-use borrow.Author.Rules.{rules}
 use Rattle.scene_writing.proofs.writing.fill_fields.Goals as goal
 
 pub fill_all-n1-requires : goal.fill_all-n1-requires

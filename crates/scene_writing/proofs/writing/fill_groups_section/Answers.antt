@@ -8,7 +8,6 @@ use Rattle.scene_groups.specs.Write.{row_acts}
 use Rattle.scene_writing.specs.Write.{section_acts, groups_acts}
 use Rattle.wire.proofs.Writing.Parts.{part-empty, rows-there}
 use Rattle.scene_writing.proofs.Writes.{section-begins}
-use borrow.Author.Rules.{rules}
 use Rattle.scene_writing.proofs.writing.fill_groups_section.Goals as goal
 
 pub fill_all-n1-requires : goal.fill_all-n1-requires

@@ -11,7 +11,6 @@ use Rattle.presets.specs.Layout.{preset}
 use Rattle.scene_writing.specs.Write.{section_acts, presets_acts}
 use Rattle.wire.proofs.Writing.Parts.{part-empty, rows-there}
 use Rattle.scene_writing.proofs.Writes.{section-begins}
-use borrow.Author.Rules.{rules}
 use Rattle.scene_writing.proofs.writing.fill_presets_section.Goals as goal
 
 pub fill_all-n1-requires : goal.fill_all-n1-requires

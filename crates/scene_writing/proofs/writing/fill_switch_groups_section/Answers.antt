@@ -10,7 +10,6 @@ use Rattle.switch_groups.specs.Layout.{member, switch_group}
 use Rattle.scene_writing.specs.Write.{section_acts, switch_groups_acts}
 use Rattle.wire.proofs.Writing.Parts.{part-empty, rows-there}
 use Rattle.scene_writing.proofs.Writes.{section-begins}
-use borrow.Author.Rules.{rules}
 use Rattle.scene_writing.proofs.writing.fill_switch_groups_section.Goals as goal
 
 pub fill_all-n1-requires : goal.fill_all-n1-requires

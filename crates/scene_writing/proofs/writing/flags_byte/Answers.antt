@@ -1,7 +1,6 @@
 -- `scene_writing::writing::flags_byte` meets its contract.
 use native.Mathlib.Omega.{arith}
 use Rattle.wire.specs.Bits.{total, widths}
-use borrow.Author.Rules.{rules}
 use Rattle.scene_writing.proofs.writing.flags_byte.Goals as goal
 
 pub returns : goal.returns

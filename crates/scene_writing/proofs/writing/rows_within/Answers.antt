@@ -1,6 +1,5 @@
 -- `scene_writing::writing::rows_within` meets its contract.
 use Rattle.wire.proofs.Writing.Parts.{within-there, within-absent}
-use borrow.Author.Rules.{rules}
 use Rattle.scene_writing.proofs.writing.rows_within.Goals as goal
 
 pub returns-then-s : goal.returns-then-s

@@ -1,6 +1,5 @@
-use borrow.Author.Rules.{rules}
 use native.Mathlib.Omega.{arith}
-use Rattle.text_label.proofs.Filled.{NestingLanguages, languages-start, language-ask, languages-turn, languages-end}
+use Rattle.text_label.proofs.Filled.{languages-start, language-ask, languages-turn, languages-end}
 use Rattle.text_label.proofs.parsing.fill_languages.Goals as goal
 
 pub loop-left-init : goal.loop-left-init

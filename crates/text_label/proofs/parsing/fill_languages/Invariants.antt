@@ -1,7 +1,5 @@
 -- `parsing::fill_languages` meets its contract: what is still to store in both tables from here is what was to store from the start.
-use borrow.Author.Rules.{rules}
-use native.Mathlib.Omega.{arith}
-use Rattle.text_label.proofs.Filled.{NestingLanguages, languages-start, language-ask, languages-turn, languages-end}
+use Rattle.text_label.proofs.Filled.{NestingLanguages}
 use Rattle.text_label.proofs.parsing.fill_languages.Given as goal
 
 abbrev pub invariant-loop-left : goal.invariant-loop-left

@@ -1,6 +1,5 @@
-use borrow.Author.Rules.{rules}
 use native.Mathlib.Omega.{arith}
-use Rattle.wire.proofs.Reading.Loops.{Summing, sum-start, sum-turn, sum-cut, sum-end, sum-small, summed-as}
+use Rattle.wire.proofs.Reading.Loops.{sum-start, sum-turn, sum-cut, sum-end, sum-small, summed-as}
 use Rattle.text_label.specs.Read.{language}
 use Rattle.text_label.proofs.Parsed.{size_of, entries-summed}
 use Rattle.text_label.proofs.parsing.languages_rows.Goals as goal

@@ -1,9 +1,7 @@
 -- `parsing::languages_rows` meets its contract: the rows of the languages so far, and those of the ones that are left.
-use borrow.Author.Rules.{rules}
-use native.Mathlib.Omega.{arith}
-use Rattle.wire.proofs.Reading.Loops.{Summing, sum-start, sum-turn, sum-cut, sum-end, sum-small, summed-as}
+use Rattle.wire.proofs.Reading.Loops.{Summing}
 use Rattle.text_label.specs.Read.{language}
-use Rattle.text_label.proofs.Parsed.{size_of, entries-summed}
+use Rattle.text_label.proofs.Parsed.{size_of}
 use Rattle.text_label.proofs.parsing.languages_rows.Given as goal
 
 abbrev pub invariant-loop-left : goal.invariant-loop-left

@@ -1,6 +1,5 @@
 -- `parsing::letters_at` meets its contract: three bytes, each whole.
 use Rattle.text_label.proofs.Parsed.{letters-are}
-use borrow.Author.Rules.{rules}
 use Rattle.text_label.proofs.parsing.letters_at.Goals as goal
 
 pub returns : goal.returns

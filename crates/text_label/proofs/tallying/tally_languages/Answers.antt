@@ -1,8 +1,6 @@
-use borrow.Author.Rules.{rules}
 use native.Mathlib.Omega.{arith}
-use Rattle.wire.proofs.Reading.Loops.{Summing, sum-start, sum-next, sum-end}
+use Rattle.wire.proofs.Reading.Loops.{sum-start, sum-next, sum-end}
 use Rattle.text_label.specs.Read.{language}
-use Rattle.text_label.specs.Kind.{language_rows}
 use Rattle.text_label.proofs.Tallied.{language-summed}
 use Rattle.text_label.proofs.tallying.tally_languages.Goals as goal
 

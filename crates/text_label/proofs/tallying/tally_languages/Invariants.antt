@@ -1,10 +1,7 @@
 -- `tallying::tally_languages` meets its contract: what is summed up, and what is left, come to the whole.
-use borrow.Author.Rules.{rules}
-use native.Mathlib.Omega.{arith}
-use Rattle.wire.proofs.Reading.Loops.{Summing, sum-start, sum-next, sum-end}
+use Rattle.wire.proofs.Reading.Loops.{Summing}
 use Rattle.text_label.specs.Read.{language}
 use Rattle.text_label.specs.Kind.{language_rows}
-use Rattle.text_label.proofs.Tallied.{language-summed}
 use Rattle.text_label.proofs.tallying.tally_languages.Given as goal
 
 abbrev pub invariant-loop-left : goal.invariant-loop-left

@@ -1,6 +1,5 @@
 -- `writing::all_within` meets its contract: the ranges of the three lists.
 use mathlib.Core.Bool.{◌&&◌}
-use borrow.Author.Rules.{rules}
 use Rattle.text_label.proofs.writing.all_within.Goals as goal
 
 pub returns : goal.returns

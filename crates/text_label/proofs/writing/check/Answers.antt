@@ -6,7 +6,6 @@ use Rattle.wire.proofs.Writing.Passes.{more}
 use Rattle.frame.proofs.Passes.{run-outside, all-looked}
 use Rattle.text_label.specs.Kind.{kind}
 use Rattle.text_label.proofs.Mirrored.{acts-are}
-use borrow.Author.Rules.{rules}
 use Rattle.text_label.proofs.writing.check.Goals as goal
 
 pub returns-then-in_store : goal.returns-then-in_store

@@ -5,7 +5,6 @@ use Rattle.wire.proofs.Writing.Passes.{then, more, passed, refused, stopped, her
 use Rattle.wire.proofs.Writing.Plain.{all-checked}
 use Rattle.text_label.specs.Write.{text_label_acts}
 use Rattle.text_label.proofs.Written.{languages-few, languages-there}
-use borrow.Author.Rules.{rules}
 use Rattle.text_label.proofs.writing.check_fields.Goals as goal
 
 pub returns-in_default : goal.returns-in_default

@@ -6,7 +6,6 @@ use Rattle.wire.proofs.Writing.Passes.{then, more, passed, refused}
 use Rattle.wire.proofs.Writing.Plain.{all-checked}
 use Rattle.text_label.specs.Write.{all_within, language_acts}
 use Rattle.text_label.proofs.Written.{Within, all_three}
-use borrow.Author.Rules.{rules}
 use Rattle.text_label.proofs.writing.check_language.Goals as goal
 
 pub check_list-p2-requires : goal.check_list-p2-requires

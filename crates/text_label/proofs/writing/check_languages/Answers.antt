@@ -1,11 +1,10 @@
-use Prim.Native.Nat.{◌+◌, ◌-◌, ◌*◌, ◌≤◌}
+use Prim.Native.Nat.{◌+◌, ◌-◌, ◌*◌}
 use native.Mathlib.Omega.{arith}
 use native.Mathlib.Nat.{sub-zero}
 use Rattle.wire.specs.Act.{rows}
 use Rattle.wire.specs.declared.pen.Pen.TheVariants.{At}
 use Rattle.wire.proofs.Writing.Passes.{Checking, rows-turn, rows_end, check-start, check-turn, check-stop, check-end}
 use Rattle.text_label.specs.Write.{row_acts}
-use borrow.Author.Rules.{rules}
 use Rattle.text_label.proofs.writing.check_languages.Goals as goal
 
 pub loop-i-init : goal.loop-i-init

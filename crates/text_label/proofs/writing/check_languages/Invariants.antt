@@ -1,12 +1,9 @@
 -- `writing::check_languages` meets its contract: what is left to check from a row on; a fault ends it.
-use Prim.Native.Nat.{◌+◌, ◌-◌, ◌*◌, ◌≤◌}
-use native.Mathlib.Omega.{arith}
-use native.Mathlib.Nat.{sub-zero}
+use Prim.Native.Nat.{◌-◌, ◌*◌, ◌≤◌}
 use Rattle.wire.specs.Act.{rows}
 use Rattle.wire.specs.declared.pen.Pen.TheVariants.{At}
-use Rattle.wire.proofs.Writing.Passes.{Checking, rows-turn, rows_end, check-start, check-turn, check-stop, check-end}
+use Rattle.wire.proofs.Writing.Passes.{Checking}
 use Rattle.text_label.specs.Write.{row_acts}
-use borrow.Author.Rules.{rules}
 use Rattle.text_label.proofs.writing.check_languages.Given as goal
 
 abbrev pub invariant-loop-i : goal.invariant-loop-i

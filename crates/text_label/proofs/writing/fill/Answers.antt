@@ -2,7 +2,6 @@
 use Rattle.frame.proofs.Passes.{fields-ready, run-ready, all-filled}
 use Rattle.text_label.specs.Kind.{kind}
 use Rattle.text_label.proofs.Mirrored.{acts-are}
-use borrow.Author.Rules.{rules}
 use Rattle.text_label.proofs.writing.fill.Goals as goal
 
 pub fill_fields-n-requires : goal.fill_fields-n-requires

@@ -8,7 +8,6 @@ use Rattle.wire.proofs.Writing.Passes.{Filling, fill_start, fill-demand, fill-la
 use Rattle.wire.proofs.Writing.Plain.{ready-part, fill-part}
 use Rattle.text_label.specs.Write.{row_acts, head_fields, text_label_acts}
 use Rattle.text_label.proofs.Written.{languages-there}
-use borrow.Author.Rules.{rules}
 use Rattle.text_label.proofs.writing.fill_fields.Goals as goal
 
 pub fill_all-n-requires : goal.fill_all-n-requires

@@ -9,7 +9,6 @@ use Rattle.wire.proofs.Writing.Plain.{ready-part, fill-part}
 use Rattle.labels.specs.Write.{list_acts}
 use Rattle.text_label.specs.Write.{letter_fields, language_acts}
 use Rattle.text_label.proofs.Written.{Within, all_three}
-use borrow.Author.Rules.{rules}
 use Rattle.text_label.proofs.writing.fill_language.Goals as goal
 
 pub fill_all-n1-requires : goal.fill_all-n1-requires

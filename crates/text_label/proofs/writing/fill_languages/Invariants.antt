@@ -1,11 +1,8 @@
 -- `writing::fill_languages` meets its contract: what is left to store from a row on.
 use Prim.Native.Nat.{◌-◌, ◌≤◌}
-use native.Mathlib.Omega.{arith}
-use native.Mathlib.Nat.{sub-zero}
 use Rattle.wire.specs.Act.{rows}
-use Rattle.wire.proofs.Writing.Passes.{Filling, rows-turn, rows_end, fill_start, fill-row, fill-turn, fill_end}
+use Rattle.wire.proofs.Writing.Passes.{Filling}
 use Rattle.text_label.specs.Write.{row_acts}
-use borrow.Author.Rules.{rules}
 use Rattle.text_label.proofs.writing.fill_languages.Given as goal
 
 abbrev pub invariant-loop-i : goal.invariant-loop-i

@@ -1,5 +1,4 @@
 -- `text_label::rows::MpegH3dAudioTextLabel::new` meets its contract.
-use borrow.Author.Rules.{rules}
 use Rattle.text_label.proofs.rows.MpegH3dAudioTextLabel.new.Goals as goal
 
 pub returns : goal.returns

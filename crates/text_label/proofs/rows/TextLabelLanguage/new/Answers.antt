@@ -1,5 +1,4 @@
 -- `text_label::rows::TextLabelLanguage::new` meets its contract.
-use borrow.Author.Rules.{rules}
 use Rattle.text_label.proofs.rows.TextLabelLanguage.new.Goals as goal
 
 pub returns : goal.returns
