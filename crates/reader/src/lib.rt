@@ -10,7 +10,7 @@ use wire::reads::{Byte, Run};
 
 mod reads;
 
-#[derive(Drop)]
+#[derive(Clone, Copy)]
 pub struct Reader<'a> {
     pub body: &'a [u8],
     pub pos: usize,

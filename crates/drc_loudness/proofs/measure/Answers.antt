@@ -2,7 +2,6 @@
 use native.Mathlib.Omega.{arith}
 use Rattle.frame.proofs.Entries.{measures-long, measures-short}
 use Rattle.drc_kind.specs.Kind.{kind}
-use borrow.Author.Rules.{rules}
 use Rattle.drc_loudness.proofs.measure.Goals as goal
 
 pub returns-then-body-gt65535 : goal.returns-then-body-gt65535

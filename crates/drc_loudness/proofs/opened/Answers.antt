@@ -4,7 +4,6 @@ use Rattle.wire.specs.Reads.{ends_out}
 use Rattle.frame.proofs.Entries.{reads-unmeasured}
 use Rattle.drc_kind.specs.Kind.{kind}
 use Rattle.drc_loudness.proofs.Walked.{begins, cut-head}
-use borrow.Author.Rules.{rules}
 use Rattle.drc_loudness.proofs.opened.Goals as goal
 
 pub opened_behind-requires : goal.opened_behind-requires

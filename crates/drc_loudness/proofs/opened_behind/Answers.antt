@@ -4,7 +4,6 @@ use Rattle.frame.proofs.Entries.{measures-long, measures-short, reads-unmeasured
 use Rattle.drc_kind.specs.Kind.{kind}
 use Rattle.drc_loudness.proofs.Walked.{info-read, none_found}
 use Rattle.drc_loudness.proofs.Found.{bare-opens}
-use borrow.Author.Rules.{rules}
 use Rattle.drc_loudness.proofs.opened_behind.Goals as goal
 
 pub returns-then-body-gt65535 : goal.returns-then-body-gt65535

@@ -2,7 +2,6 @@
 use Rattle.frame.proofs.Tables.{reads-lowest, all-roomy, filled-opens}
 use Rattle.drc_kind.specs.Kind.{kind}
 use Rattle.drc_loudness.proofs.Found.{bare-counted, bare-opens}
-use borrow.Author.Rules.{rules}
 use Rattle.drc_loudness.proofs.opened_found.Goals as goal
 
 pub returns-then-s : goal.returns-then-s

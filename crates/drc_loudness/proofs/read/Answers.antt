@@ -1,5 +1,4 @@
 -- `drc_loudness::read` meets its contract: the record of the places, or why there are none.
-use borrow.Author.Rules.{rules}
 use Rattle.drc_loudness.proofs.read.Goals as goal
 
 pub record_at-requires : goal.record_at-requires

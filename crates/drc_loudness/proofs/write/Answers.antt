@@ -8,7 +8,6 @@ use Rattle.frame.proofs.Entries.{writes-refused, fillable, writes-done}
 use Rattle.drc_kind.specs.Kind.{kind}
 use Rattle.drc_writing.specs.Write.{head_fields}
 use Rattle.drc_writing.proofs.Writes.{drc-acts, bare-acts}
-use borrow.Author.Rules.{rules}
 use borrow.Enum.Refused.{opened}
 use Rattle.drc_loudness.proofs.write.Goals as goal
 

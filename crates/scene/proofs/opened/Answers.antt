@@ -3,7 +3,6 @@ use native.Mathlib.Omega.{arith}
 use Rattle.frame.proofs.Entries.{measures-long, measures-short, reads-unmeasured}
 use Rattle.scene_kind.specs.Kind.{kind}
 use Rattle.scene.proofs.Bare.{bare-opens}
-use borrow.Author.Rules.{rules}
 use Rattle.scene.proofs.opened.Goals as goal
 
 pub returns-then-body-gt65535 : goal.returns-then-body-gt65535

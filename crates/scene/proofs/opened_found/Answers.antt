@@ -1,7 +1,6 @@
 -- `scene::opened_found` meets its contract: the lowest table that is short, else the rows.
 use Rattle.frame.proofs.Tables.{reads-lowest, all-roomy, filled-opens}
 use Rattle.scene_kind.specs.Kind.{kind}
-use borrow.Author.Rules.{rules}
 use Rattle.scene.proofs.opened_found.Goals as goal
 
 pub fill-requires : goal.fill-requires

@@ -2,7 +2,6 @@
 use native.Mathlib.Omega.{arith}
 use Rattle.frame.proofs.Entries.{measures-short, reads-unmeasured}
 use Rattle.scene_kind.specs.Kind.{kind}
-use borrow.Author.Rules.{rules}
 use Rattle.scene.proofs.opened_rows.Goals as goal
 
 pub opened_found-requires : goal.opened_found-requires

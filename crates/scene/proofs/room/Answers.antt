@@ -2,7 +2,6 @@
 use mathlib.Core.Path.{refl}
 use Rattle.frame.specs.Entry.{first_table, other_tables}
 use Rattle.frame.specs.Sight.{and_tables}
-use borrow.Author.Rules.{rules}
 use Rattle.scene.proofs.room.Goals as goal
 
 pub returns : goal.returns

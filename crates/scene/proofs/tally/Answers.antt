@@ -2,7 +2,6 @@
 use native.Mathlib.Omega.{arith}
 use Rattle.frame.proofs.Entries.{measures-long, measures-short, tallies-unmeasured}
 use Rattle.scene_kind.specs.Kind.{kind}
-use borrow.Author.Rules.{rules}
 use Rattle.scene.proofs.tally.Goals as goal
 
 pub returns-then-body-gt65535 : goal.returns-then-body-gt65535

@@ -9,7 +9,6 @@ use Rattle.frame.proofs.Entries.{writes-refused, fillable, writes-done}
 use Rattle.scene_kind.specs.Kind.{kind}
 use Rattle.scene_writing.specs.Write.{head_bytes}
 use Rattle.scene_writing.proofs.Writes.{scene-acts, bare-acts}
-use borrow.Author.Rules.{rules}
 use borrow.Enum.Refused.{opened}
 use Rattle.scene.proofs.write.Goals as goal
 

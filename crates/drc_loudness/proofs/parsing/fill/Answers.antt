@@ -3,7 +3,6 @@ use mathlib.Core.Path.{ap}
 use Rattle.drc_kind.specs.declared.rows.Info.{Info}
 use Rattle.drc_loudness.proofs.Walked.{first-there}
 use Rattle.drc_loudness.proofs.Stored.{instructions-ask, entries-ask, downmixes-ask, stored}
-use borrow.Author.Rules.{rules}
 use Rattle.drc_loudness.proofs.parsing.fill.Goals as goal
 
 pub info_at-requires : goal.info_at-requires

@@ -2,7 +2,6 @@
 use mathlib.Core.Path.{ap}
 use Rattle.wire.specs.Reads.{ends_out}
 use Rattle.drc_loudness.proofs.Walked.{head-shorts, begins, info-read, none_found}
-use borrow.Author.Rules.{rules}
 use Rattle.drc_loudness.proofs.parsing.find_lists.Goals as goal
 
 pub returns-in_default : goal.returns-in_default

@@ -4,7 +4,6 @@ use native.Mathlib.Omega.{arith}
 use Rattle.wire.specs.Reads.{ends_out}
 use Rattle.wire.proofs.Layouts.Straight.{ones-past}
 use Rattle.drc_loudness.proofs.Walked.{flag-taken, flag-left, head-short, head-alone, head-whole}
-use borrow.Author.Rules.{rules}
 use Rattle.drc_loudness.proofs.parsing.head_end.Goals as goal
 
 pub returns-in_default : goal.returns-in_default

@@ -1,7 +1,6 @@
 -- `drc_loudness::parsing::info_at` meets its contract: the flag decides.
 use native.Mathlib.Omega.{arith}
 use Rattle.drc_loudness.proofs.Walked.{flag-taken, flag-left, rows_four, info-of, info-none}
-use borrow.Author.Rules.{rules}
 use Rattle.drc_loudness.proofs.parsing.info_at.Goals as goal
 
 pub info_there-requires : goal.info_there-requires

@@ -1,7 +1,6 @@
 -- `drc_loudness::parsing::info_there` meets its contract: each field from its byte.
 use mathlib.Core.Path.{ap, ◌∙◌}
 use Rattle.wire.specs.Bits.{part}
-use borrow.Author.Rules.{rules}
 use Rattle.drc_loudness.proofs.parsing.info_there.Goals as goal
 
 pub returns : goal.returns

@@ -4,7 +4,6 @@ use native.Mathlib.Omega.{arith}
 use Rattle.wire.specs.Bits.{part}
 use Rattle.drc_loudness.proofs.Walked.{first-there}
 use Rattle.drc_loudness.proofs.Found.{at-end, recorded}
-use borrow.Author.Rules.{rules}
 use Rattle.drc_loudness.proofs.parsing.record_at.Goals as goal
 
 pub bounds-body-0 : goal.bounds-body-0

@@ -1,7 +1,6 @@
 -- `drc_loudness::parsing::rows_at` meets its contract: the flag decides.
 use mathlib.Core.Path.{sym}
 use Rattle.drc_loudness.proofs.Walked.{flag-taken, flag-left, rows_four, rows-one}
-use borrow.Author.Rules.{rules}
 use Rattle.drc_loudness.proofs.parsing.rows_at.Goals as goal
 
 pub returns-then-part-eq1 : goal.returns-then-part-eq1

@@ -4,7 +4,6 @@ use Rattle.wire.specs.Prog.{short}
 use Rattle.wire.specs.Reads.{ends_out, sum_out, short_of}
 use Rattle.drc_loudness.proofs.Walked.{instructions-found, instructions-cut, entries-found, entries-cut, all_found, downmixes-cut}
 use Rattle.drc_loudness.proofs.Found.{there-few}
-use borrow.Author.Rules.{rules}
 use Rattle.drc_loudness.proofs.parsing.walk_lists.Goals as goal
 
 pub measure_instructions-s-requires : goal.measure_instructions-s-requires

@@ -5,7 +5,6 @@ use native.Mathlib.Omega.{arith}
 use Rattle.wire.specs.Bits.{part, zeros}
 use Rattle.drc_loudness.proofs.Walked.{rows-near}
 use Rattle.drc_loudness.proofs.Found.{top-with, top-alone}
-use borrow.Author.Rules.{rules}
 use Rattle.drc_loudness.proofs.tallying.top_zeros.Goals as goal
 
 pub bounds-body-0 : goal.bounds-body-0

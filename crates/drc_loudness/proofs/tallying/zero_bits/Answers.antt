@@ -4,7 +4,6 @@ use Rattle.wire.specs.Reads.{is_done}
 use Rattle.drc_kind.specs.declared.rows.Info.{Info}
 use Rattle.drc_loudness.proofs.Walked.{first-there}
 use Rattle.drc_loudness.proofs.Found.{info-few, at-entries, at-downmixes, zeros-so}
-use borrow.Author.Rules.{rules}
 use Rattle.drc_loudness.proofs.tallying.zero_bits.Goals as goal
 
 pub info_at-info-requires : goal.info_at-info-requires

@@ -3,7 +3,6 @@ use mathlib.Core.Path.{refl}
 use native.Mathlib.Omega.{arith}
 use Rattle.base.specs.Kind.{kind}
 use Rattle.mpegh_c.proofs.Hosted.{measures-refused, measures-sized}
-use borrow.Author.Rules.{rules}
 use Rattle.mpegh_c.proofs.base_body.mpegh_base_measure.Goals as goal
 
 pub returns-in-Done : goal.returns-in-Done

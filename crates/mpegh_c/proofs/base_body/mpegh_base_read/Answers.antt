@@ -9,7 +9,6 @@ use Rattle.base.specs.Kind.{kind}
 use Rattle.base.proofs.Parsed.{headless}
 use Rattle.mpegh_c.specs.Code.{refused_code}
 use Rattle.mpegh_c.proofs.Hosted.{reads-neither, reads-unroomed, reads-refused, reads-done}
-use borrow.Author.Rules.{rules}
 use Rattle.mpegh_c.proofs.base_body.mpegh_base_read.Goals as goal
 
 pub returns-in_default : goal.returns-in_default

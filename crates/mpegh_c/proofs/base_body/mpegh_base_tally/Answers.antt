@@ -1,7 +1,6 @@
 -- `mpegh_c::base_body::mpegh_base_tally` meets its contract.
 use Rattle.base.specs.Kind.{kind}
 use Rattle.mpegh_c.proofs.Hosted.{tallies}
-use borrow.Author.Rules.{rules}
 use Rattle.mpegh_c.proofs.base_body.mpegh_base_tally.Goals as goal
 
 pub returns : goal.returns

@@ -1,5 +1,4 @@
 -- `mpegh_c::codes::refusal_code` meets its contract.
-use borrow.Author.Rules.{rules}
 use Rattle.mpegh_c.proofs.codes.refusal_code.Goals as goal
 
 pub returns-in-Short : goal.returns-in-Short

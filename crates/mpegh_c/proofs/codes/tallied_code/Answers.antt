@@ -1,5 +1,4 @@
 -- `mpegh_c::codes::tallied_code` meets its contract.
-use borrow.Author.Rules.{rules}
 use Rattle.mpegh_c.proofs.codes.tallied_code.Goals as goal
 
 pub returns-in-Done : goal.returns-in-Done

@@ -1,7 +1,6 @@
 -- `mpegh_c::drc_loudness_body::mpegh_drc_loudness_measure` meets its contract.
 use Rattle.drc_kind.specs.Kind.{kind}
 use Rattle.mpegh_c.proofs.Hosted.{measures-refused, measures-unroomed, measures-sized}
-use borrow.Author.Rules.{rules}
 use Rattle.mpegh_c.proofs.drc_loudness_body.mpegh_drc_loudness_measure.Goals as goal
 
 pub returns-then-rows-lt4 : goal.returns-then-rows-lt4

@@ -9,7 +9,6 @@ use Rattle.drc_kind.specs.Kind.{kind}
 use Rattle.drc_loudness.proofs.Walked.{begins, headless}
 use Rattle.mpegh_c.specs.Code.{refused_code}
 use Rattle.mpegh_c.proofs.Hosted.{reads-neither, reads-unroomed, reads-refused, reads-done}
-use borrow.Author.Rules.{rules}
 use Rattle.mpegh_c.proofs.drc_loudness_body.mpegh_drc_loudness_read.Goals as goal
 
 pub returns-in_default : goal.returns-in_default

@@ -1,7 +1,6 @@
 -- `mpegh_c::drc_loudness_body::unread` meets its contract.
 use Rattle.drc_kind.specs.Kind.{kind}
 use Rattle.mpegh_c.proofs.Hosted.{unread-so}
-use borrow.Author.Rules.{rules}
 use Rattle.mpegh_c.proofs.drc_loudness_body.unread.Goals as goal
 
 pub returns-in-Done : goal.returns-in-Done

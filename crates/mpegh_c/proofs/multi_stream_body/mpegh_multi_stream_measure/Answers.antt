@@ -1,7 +1,6 @@
 -- `mpegh_c::multi_stream_body::mpegh_multi_stream_measure` meets its contract.
 use Rattle.multi_stream.specs.Kind.{kind}
 use Rattle.mpegh_c.proofs.Hosted.{measures-refused, measures-unroomed, measures-sized}
-use borrow.Author.Rules.{rules}
 use Rattle.mpegh_c.proofs.multi_stream_body.mpegh_multi_stream_measure.Goals as goal
 
 pub returns-then-rows-lt1 : goal.returns-then-rows-lt1

@@ -3,7 +3,6 @@ use mathlib.Core.Path.{refl}
 use Rattle.multi_stream.specs.Rows.{top_row}
 use Rattle.multi_stream.specs.Kind.{kind}
 use Rattle.mpegh_c.proofs.Hosted.{reads-unroomed, reads-refused, reads-done}
-use borrow.Author.Rules.{rules}
 use Rattle.mpegh_c.proofs.multi_stream_body.mpegh_multi_stream_read.Goals as goal
 
 pub returns-then-top-lt-TOP_COLUMNS : goal.returns-then-top-lt-TOP_COLUMNS

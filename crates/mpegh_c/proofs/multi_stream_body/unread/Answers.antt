@@ -1,7 +1,6 @@
 -- `mpegh_c::multi_stream_body::unread` meets its contract.
 use Rattle.multi_stream.specs.Kind.{kind}
 use Rattle.mpegh_c.proofs.Hosted.{unread-so}
-use borrow.Author.Rules.{rules}
 use Rattle.mpegh_c.proofs.multi_stream_body.unread.Goals as goal
 
 pub returns-in-Done : goal.returns-in-Done

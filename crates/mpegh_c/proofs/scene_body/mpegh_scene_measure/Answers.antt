@@ -1,7 +1,6 @@
 -- `mpegh_c::scene_body::mpegh_scene_measure` meets its contract.
 use Rattle.scene_kind.specs.Kind.{kind}
 use Rattle.mpegh_c.proofs.Hosted.{measures-refused, measures-unroomed, measures-sized}
-use borrow.Author.Rules.{rules}
 use Rattle.mpegh_c.proofs.scene_body.mpegh_scene_measure.Goals as goal
 
 pub returns-then-rows-lt5 : goal.returns-then-rows-lt5

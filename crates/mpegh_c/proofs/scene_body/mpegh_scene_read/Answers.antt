@@ -9,7 +9,6 @@ use Rattle.scene_kind.specs.Kind.{kind}
 use Rattle.scene.proofs.Bare.{headless}
 use Rattle.mpegh_c.specs.Code.{refused_code}
 use Rattle.mpegh_c.proofs.Hosted.{reads-neither, reads-unroomed, reads-refused, reads-done}
-use borrow.Author.Rules.{rules}
 use Rattle.mpegh_c.proofs.scene_body.mpegh_scene_read.Goals as goal
 
 pub returns-in_default : goal.returns-in_default

@@ -1,7 +1,6 @@
 -- `mpegh_c::text_label_body::mpegh_text_label_measure` meets its contract.
 use Rattle.text_label.specs.Kind.{kind}
 use Rattle.mpegh_c.proofs.Hosted.{measures-refused, measures-unroomed, measures-sized}
-use borrow.Author.Rules.{rules}
 use Rattle.mpegh_c.proofs.text_label_body.mpegh_text_label_measure.Goals as goal
 
 pub returns-then-rows-lt2 : goal.returns-then-rows-lt2

@@ -9,7 +9,6 @@ use Rattle.text_label.specs.Rows.{top_row}
 use Rattle.text_label.specs.Kind.{kind}
 use Rattle.text_label.proofs.Parsed.{headless}
 use Rattle.mpegh_c.proofs.Hosted.{reads-neither, reads-unroomed, reads-refused, reads-done}
-use borrow.Author.Rules.{rules}
 use Rattle.mpegh_c.proofs.text_label_body.mpegh_text_label_read.Goals as goal
 
 pub returns-in_default : goal.returns-in_default

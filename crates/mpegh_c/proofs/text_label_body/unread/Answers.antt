@@ -1,7 +1,6 @@
 -- `mpegh_c::text_label_body::unread` meets its contract.
 use Rattle.text_label.specs.Kind.{kind}
 use Rattle.mpegh_c.proofs.Hosted.{unread-so}
-use borrow.Author.Rules.{rules}
 use Rattle.mpegh_c.proofs.text_label_body.unread.Goals as goal
 
 pub returns-in-Done : goal.returns-in-Done

@@ -1,7 +1,6 @@
 -- `scene::parsing::bare` meets its contract: sections that have no rows stand one behind the other.
 use native.Mathlib.Omega.{arith}
 use Rattle.scene.proofs.Bare.{rows-at-near, stand, bare-so}
-use borrow.Author.Rules.{rules}
 use Rattle.scene.proofs.parsing.bare.Goals as goal
 
 pub rows_at-presets-requires : goal.rows_at-presets-requires

@@ -1,6 +1,5 @@
 -- `scene::parsing::count_at` meets its contract.
 use Rattle.scene.proofs.Sections.{byte-there, count-there, count-absent}
-use borrow.Author.Rules.{rules}
 use Rattle.scene.proofs.parsing.count_at.Goals as goal
 
 pub bounds-body-at : goal.bounds-body-at

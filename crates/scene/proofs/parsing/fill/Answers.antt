@@ -3,7 +3,6 @@ use mathlib.Core.Path.{ap, ◌∙◌}
 use Rattle.wire.specs.Bits.{part}
 use Rattle.scene.proofs.Found.{flags-so}
 use Rattle.scene.proofs.Stored.{groups-ask, switches-ask, presets-ask, stored}
-use borrow.Author.Rules.{rules}
 use Rattle.scene.proofs.parsing.fill.Goals as goal
 
 pub fill_groups_section-requires : goal.fill_groups_section-requires

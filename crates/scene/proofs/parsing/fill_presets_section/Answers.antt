@@ -1,5 +1,4 @@
 -- `scene::parsing::fill_presets_section` meets its contract.
-use borrow.Author.Rules.{rules}
 use Rattle.scene.proofs.parsing.fill_presets_section.Goals as goal
 
 pub fill_presets-requires : goal.fill_presets-requires

@@ -1,5 +1,4 @@
 -- `scene::parsing::fill_switch_groups_section` meets its contract.
-use borrow.Author.Rules.{rules}
 use Rattle.scene.proofs.parsing.fill_switch_groups_section.Goals as goal
 
 pub fill_switch_groups-requires : goal.fill_switch_groups-requires

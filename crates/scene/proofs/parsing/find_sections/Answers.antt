@@ -6,7 +6,6 @@ use Rattle.wire.specs.Prog.{short}
 use Rattle.wire.specs.Reads.{ends_out, sum_out, short_of}
 use Rattle.wire.proofs.Layouts.Straight.{Past, ones-past}
 use Rattle.scene.proofs.Walked.{head-cut, InGroups, groups-found, groups-cut, InSwitches, switches-found, switches-cut, all_found, presets-cut}
-use borrow.Author.Rules.{rules}
 use Rattle.scene.proofs.parsing.find_sections.Goals as goal
 
 pub returns-in_default : goal.returns-in_default

@@ -7,7 +7,6 @@ use Rattle.wire.proofs.Layouts.Straight.{ones-past}
 use Rattle.scene.proofs.Walked.{head-cut}
 use Rattle.scene.proofs.Found.{flags-so}
 use Rattle.scene.proofs.Bare.{none_so}
-use borrow.Author.Rules.{rules}
 use Rattle.scene.proofs.parsing.first_look.Goals as goal
 
 pub returns-in_default : goal.returns-in_default

@@ -3,7 +3,6 @@ use mathlib.Core.Path.{ap}
 use native.Mathlib.Omega.{arith}
 use Rattle.wire.specs.Reads.{ends_out}
 use Rattle.scene.proofs.Bare.{rows-at-near, first-there, cut-so}
-use borrow.Author.Rules.{rules}
 use Rattle.scene.proofs.parsing.first_section.Goals as goal
 
 pub returns-in_default : goal.returns-in_default

@@ -5,7 +5,6 @@ use Rattle.wire.specs.Reads.{ends_out}
 use Rattle.wire.specs.Layout.{flat}
 use Rattle.scene_groups.specs.Layout.{group}
 use Rattle.scene.proofs.Sections.{Begun, begins, size_small, section-cut-off, section-ends}
-use borrow.Author.Rules.{rules}
 use Rattle.scene.proofs.parsing.groups_end.Goals as goal
 
 pub head-a-requires : goal.head-a-requires

@@ -6,7 +6,6 @@ use Rattle.wire.specs.Reads.{ends_out}
 use Rattle.wire.specs.Layout.{kids}
 use Rattle.presets.specs.Layout.{presets}
 use Rattle.scene.proofs.Sections.{Begun, begins, size_small, section-cut-sum, section-sum}
-use borrow.Author.Rules.{rules}
 use Rattle.scene.proofs.parsing.presets_rows.Goals as goal
 
 pub head-a-requires : goal.head-a-requires

@@ -3,7 +3,6 @@ use mathlib.Core.Path.{ap, ◌∙◌}
 use native.Mathlib.Omega.{arith}
 use Rattle.wire.specs.Bits.{part}
 use Rattle.scene.proofs.Found.{at-end, groups-there, switches-there, presets-there, flags-so, recorded}
-use borrow.Author.Rules.{rules}
 use Rattle.scene.proofs.parsing.record_at.Goals as goal
 
 pub section_at-requires : goal.section_at-requires

@@ -1,6 +1,5 @@
 -- `scene::parsing::reserved_at` meets its contract.
 use Rattle.scene.proofs.Sections.{byte-there, reserved-there, reserved-absent}
-use borrow.Author.Rules.{rules}
 use Rattle.scene.proofs.parsing.reserved_at.Goals as goal
 
 pub bounds-body-at : goal.bounds-body-at

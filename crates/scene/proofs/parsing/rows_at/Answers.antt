@@ -1,7 +1,6 @@
 -- `scene::parsing::rows_at` meets its contract.
 use native.Mathlib.Omega.{arith}
 use Rattle.scene.proofs.Sections.{size_small, rows-at-so}
-use borrow.Author.Rules.{rules}
 use Rattle.scene.proofs.parsing.rows_at.Goals as goal
 
 pub overflow_add-result : goal.overflow_add-result

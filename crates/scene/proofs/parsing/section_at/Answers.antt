@@ -1,6 +1,5 @@
 -- `scene::parsing::section_at` meets its contract.
 use lib.Dec.{eqb}
-use borrow.Author.Rules.{rules}
 use Rattle.scene.proofs.parsing.section_at.Goals as goal
 
 pub returns : goal.returns

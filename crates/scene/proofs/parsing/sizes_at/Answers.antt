@@ -3,7 +3,6 @@ use mathlib.Core.Path.{refl, ap, ◌∙◌}
 use native.Mathlib.Omega.{arith}
 use Rattle.wire.specs.Bits.{part}
 use Rattle.scene.proofs.Found.{groups-there, switches-there, presets-there, flags-so, counted}
-use borrow.Author.Rules.{rules}
 use Rattle.scene.proofs.parsing.sizes_at.Goals as goal
 
 pub count_at-requires : goal.count_at-requires

@@ -1,7 +1,6 @@
 -- `scene::tallying::presets_zeros` meets its contract: the byte of the section, and its rows.
 use Prim.Native.Nat.{◌+◌}
 use native.Mathlib.Omega.{arith}
-use borrow.Author.Rules.{rules}
 use Rattle.scene.proofs.tallying.presets_zeros.Goals as goal
 
 pub tally_presets-requires : goal.tally_presets-requires

@@ -1,6 +1,5 @@
 -- `scene::tallying::reserved_zeros` meets its contract.
 use Rattle.scene.proofs.Sections.{byte-there, zeros-there, zeros-absent}
-use borrow.Author.Rules.{rules}
 use Rattle.scene.proofs.tallying.reserved_zeros.Goals as goal
 
 pub bounds-body-at : goal.bounds-body-at

@@ -1,7 +1,6 @@
 -- `scene::tallying::switch_groups_zeros` meets its contract: the byte of the section, and its rows.
 use Prim.Native.Nat.{◌+◌}
 use native.Mathlib.Omega.{arith}
-use borrow.Author.Rules.{rules}
 use Rattle.scene.proofs.tallying.switch_groups_zeros.Goals as goal
 
 pub tally_switch_groups-requires : goal.tally_switch_groups-requires

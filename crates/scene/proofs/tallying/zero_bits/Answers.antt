@@ -5,7 +5,6 @@ use Rattle.wire.specs.Bits.{part, zeros}
 use Rattle.wire.specs.Reads.{is_done}
 use Rattle.scene.proofs.Found.{groups-stand, switches-stand, presets-stand, at-switches, at-presets, flags-so}
 use Rattle.scene.proofs.Tallied.{zeros-so}
-use borrow.Author.Rules.{rules}
 use Rattle.scene.proofs.tallying.zero_bits.Goals as goal
 
 pub groups_zeros-g-requires : goal.groups_zeros-g-requires
