@@ -1,7 +1,7 @@
 #!/usr/bin/env python3
 """Respells the definitions and lemmas of this repository after the kit's port.py: words in snake case, types, facts and modules in camel case.
 
-usage: tools/respell.py    once, at the top of the repository; tools/names.txt has a line for each name, old and new
+usage: tools/respell.py    at the top of the repository; tools/names.txt has a line for each name, old and new. A second run changes nothing
 """
 import os
 import re
@@ -32,6 +32,8 @@ def main():
                     f.write(new)
     for old, new in MODULES.items():
         at = os.path.join("crates", "wire", "proofs")
+        if not os.path.exists(os.path.join(at, old + ".antt")):
+            continue
         subprocess.run(["git", "mv", os.path.join(at, old), os.path.join(at, new)], check=True)
         subprocess.run(["git", "mv", os.path.join(at, old + ".antt"), os.path.join(at, new + ".antt")], check=True)
 

@@ -14,7 +14,7 @@ use Rattle.frame.specs.Body.{layouts, heeds, heeds_of}
 use Rattle.frame.proofs.Lawful.{Lawful}
 use Rattle.frame.proofs.Pieces.{form}
 use Rattle.frame.proofs.Body as B
-use Rattle.frame.proofs.Body.{places, places_test, tests, LawfulBody, bit-back}
+use Rattle.frame.proofs.Body.{places, places_test, tests, LawfulBody, bit_back}
 use Rattle.base.specs.declared.rows.MpegH3dAudio.{MpegH3dAudio}
 use Rattle.base.specs.Layout.{head}
 use Rattle.base.specs.Rows.{fields, base_of, bounds}
@@ -25,7 +25,7 @@ unfolding layouts cells shown head every flatten each
 again g run e =
     let (a, e₀) = and_both (is_flag (g 1)) _ e in
     let (b, _) = and_both (is_flag (g 2)) _ e₀ in
-    λ i. g 0 ∷ bit-back (g 1) a i ∷ bit-back (g 2) b i ∷ g 3 ∷ g 4 ∷ g 5 ∷ g 6 ∷ g 7 ∷ []
+    λ i. g 0 ∷ bit_back (g 1) a i ∷ bit_back (g 2) b i ∷ g 3 ∷ g 4 ∷ g 5 ∷ g 6 ∷ g 7 ∷ []
 
 kept : (m : MpegH3dAudio) → fields (base_of (heeds_of body (of (fields m))) m.trailing) ≡ heeds_of body (of (fields m))
 unfolding layouts heeds cells shown head flatten has each
@@ -42,18 +42,18 @@ kept m = go m.interactivity_enabled m.compatible_sets.present
     go false true = refl
     go false false = refl
 
-body-lawful : LawfulBody body
+body_lawful : LawfulBody body
 unfolding tests form form_proper form_all form_in_bytes proper all has distinct free eights total flatten below bytewide in_bytes head places places_test bounds each
-body-lawful = record {
+body_lawful = record {
   rows = tt;
   passes = refl;
   again = again;
   kept = kept;
   run_of = λ c r. refl;
-  run-set = λ c r q. refl;
+  run_set = λ c r q. refl;
   held = λ g w c k n a b. all_cons (c 0 refl) (all_cons (w 3) (all_cons (w 4) (all_cons (c 5 refl) (all_cons (c 6 refl) (all_cons (c 7 refl) (all_cons a (all_cons b all_nil)))))));
 }
 
 pub lawful : Lawful kind
 unfolding kind
-lawful = B.lawful body body-lawful
+lawful = B.lawful body body_lawful

@@ -11,7 +11,7 @@ use Rattle.wire.specs.Lists.{each}
 use Rattle.wire.specs.Bits.{part, total, split}
 use Rattle.wire.specs.Prog.{ret, look, u8, ◌>>=◌}
 use Rattle.wire.specs.Layout.{put, puts, reads, cells, matches, matched, shown, writes, every, has}
-use Rattle.wire.proofs.Fields.{part-below}
+use Rattle.wire.proofs.Fields.{part_below}
 use Rattle.frame.specs.Kind.{Lent}
 use Rattle.frame.specs.Sight.{head_acts}
 use Rattle.frame.specs.Body.{layouts, carried, parse, inside, pieced}
@@ -29,9 +29,9 @@ turned (suc zero) h = refl
 turned (suc (suc v)) h = absurd (omega arith)
 
 -- the flag steers the sets as the Rust reads them
-sets-so : (v : ℕ) → v < 2 → carried (eqb (1 - v) 1) ≡ sets (eqb v 1)
+sets_so : (v : ℕ) → v < 2 → carried (eqb (1 - v) 1) ≡ sets (eqb v 1)
 unfolding carried sets
-sets-so v h = ap carried (turned v h) ∙ go (eqb v 1)
+sets_so v h = ap carried (turned v h) ∙ go (eqb v 1)
   where
     go : (b : Bool) → carried (not b) ≡ sets b
     go true = refl
@@ -40,11 +40,11 @@ sets-so v h = ap carried (turned v h) ∙ go (eqb v 1)
 pub mirrored : kind.program ≡ R.base
 unfolding kind parse head reads puts put split total each R.base u8 ◌>>=◌
 mirrored = λ i. look 1 (λ a. look 1 (λ b. look 1 (λ c.
-    sets-so (part 6 1 (get_or b 0 0)) (part-below 6 1 (get_or b 0 0)) i >>= λ s. ret (columns_of (get_or a 0 0) (get_or b 0 0) (get_or c 0 0), (s, tt)))))
+    sets_so (part 6 1 (get_or b 0 0)) (part_below 6 1 (get_or b 0 0)) i >>= λ s. ret (columns_of (get_or a 0 0) (get_or b 0 0) (get_or c 0 0), (s, tt)))))
 
-pub written-so : (m : MpegH3dAudio) (store : List ℕ) (lent : Lent) → kind.acts m lent store ≡ base_acts m store
+pub written_so : (m : MpegH3dAudio) (store : List ℕ) (lent : Lent) → kind.acts m lent store ≡ base_acts m store
 unfolding kind layouts inside pieced base_acts sets_acts head cells matches matched shown writes every has flatten
-written-so m store lent = go m.interactivity_enabled m.compatible_sets.present
+written_so m store lent = go m.interactivity_enabled m.compatible_sets.present
   where
     with : Bool → Bool → MpegH3dAudio
     with a b = record {
@@ -64,6 +64,6 @@ written-so m store lent = go m.interactivity_enabled m.compatible_sets.present
     go false false = refl
 
 -- without sets the actions are those of the head alone
-pub bare-acts : (m : MpegH3dAudio) (store : List ℕ) → not m.compatible_sets.present ≡ true → base_acts m store ≡ head_acts (head_fields m)
+pub bare_acts : (m : MpegH3dAudio) (store : List ℕ) → not m.compatible_sets.present ≡ true → base_acts m store ≡ head_acts (head_fields m)
 unfolding base_acts sets_acts
-bare-acts m store e = rw (not-true m.compatible_sets.present e)
+bare_acts m store e = rw (not-true m.compatible_sets.present e)

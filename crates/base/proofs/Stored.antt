@@ -16,5 +16,5 @@ as_long : (c : Bool) (a n : ℕ) (s : List ℕ) → pick c (leb (a + n) (length 
 as_long true a n s e = length-slice a (a + n) s (leb-true _ _ e) ∙ omega arith
 as_long false a n s e = refl
 
-pub listed-long : (x : CompatibleSets) (store : List ℕ) → inside x store ≡ true → pick x.present (length (listed x store)) x.indications.length ≡ x.indications.length
-listed-long x store e = as_long x.present x.indications.offset x.indications.length store e
+pub listed_long : (x : CompatibleSets) (store : List ℕ) → inside x store ≡ true → pick x.present (length (listed x store)) x.indications.length ≡ x.indications.length
+listed_long x store e = as_long x.present x.indications.offset x.indications.length store e

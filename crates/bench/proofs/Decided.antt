@@ -24,29 +24,29 @@ parted (x ∷ s) h = refl
 
 -- ---- the kinds
 
-is-1 : (k : ℕ) (body : List ℕ) → k ≡ 1 → kind_line k body ≡ base_line body
+is_1 : (k : ℕ) (body : List ℕ) → k ≡ 1 → kind_line k body ≡ base_line body
 unfolding kind_line
-is-1 k body e = rw (eq-eqb k 1 e, kind_line) refl
+is_1 k body e = rw (eq-eqb k 1 e, kind_line) refl
 
-is-2 : (k : ℕ) (body : List ℕ) → (k ≡ 1 → ⊥) → k ≡ 2 → kind_line k body ≡ scene_line body
+is_2 : (k : ℕ) (body : List ℕ) → (k ≡ 1 → ⊥) → k ≡ 2 → kind_line k body ≡ scene_line body
 unfolding kind_line
-is-2 k body n e = rw (ne_eqb k 1 n, eq-eqb k 2 e, kind_line) refl
+is_2 k body n e = rw (ne_eqb k 1 n, eq-eqb k 2 e, kind_line) refl
 
-is-3 : (k : ℕ) (body : List ℕ) → (k ≡ 1 → ⊥) → (k ≡ 2 → ⊥) → k ≡ 3 → kind_line k body ≡ text_label_line body
+is_3 : (k : ℕ) (body : List ℕ) → (k ≡ 1 → ⊥) → (k ≡ 2 → ⊥) → k ≡ 3 → kind_line k body ≡ text_label_line body
 unfolding kind_line
-is-3 k body n m e = rw (ne_eqb k 1 n, ne_eqb k 2 m, eq-eqb k 3 e, kind_line) refl
+is_3 k body n m e = rw (ne_eqb k 1 n, ne_eqb k 2 m, eq-eqb k 3 e, kind_line) refl
 
-is-4 : (k : ℕ) (body : List ℕ) → (k ≡ 1 → ⊥) → (k ≡ 2 → ⊥) → (k ≡ 3 → ⊥) → k ≡ 4 → kind_line k body ≡ multi_stream_line body
+is_4 : (k : ℕ) (body : List ℕ) → (k ≡ 1 → ⊥) → (k ≡ 2 → ⊥) → (k ≡ 3 → ⊥) → k ≡ 4 → kind_line k body ≡ multi_stream_line body
 unfolding kind_line
-is-4 k body n m o e = rw (ne_eqb k 1 n, ne_eqb k 2 m, ne_eqb k 3 o, eq-eqb k 4 e, kind_line) refl
+is_4 k body n m o e = rw (ne_eqb k 1 n, ne_eqb k 2 m, ne_eqb k 3 o, eq-eqb k 4 e, kind_line) refl
 
-is-5 : (k : ℕ) (body : List ℕ) → (k ≡ 1 → ⊥) → (k ≡ 2 → ⊥) → (k ≡ 3 → ⊥) → (k ≡ 4 → ⊥) → k ≡ 5 → kind_line k body ≡ drc_loudness_line body
+is_5 : (k : ℕ) (body : List ℕ) → (k ≡ 1 → ⊥) → (k ≡ 2 → ⊥) → (k ≡ 3 → ⊥) → (k ≡ 4 → ⊥) → k ≡ 5 → kind_line k body ≡ drc_loudness_line body
 unfolding kind_line
-is-5 k body n m o p e = rw (ne_eqb k 1 n, ne_eqb k 2 m, ne_eqb k 3 o, ne_eqb k 4 p, eq-eqb k 5 e, kind_line) refl
+is_5 k body n m o p e = rw (ne_eqb k 1 n, ne_eqb k 2 m, ne_eqb k 3 o, ne_eqb k 4 p, eq-eqb k 5 e, kind_line) refl
 
-is-other : (k : ℕ) (body : List ℕ) → (k ≡ 1 → ⊥) → (k ≡ 2 → ⊥) → (k ≡ 3 → ⊥) → (k ≡ 4 → ⊥) → (k ≡ 5 → ⊥) → kind_line k body ≡ refused_line (numbered 11 (k ∷ []))
+is_other : (k : ℕ) (body : List ℕ) → (k ≡ 1 → ⊥) → (k ≡ 2 → ⊥) → (k ≡ 3 → ⊥) → (k ≡ 4 → ⊥) → (k ≡ 5 → ⊥) → kind_line k body ≡ refused_line (numbered 11 (k ∷ []))
 unfolding kind_line
-is-other k body n m o p q = rw (ne_eqb k 1 n, ne_eqb k 2 m, ne_eqb k 3 o, ne_eqb k 4 p, ne_eqb k 5 q, kind_line) refl
+is_other k body n m o p q = rw (ne_eqb k 1 n, ne_eqb k 2 m, ne_eqb k 3 o, ne_eqb k 4 p, ne_eqb k 5 q, kind_line) refl
 
 -- the body is lent as the part of the input behind the kind byte
 module _ (s : List ℕ) {k : ℕ} (h : 0 < length s) (e : k ≡ get_or s 0 0) where
@@ -55,23 +55,23 @@ module _ (s : List ℕ) {k : ℕ} (h : 0 < length s) (e : k ≡ get_or s 0 0) wh
       let t = take_all (length s - 1) (drop 1 s) (omega (arith, length-drop 1 s)) in
       r ∙ ap f t ∙ sym q ∙ ap (λ (x : ℕ). kind_line x (drop 1 s)) e ∙ sym (parted s h)
 
-  pub as-base : {line : Line} → k ≡ 1 → line ≡ base_line (take (length s - 1) (drop 1 s)) → line ≡ line_of s
-  as-base {line} q r = by_kind line base_line (is-1 k (drop 1 s) q) r
+  pub as_base : {line : Line} → k ≡ 1 → line ≡ base_line (take (length s - 1) (drop 1 s)) → line ≡ line_of s
+  as_base {line} q r = by_kind line base_line (is_1 k (drop 1 s) q) r
 
-  pub as-scene : {line : Line} → (k ≡ 1 → ⊥) → k ≡ 2 → line ≡ scene_line (take (length s - 1) (drop 1 s)) → line ≡ line_of s
-  as-scene {line} n q r = by_kind line scene_line (is-2 k (drop 1 s) n q) r
+  pub as_scene : {line : Line} → (k ≡ 1 → ⊥) → k ≡ 2 → line ≡ scene_line (take (length s - 1) (drop 1 s)) → line ≡ line_of s
+  as_scene {line} n q r = by_kind line scene_line (is_2 k (drop 1 s) n q) r
 
-  pub as-text-label : {line : Line} → (k ≡ 1 → ⊥) → (k ≡ 2 → ⊥) → k ≡ 3 → line ≡ text_label_line (take (length s - 1) (drop 1 s)) → line ≡ line_of s
-  as-text-label {line} n m q r = by_kind line text_label_line (is-3 k (drop 1 s) n m q) r
+  pub as_text_label : {line : Line} → (k ≡ 1 → ⊥) → (k ≡ 2 → ⊥) → k ≡ 3 → line ≡ text_label_line (take (length s - 1) (drop 1 s)) → line ≡ line_of s
+  as_text_label {line} n m q r = by_kind line text_label_line (is_3 k (drop 1 s) n m q) r
 
-  pub as-multi-stream : {line : Line} → (k ≡ 1 → ⊥) → (k ≡ 2 → ⊥) → (k ≡ 3 → ⊥) → k ≡ 4 → line ≡ multi_stream_line (take (length s - 1) (drop 1 s)) → line ≡ line_of s
-  as-multi-stream {line} n m o q r = by_kind line multi_stream_line (is-4 k (drop 1 s) n m o q) r
+  pub as_multi_stream : {line : Line} → (k ≡ 1 → ⊥) → (k ≡ 2 → ⊥) → (k ≡ 3 → ⊥) → k ≡ 4 → line ≡ multi_stream_line (take (length s - 1) (drop 1 s)) → line ≡ line_of s
+  as_multi_stream {line} n m o q r = by_kind line multi_stream_line (is_4 k (drop 1 s) n m o q) r
 
-  pub as-drc-loudness : {line : Line} → (k ≡ 1 → ⊥) → (k ≡ 2 → ⊥) → (k ≡ 3 → ⊥) → (k ≡ 4 → ⊥) → k ≡ 5 → line ≡ drc_loudness_line (take (length s - 1) (drop 1 s)) → line ≡ line_of s
-  as-drc-loudness {line} n m o p q r = by_kind line drc_loudness_line (is-5 k (drop 1 s) n m o p q) r
+  pub as_drc_loudness : {line : Line} → (k ≡ 1 → ⊥) → (k ≡ 2 → ⊥) → (k ≡ 3 → ⊥) → (k ≡ 4 → ⊥) → k ≡ 5 → line ≡ drc_loudness_line (take (length s - 1) (drop 1 s)) → line ≡ line_of s
+  as_drc_loudness {line} n m o p q r = by_kind line drc_loudness_line (is_5 k (drop 1 s) n m o p q) r
 
   pub unknown : {line : Line} → (k ≡ 1 → ⊥) → (k ≡ 2 → ⊥) → (k ≡ 3 → ⊥) → (k ≡ 4 → ⊥) → (k ≡ 5 → ⊥) → line ≡ refused_line (numbered 11 (k ∷ [])) → line ≡ line_of s
-  unknown {line} n m o p q r = by_kind line (λ body. refused_line (numbered 11 (k ∷ []))) (is-other k (drop 1 s) n m o p q) r
+  unknown {line} n m o p q r = by_kind line (λ body. refused_line (numbered 11 (k ∷ []))) (is_other k (drop 1 s) n m o p q) r
 
 -- ---- a body
 

@@ -45,7 +45,7 @@ multi_stream_line body = body_line MultiStream.kind body
 abbrev pub drc_loudness_line : List ℕ → Line
 drc_loudness_line body = body_line DrcLoudness.kind body
 
--- the five kinds: 1 base, 2 scene, 3 text label, 4 multi-stream, 5 DRC and loudness
+-- the five kinds: 1 base, 2 scene, 3 text label, 4 multi_stream, 5 DRC and loudness
 unfoldable pub kind_line : ℕ → List ℕ → Line
 kind_line k body = elim (eqb k 1) [
   | true ↦ base_line body

@@ -7,24 +7,24 @@ use Rattle.wire.specs.Lists.{each}
 use Rattle.wire.specs.Act.{Act, rows}
 use Rattle.wire.specs.Pen.{Quick, Ready, Filled}
 use Rattle.wire.specs.Spell.{PlainRows}
-use Rattle.wire.proofs.Writing.Passes.{Filling, fill_start, fill-row, fill-turn, fill_end}
-use Rattle.wire.proofs.Writing.Plain.{filled-long, Going, going_start, going-turn, going-odd, going_end}
+use Rattle.wire.proofs.Writing.Passes.{Filling, fill_start, fill_row_lem, fill_turn, fill_end}
+use Rattle.wire.proofs.Writing.Plain.{filled_long, Going, going_start, going_turn, going_odd, going_end}
 
 -- ---- the check pass: plain rows so far
 
-pub start-going : (f : ℕ → List Act) (most count : ℕ) → Going f most count (count - count) 0
-start-going f most count = let e : count - count ≡ 0 = omega arith in rw e (going_start f most count)
+pub start_going : (f : ℕ → List Act) (most count : ℕ) → Going f most count (count - count) 0
+start_going f most count = let e : count - count ≡ 0 = omega arith in rw e (going_start f most count)
 
 module _ {f : ℕ → List Act} {most count : ℕ} (left : ℕ) {bytes : ℕ} (v : Going f most count (count - left) bytes) where
   module _ (a : List Act) (e : a ≡ f (count - left)) {k : ℕ} (q : Quick a most k) where
-    pub turn-going : left ≤ count → 0 < left → 0 < k → Going f most count (count - (left - 1)) (bytes + k)
-    turn-going h p z = let n : count - (left - 1) ≡ count - left + 1 = omega arith in rw n (going-turn v (rw e at q) (omega arith) z)
+    pub turn_going : left ≤ count → 0 < left → 0 < k → Going f most count (count - (left - 1)) (bytes + k)
+    turn_going h p z = let n : count - (left - 1) ≡ count - left + 1 = omega arith in rw n (going_turn v (rw e at q) (omega arith) z)
 
-    pub odd-going : k ≡ 0 → PlainRows f most count (count - left) bytes
-    odd-going z = going-odd v (rw e at q) z
+    pub odd_going : k ≡ 0 → PlainRows f most count (count - left) bytes
+    odd_going z = going_odd v (rw e at q) z
 
-  pub end-going : left ≤ 0 → PlainRows f most count count bytes
-  end-going h = let e : count - left ≡ count = omega arith in going_end (rw e at v) (omega arith)
+  pub end_going : left ≤ 0 → PlainRows f most count count bytes
+  end_going h = let e : count - left ≡ count = omega arith in going_end (rw e at v) (omega arith)
 
 -- ---- the fill pass: rows that are left
 
@@ -48,14 +48,14 @@ module _ (f : ℕ → List Act) (first count : ℕ) where
 
   module _ (left : ℕ) {n₀ n : ℕ} {l o : List ℕ} (w : Left left n₀ l n o) where
     module _ (p : 0 < left) (a : List Act) (e : a ≡ f (first + (count - left))) where
-      pub turn-ready : Ready a n o
-      turn-ready = rw e (fill-row _ _ w (rows_more f (first + (count - left)) left p))
+      pub turn_ready : Ready a n o
+      turn_ready = rw e (fill_row_lem _ _ w (rows_more f (first + (count - left)) left p))
 
-      pub turn-left : left ≤ count → {r : ℕ} {o' : List ℕ} → Filled a n o r o' → Left (left - 1) n₀ l r o'
-      turn-left h {r} {o'} q =
+      pub turn_left : left ≤ count → {r : ℕ} {o' : List ℕ} → Filled a n o r o' → Left (left - 1) n₀ l r o'
+      turn_left h {r} {o'} q =
           let q' : Filled (f (first + (count - left))) n o r o' = rw e at q in
           let k : first + (count - (left - 1)) ≡ first + (count - left) + 1 = omega arith in
-          rw k (fill-turn w (rows_more f (first + (count - left)) left p) (filled-long q') q')
+          rw k (fill_turn w (rows_more f (first + (count - left)) left p) (filled_long q') q')
 
-    pub end-left : left ≤ 0 → Filled (rows f first count) n₀ l n o
-    end-left h = fill_end w (rows_none f (first + (count - left)) left h)
+    pub end_left : left ≤ 0 → Filled (rows f first count) n₀ l n o
+    end_left h = fill_end w (rows_none f (first + (count - left)) left h)

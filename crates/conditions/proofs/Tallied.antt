@@ -12,9 +12,9 @@ use Rattle.wire.specs.Layout.{Cell, column, idle, Columns, shown, cells, tally}
 use Rattle.conditions.specs.Layout.{condition}
 use Rattle.conditions.specs.Rows.{flag_cells, gain_cells, position_cells}
 
-pub condition-tally : (g : Columns) → tally (condition ∷ []) g ≡ pick (eqb (g 1) 1) (zeros 4 (g 2) + pick (eqb (g 7) 1) (zeros 2 (g 9) + zeros 4 (g 11)) 0) 0
+pub condition_tally : (g : Columns) → tally (condition ∷ []) g ≡ pick (eqb (g 1) 1) (zeros 4 (g 2) + pick (eqb (g 7) 1) (zeros 2 (g 9) + zeros 4 (g 11)) 0) 0
 unfolding tally cells shown condition sum flatten
-condition-tally g = simp (zero-add) (go (eqb (g 1) 1) (eqb (g 5) 1) (eqb (g 7) 1))
+condition_tally g = simp (zero-add) (go (eqb (g 1) 1) (eqb (g 5) 1) (eqb (g 7) 1))
   where
     go : (x y z : Bool)
         → sum (λ (c : Cell). idle c (g (column c))) (pick x (flag_cells ++ (pick y (flatten gain_cells) [] ++ (pick z (flatten position_cells) [] ++ []))) [] ++ []) ≡ pick x (zeros 4 (g 2) + pick z (zeros 2 (g 9) + zeros 4 (g 11)) 0) 0

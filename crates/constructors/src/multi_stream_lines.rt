@@ -1,4 +1,4 @@
-// The multi-stream body: its top record, the main-stream part and the groups.
+// The multi_stream body: its top record, the main-stream part and the groups.
 use super::show;
 use multi_stream::rows::{
     AuxiliaryLocation, MainStream, MpegH3dAudioMultiStream, MultiStreamGroup, MultiStreamMain,

@@ -16,9 +16,9 @@ use Rattle.wire.specs.Straight.{ends, ones, puts_at, took, spans}
 use Rattle.wire.specs.Spell.{Spelt, FitsAll, ChecksAll, ReadyAll, FillsAll}
 use Rattle.wire.specs.declared.pen.Pen.{Pen}
 use Rattle.wire.proofs.Reading.Loops.{first_done}
-use Rattle.wire.proofs.Layouts.Straight.{Whole, flat-done}
+use Rattle.wire.proofs.Layouts.Straight.{Whole, flat_done}
 use Rattle.wire.proofs.Layouts.Families.{lines_end}
-use Rattle.wire.proofs.Writing.Plain.{line_acts, line_plain, line-odd, line-checked, line-ready, line-filled}
+use Rattle.wire.proofs.Writing.Plain.{line_acts, line_plain, line_odd, line_checked, line_ready, line_filled}
 use Rattle.downmixes.specs.Layout.{downmix}
 use Rattle.downmixes.specs.declared.rows.DownmixDefinition.{DownmixDefinition}
 use Rattle.downmixes.specs.Rows.{downmix_row, downmix_of, downmix_from}
@@ -26,49 +26,49 @@ use Rattle.downmixes.specs.Write.{downmix_fields, row_acts}
 
 -- ---- read
 
-downmix-two : (s : List ℕ) (at : ℕ) → spans downmix blank s at ≡ ones 2
+downmix_two : (s : List ℕ) (at : ℕ) → spans downmix blank s at ≡ ones 2
 unfolding downmix took ones
-downmix-two s at = refl
+downmix_two s at = refl
 
-pub downmixes-end : (s : List ℕ) (at count : ℕ) → ends (ones (2 * count)) s at ≡ end_of (run (many count (flat 4 downmix)) s at)
-downmixes-end s at count = sym (lines_end 4 downmix 2 downmix-two s count at)
+pub downmixes_end : (s : List ℕ) (at count : ℕ) → ends (ones (2 * count)) s at ≡ end_of (run (many count (flat 4 downmix)) s at)
+downmixes_end s at count = sym (lines_end 4 downmix 2 downmix_two s count at)
 
 -- a row that was measured: its bytes are there, and what they give
 module _ (s : List ℕ) (left pos : ℕ) (h : pos ≤ length s) (l : 0 < left) (q : is_done (run (many left (flat 4 downmix)) s pos) ≡ true) where
   whole : Whole 4 downmix s pos
-  whole = flat-done 4 downmix s pos h (first_done (flat 4 downmix) s left pos l q)
+  whole = flat_done 4 downmix s pos h (first_done (flat 4 downmix) s left pos l q)
 
-  pub downmix-there : pos + 2 ≤ length s
+  pub downmix_there : pos + 2 ≤ length s
   unfolding downmix took total
-  downmix-there = whole.there
+  downmix_there = whole.there
 
-  pub downmix-run : done (downmix_row (downmix_from (get_or s pos 0) (get_or s (pos + 1) 0))) (pos + 2) ≡ run (flat 4 downmix) s pos
+  pub downmix_run : done (downmix_row (downmix_from (get_or s pos 0) (get_or s (pos + 1) 0))) (pos + 2) ≡ run (flat 4 downmix) s pos
   unfolding downmix took puts_at put split total each
-  downmix-run = sym whole.is
+  downmix_run = sym whole.is
 
-pub downmix-tally : (id kind : ℕ) → tally (downmix ∷ []) (of (downmix_row (downmix_from id kind))) ≡ zeros 1 (part 7 1 id)
+pub downmix_tally : (id kind : ℕ) → tally (downmix ∷ []) (of (downmix_row (downmix_from id kind))) ≡ zeros 1 (part 7 1 id)
 unfolding tally cells shown downmix sum flatten
-downmix-tally id kind = omega arith
+downmix_tally id kind = omega arith
 
 -- ---- written
 
 module _ (t : List ℕ) (i : ℕ) {d : DownmixDefinition} (e : d ≡ downmix_of t (i * 4)) where
-  acts-so : row_acts t i ≡ line_acts (downmix_fields d)
+  acts_so : row_acts t i ≡ line_acts (downmix_fields d)
   unfolding downmix writes shown cells matches matched every flatten
-  acts-so = rw (e, add-zero)
+  acts_so = rw (e, add-zero)
 
   module _ {vs : List ℕ} (s : Spelt (downmix_fields d) vs) where
     pub row_plain : {b : Bool} → FitsAll vs b → b ≡ true → Quick (row_acts t i) 2 2
-    row_plain f z = line_plain (row_acts t i) (downmix_fields d) acts-so (sym (f.of (downmix_fields d) s) ∙ z) (omega arith)
+    row_plain f z = line_plain (row_acts t i) (downmix_fields d) acts_so (sym (f.of (downmix_fields d) s) ∙ z) (omega arith)
 
-    pub row-odd : {b : Bool} → FitsAll vs b → b ≡ false → Quick (row_acts t i) 2 0
-    row-odd f z = line-odd (row_acts t i) (downmix_fields d) acts-so (sym (f.of (downmix_fields d) s) ∙ z)
+    pub row_odd : {b : Bool} → FitsAll vs b → b ≡ false → Quick (row_acts t i) 2 0
+    row_odd f z = line_odd (row_acts t i) (downmix_fields d) acts_so (sym (f.of (downmix_fields d) s) ∙ z)
 
-    pub row-checked : {p r : Pen} → ChecksAll true vs p r → Checked (row_acts t i) 2 p r
-    row-checked w = line-checked (row_acts t i) (downmix_fields d) acts-so s w
+    pub row_checked : {p r : Pen} → ChecksAll true vs p r → Checked (row_acts t i) 2 p r
+    row_checked w = line_checked (row_acts t i) (downmix_fields d) acts_so s w
 
-    pub row-ready : {n : ℕ} {l : List ℕ} → Ready (row_acts t i) n l → ReadyAll true vs n l
-    row-ready r = line-ready (row_acts t i) (downmix_fields d) acts-so s r
+    pub row_ready : {n : ℕ} {l : List ℕ} → Ready (row_acts t i) n l → ReadyAll true vs n l
+    row_ready r = line_ready (row_acts t i) (downmix_fields d) acts_so s r
 
-    pub row-filled : {n r : ℕ} {l o : List ℕ} → Ready (row_acts t i) n l → FillsAll true vs n l r o → Filled (row_acts t i) n l r o
-    row-filled w x = line-filled (row_acts t i) (downmix_fields d) acts-so s w x
+    pub row_filled : {n r : ℕ} {l o : List ℕ} → Ready (row_acts t i) n l → FillsAll true vs n l r o → Filled (row_acts t i) n l r o
+    row_filled w x = line_filled (row_acts t i) (downmix_fields d) acts_so s w x

@@ -2,7 +2,7 @@
 use mathlib.Core.Path.{◌≡◌, refl, ap}
 use Rattle.frame.specs.Entry as E
 use Rattle.frame.specs.Claims.{Claims, Fixed}
-use Rattle.frame.proofs.Numbers.{refused-back, answer_by, fixes}
+use Rattle.frame.proofs.Numbers.{refused_back, answer_by, fixes}
 use Rattle.frame.proofs.Tables.{rows_at}
 use Rattle.drc_kind.specs.Kind.{kind}
 use Rattle.drc_kind.proofs.Claims as K
@@ -19,16 +19,16 @@ claims = K.claims
 
 read_back : (r : Reading) → answer_by R.Done R.Refused (read r) ≡ r
 read_back (R.Done m) = refl
-read_back (R.Refused x) = ap R.Refused (refused-back x)
+read_back (R.Refused x) = ap R.Refused (refused_back x)
 
-measure-of : E.Sizes → Measured
-measure-of z =
+measure_of : E.Sizes → Measured
+measure_of z =
     M.Done (record { instructions = rows_at 0 z.tables; additional = rows_at 1 z.tables; loudness = rows_at 2 z.tables; downmixes = rows_at 3 z.tables; k = z.before })
 
-measured-back : (r : Measured) → answer_by measure-of M.Refused (measured r) ≡ r
-unfolding measure-of
-measured-back (M.Done s) = refl
-measured-back (M.Refused x) = ap M.Refused (refused-back x)
+measured_back : (r : Measured) → answer_by measure_of M.Refused (measured r) ≡ r
+unfolding measure_of
+measured_back (M.Done s) = refl
+measured_back (M.Refused x) = ap M.Refused (refused_back x)
 
 pub fixed : Fixed kind read measured
-fixed = fixes claims read R.Done R.Refused read_back measured measure-of M.Refused measured-back
+fixed = fixes claims read R.Done R.Refused read_back measured measure_of M.Refused measured_back

@@ -49,15 +49,15 @@ pub record Begun (s : List ℕ) (n : ℕ) : Type 0 where
 
 -- each list is read where the one before it ends
 pub record Found (s : List ℕ) (p : Places) : Type 0 where
-  pub in-instructions : List Family
-  pub in-entries : List Borne
-  pub in-downmixes : List (List ℕ)
+  pub in_instructions : List Family
+  pub in_entries : List Borne
+  pub in_downmixes : List (List ℕ)
   pub head : rows_at s ≤ length s
-  pub instructions-read : run (many (info_at s).part.drc_instructions instructions) s (rows_at s) ≡ done in-instructions p.loudness
-  pub entries-read : run (many (info_at s).part.loudness_infos entries) s p.loudness ≡ done in-entries p.downmixes
-  pub downmixes-read : run (many (info_at s).part.downmix_definitions (flat 4 downmix)) s p.downmixes ≡ done in-downmixes p.k
-  pub additional-are : p.additional ≡ length (kids in-instructions)
-  pub additional-few : p.additional ≤ 441
+  pub instructions_read : run (many (info_at s).part.drc_instructions instructions) s (rows_at s) ≡ done in_instructions p.loudness
+  pub entries_read : run (many (info_at s).part.loudness_infos entries) s p.loudness ≡ done in_entries p.downmixes
+  pub downmixes_read : run (many (info_at s).part.downmix_definitions (flat 4 downmix)) s p.downmixes ≡ done in_downmixes p.k
+  pub additional_are : p.additional ≡ length (kids in_instructions)
+  pub additional_few : p.additional ≤ 441
 
 -- the tree of what was found: its columns, and the rows of the lists
 abbrev pub top_of : List ℕ → List ℕ
@@ -69,7 +69,7 @@ abbrev pub tree_of : List ℕ → List Family → List Borne → List (List ℕ)
 tree_of s is ls ds = tree_is (top_of s) is ls ds
 
 abbrev pub tree : {s : List ℕ} {p : Places} → Found s p → Tree
-tree {s} f = tree_of s f.in-instructions f.in-entries f.in-downmixes
+tree {s} f = tree_of s f.in_instructions f.in_entries f.in_downmixes
 
 abbrev pub walks : List ℕ → Walk → Type 0
 walks s (W.Done p) = Found s p

@@ -14,9 +14,9 @@ use Rattle.wire.specs.Pen.{clean, Ready}
 use Rattle.wire.specs.Spell.{fit_all}
 use Rattle.wire.specs.declared.pen.Fault.TheVariants as F
 use Rattle.wire.specs.Layout.{cells, matches, matched, shown, writes, every, has}
-use Rattle.wire.proofs.Fields.{fits-cons}
-use Rattle.wire.proofs.Writing.Acts.{and_both, clean-both}
-use Rattle.wire.proofs.Writing.Parts.{part-begins, within-there, within-absent, rows-there}
+use Rattle.wire.proofs.Fields.{fits_cons}
+use Rattle.wire.proofs.Writing.Acts.{and_both, clean_both}
+use Rattle.wire.proofs.Writing.Parts.{part_begins, within_there, within_absent, rows_there}
 use Rattle.wire.proofs.Writing.Passes.{Filling}
 use Rattle.wire.proofs.Writing.Plain.{clean_all}
 use Rattle.frame.specs.Kind.{Lent}
@@ -31,9 +31,9 @@ use Rattle.drc_kind.specs.Kind.{kind}
 use Rattle.drc_writing.specs.Write.{head_fields, count_fields, instruction_acts, entry_acts, downmix_acts, all_within, lists_acts, info_acts, drc_acts, Listed}
 
 -- the actions of the kind, list after list
-pub drc-acts : (m : MpegH3dAudioDrcLoudness) (lent : Lent) (store : List ℕ) → kind.acts m lent store ≡ drc_acts m lent store
+pub drc_acts_lem : (m : MpegH3dAudioDrcLoudness) (lent : Lent) (store : List ℕ) → kind.acts m lent store ≡ drc_acts m lent store
 unfolding kind layouts inside pieced beyond drc_acts info_acts all_within within head cells matches matched shown writes every has flatten rows each
-drc-acts m lent store = go m m.info.present
+drc_acts_lem m lent store = go m m.info.present
   where
     with : MpegH3dAudioDrcLoudness → Bool → MpegH3dAudioDrcLoudness
     with m a = record { reserved = m.reserved; info = record { present = a; part = m.info.part }; trailing = m.trailing }
@@ -64,17 +64,17 @@ module _ (i : Info) (a b c : List ℕ) where
   pub all_there : {x y z : Bool} → i.present ≡ true → x ≡ leb i.part.drc_instructions (length a / 24) → y ≡ leb i.part.loudness_infos (length b / 7)
       → z ≡ leb i.part.downmix_definitions (length c / 4) → x && (y && z) ≡ all_within i a b c
   unfolding all_within
-  all_there p e f g = λ k. within-there _ _ 24 a p e k && (within-there _ _ 7 b p f k && within-there _ _ 4 c p g k)
+  all_there p e f g = λ k. within_there _ _ 24 a p e k && (within_there _ _ 7 b p f k && within_there _ _ 4 c p g k)
 
-  pub none-there : i.present ≡ false → true ≡ all_within i a b c
+  pub none_there : i.present ≡ false → true ≡ all_within i a b c
   unfolding all_within
-  none-there p = λ k. within-absent _ i.part.drc_instructions 24 a p k && (within-absent _ i.part.loudness_infos 7 b p k && within-absent _ i.part.downmix_definitions 4 c p k)
+  none_there p = λ k. within_absent _ i.part.drc_instructions 24 a p k && (within_absent _ i.part.loudness_infos 7 b p k && within_absent _ i.part.downmix_definitions 4 c p k)
 
 -- ---- the counts are small, since their bytes fit
 
 -- the lower field of a byte that fits
 few : (r v w x : ℕ) → fit (field r v ∷ field w x ∷ []) ≡ true → x < 2 ^ w
-few r v w x f = (fits-cons w x [] (fits-cons r v _ f).1).0
+few r v w x f = (fits_cons w x [] (fits_cons r v _ f).1).0
 
 module _ (i : Info) (a b c : List ℕ) where
   pub listed : i.present ≡ true → all_within i a b c ≡ true → clean (map byte (count_fields i.part)) ≡ true → Listed i.part a b c
@@ -89,43 +89,43 @@ module _ (i : Info) (a b c : List ℕ) where
       let (v, t) = and_both (fit (field 2 d.reserved_loudness ∷ field 6 d.loudness_infos ∷ [])) _ s in
       let (w, _) = and_both (fit (field 3 d.reserved_downmix ∷ field 5 d.downmix_definitions ∷ [])) _ t in
       record {
-        instructions-within = x;
-        entries-within = y;
-        downmixes-within = z;
-        instructions-few = few 2 _ 6 _ u;
-        entries-few = few 2 _ 6 _ v;
-        downmixes-few = few 3 _ 5 _ w;
+        instructions_within = x;
+        entries_within = y;
+        downmixes_within = z;
+        instructions_few = few 2 _ 6 _ u;
+        entries_few = few 2 _ 6 _ v;
+        downmixes_few = few 3 _ 5 _ w;
       }
 
 -- a table that has the rows is long enough for them
 module _ {i : DrcLoudnessInfo} {a b c : List ℕ} (l : Listed i a b c) where
-  pub instructions-stand : i.drc_instructions * 24 ≤ length a
+  pub instructions_stand : i.drc_instructions * 24 ≤ length a
   unfolding within
-  instructions-stand = rows-there true i.drc_instructions 24 a (omega arith) l.instructions-within refl
+  instructions_stand = rows_there true i.drc_instructions 24 a (omega arith) l.instructions_within refl
 
-  pub entries-stand : i.loudness_infos * 7 ≤ length b
+  pub entries_stand : i.loudness_infos * 7 ≤ length b
   unfolding within
-  entries-stand = rows-there true i.loudness_infos 7 b (omega arith) l.entries-within refl
+  entries_stand = rows_there true i.loudness_infos 7 b (omega arith) l.entries_within refl
 
-  pub downmixes-stand : i.downmix_definitions * 4 ≤ length c
+  pub downmixes_stand : i.downmix_definitions * 4 ≤ length c
   unfolding within
-  downmixes-stand = rows-there true i.downmix_definitions 4 c (omega arith) l.downmixes-within refl
+  downmixes_stand = rows_there true i.downmix_definitions 4 c (omega arith) l.downmixes_within refl
 
 -- ---- the info in the fill pass
 
 module _ (i : Info) (lent : Lent) (store : List ℕ) {n : ℕ} {l : List ℕ} where
-  pub info-begins : i.present ≡ true → Ready (info_acts i lent store) n l
+  pub info_begins : i.present ≡ true → Ready (info_acts i lent store) n l
       → Filling (info_acts i lent store) (when true (map byte (count_fields i.part)) ++ lists_acts i.part lent store) n l n l
   unfolding info_acts
-  info-begins t r = part-begins i.present (map byte (count_fields i.part)) (lists_acts i.part lent store) t r
+  info_begins t r = part_begins i.present (map byte (count_fields i.part)) (lists_acts i.part lent store) t r
 
   -- the bytes of the counts fit
-  pub info-clean : i.present ≡ true → Ready (info_acts i lent store) n l → clean (map byte (count_fields i.part)) ≡ true
-  info-clean t r = (clean-both (map byte (count_fields i.part)) (lists_acts i.part lent store) (info-begins t r).ready.sound).0
+  pub info_clean : i.present ≡ true → Ready (info_acts i lent store) n l → clean (map byte (count_fields i.part)) ≡ true
+  info_clean t r = (clean_both (map byte (count_fields i.part)) (lists_acts i.part lent store) (info_begins t r).ready.sound).0
 
 -- without info the actions are those of the head alone
-pub bare-acts : (m : MpegH3dAudioDrcLoudness) (lent : Lent) (store : List ℕ) → not m.info.present ≡ true → drc_acts m lent store ≡ head_acts (head_fields m)
+pub bare_acts : (m : MpegH3dAudioDrcLoudness) (lent : Lent) (store : List ℕ) → not m.info.present ≡ true → drc_acts m lent store ≡ head_acts (head_fields m)
 unfolding drc_acts info_acts all_within
-bare-acts m lent store e =
+bare_acts m lent store e =
     let i = m.info.part in
-    rw (not-true m.info.present e, sym (within-absent false i.drc_instructions 24 (table 0 lent) refl), sym (within-absent false i.loudness_infos 7 (table 2 lent) refl), sym (within-absent false i.downmix_definitions 4 (table 3 lent) refl))
+    rw (not-true m.info.present e, sym (within_absent false i.drc_instructions 24 (table 0 lent) refl), sym (within_absent false i.loudness_infos 7 (table 2 lent) refl), sym (within_absent false i.downmix_definitions 4 (table 3 lent) refl))

@@ -62,9 +62,9 @@ drc_acts m lent store =
 
 -- counts that their tables have rows for, and that fit their bytes
 pub record Listed (i : DrcLoudnessInfo) (instructions loudness downmixes : List ℕ) : Type 0 where
-  pub instructions-within : leb i.drc_instructions (length instructions / 24) ≡ true
-  pub entries-within : leb i.loudness_infos (length loudness / 7) ≡ true
-  pub downmixes-within : leb i.downmix_definitions (length downmixes / 4) ≡ true
-  pub instructions-few : i.drc_instructions < 64
-  pub entries-few : i.loudness_infos < 64
-  pub downmixes-few : i.downmix_definitions < 32
+  pub instructions_within : leb i.drc_instructions (length instructions / 24) ≡ true
+  pub entries_within : leb i.loudness_infos (length loudness / 7) ≡ true
+  pub downmixes_within : leb i.downmix_definitions (length downmixes / 4) ≡ true
+  pub instructions_few : i.drc_instructions < 64
+  pub entries_few : i.loudness_infos < 64
+  pub downmixes_few : i.downmix_definitions < 32

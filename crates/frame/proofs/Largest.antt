@@ -9,8 +9,8 @@ use lib.Dec.{leb}
 use borrow.Author.Tests.{leb-true}
 use Rattle.wire.specs.Act.{copy, image, settle}
 use Rattle.wire.specs.Pen.{clean, bytes}
-use Rattle.wire.proofs.Writing.Acts.{and_both, clean-both, bytes-append, settled}
-use Rattle.wire.proofs.Writing.Passes.{slice-long}
+use Rattle.wire.proofs.Writing.Acts.{and_both, clean_both, bytes_append, settled}
+use Rattle.wire.proofs.Writing.Passes.{slice_long}
 use Rattle.frame.specs.declared.Written.TheVariants as W
 use Rattle.frame.specs.Kind.{Kind, Lent}
 use Rattle.frame.specs.Numbers.{refuses}
@@ -19,20 +19,20 @@ use Rattle.frame.proofs.Output.{Met, met}
 
 module _ {Tree Top Value : Type 0} (K : Kind Tree Top Value) (top : Top) (lent : Lent) (store : List ℕ) (most : ℕ) (few : clean (K.acts top lent store) ≡ true → length (bytes (K.acts top lent store)) ≤ most) (short : (K.trailing top).length < 65536) where
   -- whatever the tables and the store
-  pub image-most : (b : List ℕ) → settle (all_acts K top lent store) 0 ≡ image b → length b ≤ most + 65535
+  pub image_most : (b : List ℕ) → settle (all_acts K top lent store) 0 ≡ image b → length b ≤ most + 65535
   unfolding all_acts clean bytes
-  image-most b e =
+  image_most b e =
       let p = K.trailing top in
       let q = K.acts top lent store in
       let s = settled (all_acts K top lent store) 0 e in
       let (r, c) = and_both (leb (p.offset + p.length) (length store)) _ s.sound in
-      let (a, d) = clean-both q (copy (trail K top store) ∷ []) c in
+      let (a, d) = clean_both q (copy (trail K top store) ∷ []) c in
       omega (
         arith,
         few a,
         short,
-        ap length s.is ∙ ap length (bytes-append q (copy (trail K top store) ∷ [])) ∙ length-append (bytes q) (trail K top store ++ []),
-        ap length (append-nil (trail K top store)) ∙ slice-long p.offset p.length store (leb-true _ _ r),
+        ap length s.is ∙ ap length (bytes_append q (copy (trail K top store) ∷ [])) ∙ length-append (bytes q) (trail K top store ++ []),
+        ap length (append-nil (trail K top store)) ∙ slice_long p.offset p.length store (leb-true _ _ r),
       )
 
   -- so when writing answers 10, the length is at most that; `Writes` is the promise of `write`
@@ -40,4 +40,4 @@ module _ {Tree Top Value : Type 0} (K : Kind Tree Top Value) (top : Top) (lent :
   unfolding writing Met
   longest out after n w =
       let (b, e, l, o, k) = met out (settle (all_acts K top lent store) 0) (W.TooLong n) after (sym w.promised) in
-      subst (λ (k : ℕ). k ≤ most + 65535) l (image-most b e)
+      subst (λ (k : ℕ). k ≤ most + 65535) l (image_most b e)

@@ -45,11 +45,11 @@ module _ {Tree Top Value : Type 0} (K : Kind Tree Top Value) where
   pub record Lawful : Type 1 where
     -- the trailing run of a record
     pub run_of : (t : Tree) (r : Payload) → K.trailing (K.top t r) ≡ r
-    pub run-set : (t : Tree) (r q : Payload) → K.retrail (K.top t r) q ≡ K.top t q
+    pub run_set : (t : Tree) (r q : Payload) → K.retrail (K.top t r) q ≡ K.top t q
     -- the format, its program and its payloads
     pub format : Codec Tree Value
     pub reads : format.read ≡ K.program
-    pub spans-so : (t : Tree) → format.spans t ≡ K.payloads t
+    pub spans_so : (t : Tree) → format.spans t ≡ K.payloads t
     -- the tables: all are there, rows are as wide as they should be, and at most as many as the bytes read
     pub all_there : (t : Tree) → length (K.tables t) ≡ K.lends
     pub shaped : (t : Tree) (bs : List ℕ) → Takes K.program 0 t bs → Every Shaped (K.tables t)
@@ -79,18 +79,18 @@ module _ {Tree Top Value : Type 0} (K : Kind Tree Top Value) where
     pub after' : Lent
     pub reads : reading K one lent ≡ leaves (accepted top) after
     pub reads' : reading K other lent ≡ leaves (accepted top') after'
-    pub tops-differ : top ≡ top' → ⊥
+    pub tops_differ : top ≡ top' → ⊥
     pub size : Sizes
     pub size' : Sizes
     pub measures : measuring K one ≡ accepted size
     pub measures' : measuring K other ≡ accepted size'
-    pub sizes-differ : size ≡ size' → ⊥
+    pub sizes_differ : size ≡ size' → ⊥
     pub count : ℕ
     pub count' : ℕ
     pub tallies : tallying K one ≡ accepted count
     pub tallies' : tallying K other ≡ accepted count'
-    pub counts-differ : count ≡ count' → ⊥
+    pub counts_differ : count ≡ count' → ⊥
     pub bytes : Every Byte one
     pub blank : List ℕ
     pub as_long : length blank ≡ length one
-    pub not-blank : one ≡ blank → ⊥
+    pub not_blank : one ≡ blank → ⊥

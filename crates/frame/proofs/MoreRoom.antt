@@ -12,57 +12,57 @@ use lib.Dec.{leb}
 use borrow.Author.Tests.{leb-true, leb-false, le-leb, lt-leb}
 use Rattle.wire.specs.Lists.{Every, all_cons}
 use Rattle.wire.specs.Prog.{done, run}
-use Rattle.wire.proofs.Reading.Takes.{run-takes}
-use Rattle.wire.proofs.Lists.{every-head, every-tail}
+use Rattle.wire.proofs.Reading.Takes.{run_takes}
+use Rattle.wire.proofs.Lists.{every_head, every_tail}
 use Rattle.frame.specs.Numbers.{accepted, number}
 use Rattle.frame.specs.Kind.{Kind, Lent, Rows}
 use Rattle.frame.specs.Entry.{no_room, Outcome, leaves, onto, Sizes, Need, needs, first_table, other_tables, room, lacking, filled, sizes, reading, measuring}
-use Rattle.frame.specs.Claims.{Lowest, this, later, Kept, all-kept, kept-behind, Roomier, none_lent, one_more, MoreRoomGiven}
-use Rattle.frame.proofs.Judged.{not-refused, short-room, long-room, same-room, answers, View, is_read, lacks, is-short, is-long, view, reads_so, lacks-so, refused-so, ran-well, was, measured}
+use Rattle.frame.specs.Claims.{Lowest, this, later, Kept, all_kept, kept_behind, Roomier, none_lent, one_more, MoreRoomGiven}
+use Rattle.frame.proofs.Judged.{not_refused, short_room, long_room, same_room, answers, View, is_read, lacks, is_short, is_long, view, reads_so, lacks_so, refused_so, ran_well, was, measured}
 use Rattle.frame.proofs.Lawful.{Shaped, Lawful}
-use Rattle.frame.proofs.More.{judge-long}
+use Rattle.frame.proofs.More.{judge_long}
 
 div_mono : (a b c : ℕ) → a ≤ b → a / c ≤ b / c
 div_mono a b zero h = rw (div-zero a, div-zero b) (le_refl 0)
 div_mono a b (suc c) h = let p : 0 < suc c = omega arith in
     (le-div_iff_mul-le p).1 (le_trans ((le-div_iff_mul-le p).0 (le_refl (a / suc c))) h)
 
-room-mono : (n : Need) (lent more : Lent) → Roomier lent more → room n lent ≤ room n more
+room_mono : (n : Need) (lent more : Lent) → Roomier lent more → room n lent ≤ room n more
 unfolding room first_table
-room-mono n [] [] none_lent = le_refl _
-room-mono n (t ∷ ts) (u ∷ us) (one_more h r) = div_mono (length t) (length u) n.columns h
-room-mono n [] (u ∷ us) r = elim r [ ]
-room-mono n (t ∷ ts) [] r = elim r [ ]
+room_mono n [] [] none_lent = le_refl _
+room_mono n (t ∷ ts) (u ∷ us) (one_more h r) = div_mono (length t) (length u) n.columns h
+room_mono n [] (u ∷ us) r = elim r [ ]
+room_mono n (t ∷ ts) [] r = elim r [ ]
 
-roomier-others : (lent more : Lent) → Roomier lent more → Roomier (other_tables lent) (other_tables more)
+roomier_others : (lent more : Lent) → Roomier lent more → Roomier (other_tables lent) (other_tables more)
 unfolding other_tables
-roomier-others [] [] none_lent = none_lent
-roomier-others (t ∷ ts) (u ∷ us) (one_more h r) = r
-roomier-others [] (u ∷ us) r = elim r [ ]
-roomier-others (t ∷ ts) [] r = elim r [ ]
+roomier_others [] [] none_lent = none_lent
+roomier_others (t ∷ ts) (u ∷ us) (one_more h r) = r
+roomier_others [] (u ∷ us) r = elim r [ ]
+roomier_others (t ∷ ts) [] r = elim r [ ]
 
 -- what a test of the room says, as a derivation
 pub data Fit : List Need → Lent → Type 0 where
-  fit-nil : {lent : Lent} → Fit [] lent
-  fit-cons : {n : Need} {ns : List Need} {lent : Lent} → n.rows ≤ room n lent → Fit ns (other_tables lent) → Fit (n ∷ ns) lent
+  fit_nil : {lent : Lent} → Fit [] lent
+  fit_cons : {n : Need} {ns : List Need} {lent : Lent} → n.rows ≤ room n lent → Fit ns (other_tables lent) → Fit (n ∷ ns) lent
 
-fit-more : {ns : List Need} {lent : Lent} (more : Lent) → Roomier lent more → Fit ns lent → Fit ns more
-fit-more more r fit-nil = fit-nil
-fit-more {lent = lent} more r (fit-cons {n = n} h f) = fit-cons (le_trans h (room-mono n lent more r)) (fit-more (other_tables more) (roomier-others lent more r) f)
+fit_more : {ns : List Need} {lent : Lent} (more : Lent) → Roomier lent more → Fit ns lent → Fit ns more
+fit_more more r fit_nil = fit_nil
+fit_more {lent = lent} more r (fit_cons {n = n} h f) = fit_cons (le_trans h (room_mono n lent more r)) (fit_more (other_tables more) (roomier_others lent more r) f)
 
 fit_none : {ns : List Need} {lent : Lent} → Fit ns lent → lacking ns lent ≡ none
 unfolding lacking
-fit_none fit-nil = refl
-fit_none (fit-cons h f) = rw (le-leb _ _ h, lacking) (fit_none f)
+fit_none fit_nil = refl
+fit_none (fit_cons h f) = rw (le-leb _ _ h, lacking) (fit_none f)
 
-pub none-fit : (ns : List Need) (lent : Lent) → lacking ns lent ≡ none → Fit ns lent
+pub none_fit : (ns : List Need) (lent : Lent) → lacking ns lent ≡ none → Fit ns lent
 unfolding lacking
-none-fit [] lent e = fit-nil
-none-fit (n ∷ ns) lent e = go (leb n.rows (room n lent)) refl e (none-fit ns (other_tables lent))
+none_fit [] lent e = fit_nil
+none_fit (n ∷ ns) lent e = go (leb n.rows (room n lent)) refl e (none_fit ns (other_tables lent))
   where
     go : (b : Bool) → leb n.rows (room n lent) ≡ b → Path (Option Need) (elim b [ true ↦ lacking ns (other_tables lent) | false ↦ some n ]) none
         → (lacking ns (other_tables lent) ≡ none → Fit ns (other_tables lent)) → Fit (n ∷ ns) lent
-    go true h e r = fit-cons (leb-true _ _ h) (r e)
+    go true h e r = fit_cons (leb-true _ _ h) (r e)
     go false h e r = absurd (let z : ◌≡◌ {A = ℕ} 0 1 = cc e in omega arith)
 
 lowest : (ns : List Need) (lent : Lent) (x : Need) → lacking ns lent ≡ some x → Lowest ns lent x.number x.rows
@@ -86,81 +86,81 @@ unfolding lacking
 from_lowest (this {n = n} h) = record { need = n; found = rw (lt-leb _ _ h, lacking) refl; table = refl; rows = refl }
 from_lowest (later h l) = let x = from_lowest l in record { need = x.need; found = rw (le-leb _ _ h, lacking) x.found; table = x.table; rows = x.rows }
 
-pub fit-head : {n : Need} {ns : List Need} {lent : Lent} → Fit (n ∷ ns) lent → (n.rows ≤ room n lent) × Fit ns (other_tables lent)
-fit-head (fit-cons h f) = (h, f)
+pub fit_head : {n : Need} {ns : List Need} {lent : Lent} → Fit (n ∷ ns) lent → (n.rows ≤ room n lent) × Fit ns (other_tables lent)
+fit_head (fit_cons h f) = (h, f)
 
-div-fits : (r n c : ℕ) → r ≤ n / c → r * c ≤ n
-div-fits r n zero h = omega (arith, mul-zero r)
-div-fits r n (suc c) h = let p : 0 < suc c = omega arith in (le-div_iff_mul-le p).0 h
+div_fits : (r n c : ℕ) → r ≤ n / c → r * c ≤ n
+div_fits r n zero h = omega (arith, mul-zero r)
+div_fits r n (suc c) h = let p : 0 < suc c = omega arith in (le-div_iff_mul-le p).0 h
 
-pub length-flatten : (c : ℕ) (rows : List (List ℕ)) → Every (λ (row : List ℕ). length row ≡ c) rows → length (flatten rows) ≡ length rows * c
+pub length_flatten : (c : ℕ) (rows : List (List ℕ)) → Every (λ (row : List ℕ). length row ≡ c) rows → length (flatten rows) ≡ length rows * c
 unfolding flatten
-length-flatten c [] h = sym (zero-mul c)
-length-flatten c (r ∷ rs) (all_cons e h) = length-append r (flatten rs) ∙ (λ i. e i + length-flatten c rs h i) ∙ add_comm c (length rs * c) ∙ sym (suc-mul (length rs) c)
+length_flatten c [] h = sym (zero-mul c)
+length_flatten c (r ∷ rs) (all_cons e h) = length-append r (flatten rs) ∙ (λ i. e i + length_flatten c rs h i) ∙ add_comm c (length rs * c) ∙ sym (suc-mul (length rs) c)
 
 front_length : (f t : List ℕ) → length f ≤ length t → length (f ++ drop (length f) t) ≡ length t
 front_length f t h = length-append f (drop (length f) t) ∙ omega (arith, length-drop (length f) t)
 
-behind-kept : (a t : List ℕ) {n : ℕ} → length a ≡ n → drop n (a ++ drop (length a) t) ≡ drop n t
-behind-kept a t e = rw (← e) (drop-append_seam a (drop (length a) t))
+behind_kept : (a t : List ℕ) {n : ℕ} → length a ≡ n → drop n (a ++ drop (length a) t) ≡ drop n t
+behind_kept a t e = rw (← e) (drop-append_seam a (drop (length a) t))
 
 keeps : (rs : List Rows) (lent : Lent) → Every Shaped rs → Fit (needs rs) lent → length lent ≡ length rs → Kept (needs rs) lent (filled rs lent)
 unfolding needs filled room first_table other_tables
-keeps [] [] h f n = all-kept
+keeps [] [] h f n = all_kept
 keeps [] (t ∷ ts) h f n = absurd (omega arith)
 keeps (r ∷ rs) [] h f n = absurd (omega arith)
 keeps (r ∷ rs) (t ∷ ts) h f n =
-    let g = fit-head f in
-    let w : length (flatten r.rows) ≡ length r.rows * r.columns = length-flatten r.columns r.rows (every-head Shaped h) in
-    let l : length (flatten r.rows) ≤ length t = omega (arith, w, div-fits (length r.rows) (length t) r.columns g.0) in
-    kept-behind (front_length (flatten r.rows) t l) (behind-kept (flatten r.rows) t w) (keeps rs ts (every-tail Shaped h) g.1 (omega arith))
+    let g = fit_head f in
+    let w : length (flatten r.rows) ≡ length r.rows * r.columns = length_flatten r.columns r.rows (every_head Shaped h) in
+    let l : length (flatten r.rows) ≤ length t = omega (arith, w, div_fits (length r.rows) (length t) r.columns g.0) in
+    kept_behind (front_length (flatten r.rows) t l) (behind_kept (flatten r.rows) t w) (keeps rs ts (every_tail Shaped h) g.1 (omega arith))
 
 module _ {Tree Top Value : Type 0} (K : Kind Tree Top Value) where
   -- the rows of a body that was read are as wide as their tables
   pub shapes : Lawful K → (body : List ℕ) {t : Tree} {k : ℕ} → run K.program body 0 ≡ done t k → Every Shaped (K.tables t)
-  shapes L body {t} e = L.shaped t _ (run-takes K.program body 0 e (omega arith))
+  shapes L body {t} e = L.shaped t _ (run_takes K.program body 0 e (omega arith))
 
   fits_more : (ns : List Need) (lent more : Lent) → Roomier lent more → lacking ns lent ≡ none → lacking ns more ≡ none
-  fits_more ns lent more r h = fit_none (fit-more more r (none-fit ns lent h))
+  fits_more ns lent more r h = fit_none (fit_more more r (none_fit ns lent h))
 
-  room-changes : (body : List ℕ) (lent more : Lent) → Roomier lent more → ((t r : ℕ) → (reading K body lent).answer ≡ no_room t r → ⊥)
+  room_changes : (body : List ℕ) (lent more : Lent) → Roomier lent more → ((t r : ℕ) → (reading K body lent).answer ≡ no_room t r → ⊥)
       → (reading K body more).answer ≡ (reading K body lent).answer
-  room-changes body lent more r never = go (view K body lent)
+  room_changes body lent more r never = go (view K body lent)
     where
       go : View K body lent → (reading K body more).answer ≡ (reading K body lent).answer
       go (is_read s j h q) = answers (reads_so K body more s j (fits_more _ lent more r h)) ∙ sym (answers q)
       go (lacks s n j h q) = absurd (never _ _ (answers q))
-      go (is-short x j q) = answers (refused-so K body more j) ∙ sym (answers q)
-      go (is-long h q) = answers (refused-so K body more (judge-long K body h)) ∙ sym (answers q)
+      go (is_short x j q) = answers (refused_so K body more j) ∙ sym (answers q)
+      go (is_long h q) = answers (refused_so K body more (judge_long K body h)) ∙ sym (answers q)
 
-  refused-keeps : (body : List ℕ) (lent : Lent) → (number (reading K body lent).answer ≡ 0 → ⊥) → (reading K body lent).tables ≡ lent
+  refused_keeps : (body : List ℕ) (lent : Lent) → (number (reading K body lent).answer ≡ 0 → ⊥) → (reading K body lent).tables ≡ lent
   unfolding number
-  refused-keeps body lent never = go (view K body lent)
+  refused_keeps body lent never = go (view K body lent)
     where
       go : View K body lent → (reading K body lent).tables ≡ lent
       go (is_read s j h q) = absurd (never (ap number (answers q)))
       go (lacks s n j h q) = ap (λ (o : Outcome Top). o.tables) q
-      go (is-short x j q) = ap (λ (o : Outcome Top). o.tables) q
-      go (is-long h q) = ap (λ (o : Outcome Top). o.tables) q
+      go (is_short x j q) = ap (λ (o : Outcome Top). o.tables) q
+      go (is_long h q) = ap (λ (o : Outcome Top). o.tables) q
 
-  lacking-of : (body : List ℕ) (lent : Lent) (t r : ℕ) → reading K body lent ≡ leaves (no_room t r) lent
+  lacking_of : (body : List ℕ) (lent : Lent) (t r : ℕ) → reading K body lent ≡ leaves (no_room t r) lent
       → (z : Sizes) × (measuring K body ≡ accepted z) × Lowest z.tables lent t r
   unfolding measuring onto sizes
-  lacking-of body lent t r e = go (view K body lent)
+  lacking_of body lent t r e = go (view K body lent)
     where
       go : View K body lent → (z : Sizes) × (measuring K body ≡ accepted z) × Lowest z.tables lent t r
-      go (is_read s j h q) = not-refused (answers (sym q ∙ e))
-      go (lacks s n j h q) = let w = same-room (answers (sym q ∙ e)) in (sizes K s, ap (onto (sizes K)) j, rw (← w.0, ← w.1) (lowest _ lent n h))
-      go (is-short x j q) = short-room x t r (answers (sym q ∙ e))
-      go (is-long h q) = long-room (length body) t r (answers (sym q ∙ e))
+      go (is_read s j h q) = not_refused (answers (sym q ∙ e))
+      go (lacks s n j h q) = let w = same_room (answers (sym q ∙ e)) in (sizes K s, ap (onto (sizes K)) j, rw (← w.0, ← w.1) (lowest _ lent n h))
+      go (is_short x j q) = short_room x t r (answers (sym q ∙ e))
+      go (is_long h q) = long_room (length body) t r (answers (sym q ∙ e))
 
-  lacking-so : (body : List ℕ) (lent : Lent) (t r : ℕ) (z : Sizes) → measuring K body ≡ accepted z → Lowest z.tables lent t r → reading K body lent ≡ leaves (no_room t r) lent
+  lacking_so : (body : List ℕ) (lent : Lent) (t r : ℕ) (z : Sizes) → measuring K body ≡ accepted z → Lowest z.tables lent t r → reading K body lent ≡ leaves (no_room t r) lent
   unfolding sizes
-  lacking-so body lent t r z e l =
+  lacking_so body lent t r z e l =
       let (s, j, q) = measured K body z e in
       let w : needs (K.tables s.tree) ≡ z.tables = ap (λ (x : Sizes). x.tables) q in
       let x = from_lowest (rw (← w) at l) in
-      lacks-so K body lent s x.need j x.found ∙ (λ i. leaves (no_room (x.table i) (x.rows i)) lent)
+      lacks_so K body lent s x.need j x.found ∙ (λ i. leaves (no_room (x.table i) (x.rows i)) lent)
 
   pub more_room : Lawful K → MoreRoomGiven K
   unfolding measuring onto sizes
@@ -168,9 +168,9 @@ module _ {Tree Top Value : Type 0} (K : Kind Tree Top Value) where
     kept = λ body lent top after e n.
         let w = was K body lent top after e in
         let t = w.sound.tree in
-        let k = keeps (K.tables t) lent (shapes L body (ran-well K body w.sound w.judges).reads) (none-fit _ lent w.fits) (n ∙ sym (L.all_there t)) in
+        let k = keeps (K.tables t) lent (shapes L body (ran_well K body w.sound w.judges).reads) (none_fit _ lent w.fits) (n ∙ sym (L.all_there t)) in
         (sizes K w.sound, ap (onto (sizes K)) w.judges, subst (Kept (needs (K.tables t)) lent) w.after_is k);
-    more_room = room-changes;
+    more_room = room_changes;
     same_rows = λ body lent more top after r e.
         let w = was K body lent top after e in (
           K.tables w.sound.tree,
@@ -178,8 +178,8 @@ module _ {Tree Top Value : Type 0} (K : Kind Tree Top Value) where
           ap (onto (sizes K)) w.judges,
           refl,
           sym w.after_is,
-          reads_so K body more w.sound w.judges (fits_more _ lent more r w.fits) ∙ (λ i. leaves (accepted (w.top-is i)) (filled (K.tables w.sound.tree) more)),
+          reads_so K body more w.sound w.judges (fits_more _ lent more r w.fits) ∙ (λ i. leaves (accepted (w.top_is i)) (filled (K.tables w.sound.tree) more)),
         );
-    no_room = λ body lent t r. (lacking-of body lent t r, λ x. lacking-so body lent t r x.0 x.1 x.2);
-    untouched = refused-keeps;
+    no_room = λ body lent t r. (lacking_of body lent t r, λ x. lacking_so body lent t r x.0 x.1 x.2);
+    untouched = refused_keeps;
   }

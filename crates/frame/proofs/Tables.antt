@@ -17,22 +17,22 @@ use Rattle.frame.specs.Kind.{Kind, Lent, Rows}
 use Rattle.frame.specs.Numbers.{accepted, refused, refusal}
 use Rattle.frame.specs.Entry.{Sizes, Need, needs, room, first_table, other_tables, lacking, filled, sizes, Measures, Reads}
 use Rattle.frame.specs.Sight.{Roomy, Fills, Opened, and_table, and_tables}
-use Rattle.frame.proofs.Entries.{within-measured, roomy, reads-lacking, reads-filled, measures-walked, fills-walked}
+use Rattle.frame.proofs.Entries.{within_measured, roomy, reads_lacking, reads_filled, measures_walked, fills_walked}
 
 -- ---- one table
 
 module _ (n : Need) (t : List ℕ) where
-  pub lacks-before : {r : Room} {i k : ℕ} → r ≡ M.Lacks i k → r ≡ and_table r n t
+  pub lacks_before : {r : Room} {i k : ℕ} → r ≡ M.Lacks i k → r ≡ and_table r n t
   unfolding and_table
-  lacks-before {i = i} {k} e = e ∙ sym (ap (λ (r : Room). and_table r n t) e)
+  lacks_before {i = i} {k} e = e ∙ sym (ap (λ (r : Room). and_table r n t) e)
 
-  pub has-table : {r : Room} → r ≡ M.Enough → leb n.rows (length t / n.columns) ≡ true → M.Enough ≡ and_table r n t
+  pub has_table : {r : Room} → r ≡ M.Enough → leb n.rows (length t / n.columns) ≡ true → M.Enough ≡ and_table r n t
   unfolding and_table
-  has-table e h = sym (ap (λ (r : Room). and_table r n t) e ∙ rw (h, and_table) refl)
+  has_table e h = sym (ap (λ (r : Room). and_table r n t) e ∙ rw (h, and_table) refl)
 
-  pub lacks-table : {r : Room} → r ≡ M.Enough → leb n.rows (length t / n.columns) ≡ false → M.Lacks n.number n.rows ≡ and_table r n t
+  pub lacks_table : {r : Room} → r ≡ M.Enough → leb n.rows (length t / n.columns) ≡ false → M.Lacks n.number n.rows ≡ and_table r n t
   unfolding and_table
-  lacks-table e h = sym (ap (λ (r : Room). and_table r n t) e ∙ rw (h, and_table) refl)
+  lacks_table e h = sym (ap (λ (r : Room). and_table r n t) e ∙ rw (h, and_table) refl)
 
 -- ---- all of them
 
@@ -79,19 +79,19 @@ lowest ns lent {i} {k} e = go (lacking ns lent) refl (sym (all_so ns lent) ∙ e
 -- a body that is measured, and whose tables are lent one by one
 module _ {Tree Top Value : Type 0} (K : Kind Tree Top Value) (body : List ℕ) {y : Sizes} (m : Measures K body (accepted y)) (lent : Lent) {r : Room} (e : r ≡ and_tables M.Enough y.tables lent) where
   -- the lowest that is short is what reading answers
-  pub reads-lowest : {i k : ℕ} → r ≡ M.Lacks i k → Reads K body lent (refused (refusal (R.NoRoom i k))) lent
-  reads-lowest {i} {k} d =
+  pub reads_lowest : {i k : ℕ} → r ≡ M.Lacks i k → Reads K body lent (refused (refusal (R.NoRoom i k))) lent
+  reads_lowest {i} {k} d =
       let l = lowest y.tables lent (sym e ∙ d) in
       subst (λ (k : ℕ). Reads K body lent (refused (refusal (R.NoRoom i k))) lent) l.rows
-      (subst (λ (i : ℕ). Reads K body lent (refused (refusal (R.NoRoom i l.need.rows))) lent) l.number (reads-lacking K body m lent l.need l.is))
+      (subst (λ (i : ℕ). Reads K body lent (refused (refusal (R.NoRoom i l.need.rows))) lent) l.number (reads_lacking K body m lent l.need l.is))
 
   -- else there is room, and once they are filled the body is opened
   module _ (d : r ≡ M.Enough) where
-    pub all-roomy : Roomy K body lent
-    all-roomy = roomy K body m lent (enough y.tables lent (sym e ∙ d))
+    pub all_roomy : Roomy K body lent
+    all_roomy = roomy K body m lent (enough y.tables lent (sym e ∙ d))
 
-    pub filled-opens : {F : Type 0} → F → {after : Lent} → Fills K body lent after → Opened K F body lent after
-    filled-opens f {after} w = record { found = f; few = (within-measured K body m).all; reads = λ t. reads-filled K body m lent after (enough y.tables lent (sym e ∙ d)) w t }
+    pub filled_opens : {F : Type 0} → F → {after : Lent} → Fills K body lent after → Opened K F body lent after
+    filled_opens f {after} w = record { found = f; few = (within_measured K body m).all; reads = λ t. reads_filled K body m lent after (enough y.tables lent (sym e ∙ d)) w t }
 
 -- ---- the rows that the k-th table needs
 
@@ -108,11 +108,11 @@ same_rows e k = ap (λ (y : Sizes). rows_at k y.tables) e
 abbrev pub Empty : Rows → Type 0
 Empty r = r.rows ≡ []
 
-none-lacks : (rs : List Rows) (lent : Lent) → Every Empty rs → lacking (needs rs) lent ≡ none
+none_lacks : (rs : List Rows) (lent : Lent) → Every Empty rs → lacking (needs rs) lent ≡ none
 unfolding needs lacking
-none-lacks [] lent all_nil = refl
-none-lacks (r ∷ rs) lent (all_cons e w) =
-    rw (e, le-leb 0 (room (record { number = r.number; columns = r.columns; rows = 0 }) lent) (omega arith), lacking) (none-lacks rs (other_tables lent) w)
+none_lacks [] lent all_nil = refl
+none_lacks (r ∷ rs) lent (all_cons e w) =
+    rw (e, le-leb 0 (room (record { number = r.number; columns = r.columns; rows = 0 }) lent) (omega arith), lacking) (none_lacks rs (other_tables lent) w)
 
 all_stay : (rs : List Rows) (lent : Lent) → length rs ≡ length lent → Every Empty rs → filled rs lent ≡ lent
 unfolding filled first_table other_tables flatten
@@ -122,6 +122,6 @@ all_stay (r ∷ rs) [] q w = absurd (omega (arith, q))
 all_stay (r ∷ rs) (t ∷ lent) q (all_cons e w) = rw e (ap (λ (l : Lent). t ∷ l) (all_stay rs lent (omega (arith, q)) w))
 
 module _ {Tree Top Value : Type 0} (K : Kind Tree Top Value) (body : List ℕ) {t : Tree} {k : ℕ} (h : length body < 65536) (e : run K.program body 0 ≡ done t k) where
-  pub empty-opens : {F : Type 0} → F → (lent : Lent) → length (K.tables t) ≡ length lent → Every Empty (K.tables t) → Opened K F body lent lent
+  pub empty_opens : {F : Type 0} → F → (lent : Lent) → length (K.tables t) ≡ length lent → Every Empty (K.tables t) → Opened K F body lent lent
   unfolding sizes
-  empty-opens f lent q w = record { found = f; few = h; reads = λ r. reads-filled K body (measures-walked K body h e refl) lent lent (none-lacks (K.tables t) lent w) (fills-walked K body h e (sym (all_stay (K.tables t) lent q w))) r }
+  empty_opens f lent q w = record { found = f; few = h; reads = λ r. reads_filled K body (measures_walked K body h e refl) lent lent (none_lacks (K.tables t) lent w) (fills_walked K body h e (sym (all_stay (K.tables t) lent q w))) r }

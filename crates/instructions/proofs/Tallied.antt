@@ -14,55 +14,55 @@ use Rattle.wire.specs.Act.{pick}
 use Rattle.wire.specs.Layout.{Cell, column, idle, end, optional, ◌▹◌, num, Columns, of, shown, cells, tally, layouts, blank, flat, broken_row, family_tally, has}
 use Rattle.wire.specs.Straight.{spans}
 use Rattle.wire.proofs.Layouts.Cells.{all}
-use Rattle.wire.proofs.Layouts.Families.{placed-tallied}
+use Rattle.wire.proofs.Layouts.Families.{placed_tallied}
 use Rattle.scopes.specs.Layout.{scope}
 use Rattle.scopes.specs.Tally.{scope_zeros}
-use Rattle.scopes.proofs.Tallied.{row-zeros}
+use Rattle.scopes.proofs.Tallied.{row_zeros}
 use Rattle.target_loudness.specs.Layout.{target}
 use Rattle.target_loudness.specs.Tally.{target_zeros}
-use Rattle.target_loudness.proofs.Tallied.{target-tally}
+use Rattle.target_loudness.proofs.Tallied.{target_tally}
 use Rattle.instructions.specs.Layout.{types, additional, settings, effect, instruction, instructions}
 use Rattle.instructions.specs.Rows.{settings_row, effect_row, instruction_row, instruction_cols, settings_cells}
 use Rattle.instructions.specs.declared.rows.DrcInstructions.{DrcInstructions}
-use Rattle.instructions.proofs.Taken.{ids-zeros}
+use Rattle.instructions.proofs.Taken.{ids_zeros}
 
-sum-append : {A : Type 0} (f : A → ℕ) (a b : List A) → sum f (a ++ b) ≡ sum f a + sum f b
+sum_append : {A : Type 0} (f : A → ℕ) (a b : List A) → sum f (a ++ b) ≡ sum f a + sum f b
 unfolding sum
-sum-append f [] b = omega arith
-sum-append f (x ∷ a) b = omega (arith, sum-append f a b)
+sum_append f [] b = omega arith
+sum_append f (x ∷ a) b = omega (arith, sum_append f a b)
 
 abbrev bits : Columns → Cell → ℕ
 bits g c = idle c (g (column c))
 
-settings-tally : (d : DrcInstructions)
+settings_tally : (d : DrcInstructions)
     → sum (bits (instruction_cols d)) (shown settings (instruction_cols d)) ≡ scope_zeros d.reserved_type d.scope + (zeros 2 d.reserved_set + (zeros 1 d.reserved_downmix + zeros 3 d.reserved_additional))
 unfolding shown sum flatten
-settings-tally d =
-    sum-append (bits (instruction_cols d)) (shown (scope types) (instruction_cols d)) (flatten settings_cells)
-    ∙ omega (arith, row-zeros types d.reserved_type d.scope (settings_row d ++ effect_row d))
+settings_tally d =
+    sum_append (bits (instruction_cols d)) (shown (scope types) (instruction_cols d)) (flatten settings_cells)
+    ∙ omega (arith, row_zeros types d.reserved_type d.scope (settings_row d ++ effect_row d))
 
-effect-tally : (g : Columns) → sum (bits g) (shown effect g) ≡ sum (bits g) (shown (optional 15 target ▹ end) g)
+effect_tally : (g : Columns) → sum (bits g) (shown effect g) ≡ sum (bits g) (shown (optional 15 target ▹ end) g)
 unfolding shown sum flatten
-effect-tally g = go (eqb (g 13) 1)
+effect_tally g = go (eqb (g 13) 1)
   where
     go : (x : Bool) → sum (bits g) (num 16 12 ∷ (pick x (num 8 14 ∷ []) [] ++ shown (optional 15 target ▹ end) g)) ≡ sum (bits g) (shown (optional 15 target ▹ end) g)
     go true = omega arith
     go false = omega arith
 
-pub own-tally : (d : DrcInstructions) → tally (layouts instruction) (instruction_cols d)
+pub own_tally : (d : DrcInstructions) → tally (layouts instruction) (instruction_cols d)
     ≡ scope_zeros d.reserved_type d.scope + zeros 2 d.reserved_set + (zeros 1 d.reserved_downmix + zeros 3 d.reserved_additional + target_zeros d.target_loudness)
 unfolding tally cells
-own-tally d =
+own_tally d =
     let g = instruction_cols d in
-    sum-append (bits g) (shown settings g) (shown effect g) ∙ omega (arith, settings-tally d, effect-tally g, target-tally g)
+    sum_append (bits g) (shown settings g) (shown effect g) ∙ omega (arith, settings_tally d, effect_tally g, target_tally g)
 
 -- with its additional IDs
-no-first : has 10 (all settings ++ all effect) ≡ false
+no_first : has 10 (all settings ++ all effect) ≡ false
 unfolding has all flatten scope
-no-first = refl
+no_first = refl
 
-pub instruction-tallied : (s : List ℕ) (at : ℕ) (d : DrcInstructions) {next begins own below zs : ℕ} → at ≤ length s
+pub instruction_tallied : (s : List ℕ) (at : ℕ) (d : DrcInstructions) {next begins own below zs : ℕ} → at ≤ length s
     → done (instruction_row d) next ≡ map_out (λ x. broken_row instruction (0, x)) (run instructions s at) → begins ≡ at + total (spans settings blank s at)
     → own ≡ tally (layouts instruction) (instruction_cols d) → below ≡ sum (λ r. tally (additional ∷ []) (of r)) (rows_of (run (many d.additional_downmix_ids.count (flat 2 additional)) s begins)) → zs ≡ own + below
     → done zs next ≡ map_out (family_tally instruction additional) (run instructions s at)
-instruction-tallied s at d h e b o w z = placed-tallied instruction 2 additional s at h no-first e o (ids-zeros s at 0 d h e b w) z
+instruction_tallied s at d h e b o w z = placed_tallied instruction 2 additional s at h no_first e o (ids_zeros s at 0 d h e b w) z

@@ -24,12 +24,12 @@ use Rattle.wire.specs.declared.reads.Sum.TheVariants as S
 use Rattle.wire.specs.declared.rows.Payload.{Payload}
 use Rattle.wire.proofs.Layouts.Cells.{all, distinct, free, eights, proper}
 use Rattle.wire.proofs.Layouts.Forms.{form_all, form_proper, below}
-use Rattle.wire.proofs.Fields.{wider, part-below}
-use Rattle.wire.proofs.Reading.Walk.{run-map, map-map, map-done, From, begun, onward, cut_off, cut-off-as, finished, as-done, is-done, byte-taken}
-use Rattle.wire.proofs.Reading.Loops.{summed-done, summed-short, many-long, Summing, sum-turn}
-use Rattle.wire.proofs.Layouts.Straight.{ends_at, ends-within}
+use Rattle.wire.proofs.Fields.{wider, part_below}
+use Rattle.wire.proofs.Reading.Walk.{run_map, map_map, map_done, From, begun, onward, cut_off, cut_off_as, finished, as_done, is_done_lem, byte_taken}
+use Rattle.wire.proofs.Reading.Loops.{summed_done, summed_short, many_long, Summing, sum_turn}
+use Rattle.wire.proofs.Layouts.Straight.{ends_at, ends_within}
 use Rattle.wire.proofs.Layouts.Borne.{bear_test, Bear}
-use Rattle.wire.proofs.Layouts.Bearers.{bear-got, bear-lacks, bear-whole, bear-filled}
+use Rattle.wire.proofs.Layouts.Bearers.{bear_got, bear_lacks, bear_whole, bear_filled}
 use Rattle.labels.specs.Layout.{label}
 use Rattle.labels.specs.Read.{Labels, labels_over, labels}
 use Rattle.labels.specs.Rows.{entry_row, range, descriptions, list_from}
@@ -43,57 +43,57 @@ an_entry w = bearing (label w)
 
 -- measured: its two bytes, then the label
 module _ (s : List ℕ) (at : ℕ) {r : Ends} (e : ends_out r ≡ ends (ones 2) s at) where
-  pub entry-lacks : {x : Short} → r ≡ E.Short x → AnyWidth (λ w. an_entry w) s at r
+  pub entry_lacks : {x : Short} → r ≡ E.Short x → AnyWidth (λ w. an_entry w) s at r
   unfolding took ones
-  entry-lacks d = record { of = λ w. bear-lacks (label w) s at e (ap ends_out d) }
+  entry_lacks d = record { of = λ w. bear_lacks (label w) s at e (ap ends_out d) }
 
   module _ {m : ℕ} (d : r ≡ E.At m) where
-    pub behind-inside : at ≤ length s → m ≤ length s
-    behind-inside h = ends-within (ones 2) s at h (sym e ∙ ap ends_out d)
+    pub behind_inside : at ≤ length s → m ≤ length s
+    behind_inside h = ends_within (ones 2) s at h (sym e ∙ ap ends_out d)
 
-    pub length-there : at ≤ length s → at + 1 < length s
+    pub length_there : at ≤ length s → at + 1 < length s
     unfolding ones total
-    length-there h = omega (arith, behind-inside h, ends_at (ones 2) s at (sym e ∙ ap ends_out d))
+    length_there h = omega (arith, behind_inside h, ends_at (ones 2) s at (sym e ∙ ap ends_out d))
 
-    pub entry-ends : {v : ℕ} {r' : Ends} → v ≡ get_or s (at + 1) 0 → ends_out r' ≡ ends (v ∷ []) s m → AnyWidth (λ w. an_entry w) s at r'
+    pub entry_ends : {v : ℕ} {r' : Ends} → v ≡ get_or s (at + 1) 0 → ends_out r' ≡ ends (v ∷ []) s m → AnyWidth (λ w. an_entry w) s at r'
     unfolding took ones total
-    entry-ends z e' = record { of = λ w. e' ∙ ap (λ (v : ℕ). ends (v ∷ []) s m) z ∙ bear-got (label w) s at e (ap ends_out d) }
+    entry_ends z e' = record { of = λ w. e' ∙ ap (λ (v : ℕ). ends (v ∷ []) s m) z ∙ bear_got (label w) s at e (ap ends_out d) }
 
 -- filled, once measured
 module _ (w : ℕ) (s : List ℕ) (at : ℕ) (h : at ≤ length s) (q : is_done (run (an_entry w) s at) ≡ true) where
-  pub entry-there : at + 2 + get_or s (at + 1) 0 ≤ length s
+  pub entry_there : at + 2 + get_or s (at + 1) 0 ≤ length s
   unfolding took total
-  entry-there = omega (arith, (bear-whole (label w) s at h q).there)
+  entry_there = omega (arith, (bear_whole (label w) s at h q).there)
 
-  pub entry-taken : {b v r i : ℕ} {p : Payload} → b ≡ get_or s at 0 → v ≡ get_or s (at + 1) 0 → r ≡ part w (8 - w) b → i ≡ part 0 w b → p ≡ span (at + 2) v
+  pub entry_taken : {b v r i : ℕ} {p : Payload} → b ≡ get_or s at 0 → v ≡ get_or s (at + 1) 0 → r ≡ part w (8 - w) b → i ≡ part 0 w b → p ≡ span (at + 2) v
       → done (r ∷ i ∷ p.offset ∷ p.length ∷ []) (at + 2 + v) ≡ map_out (borne_row (label w)) (run (an_entry w) s at)
   unfolding took puts_at put split total each
-  entry-taken {p = p} x y u k z =
+  entry_taken {p = p} x y u k z =
       let a : at + 2 ≡ at + 1 + 1 = omega arith in
       let c : p ≡ span (at + 1 + 1) (get_or s (at + 1) 0) = z ∙ λ j. span (a j) (y j) in
-      bear-filled (label w) s at h q
+      bear_filled (label w) s at h q
       (λ j. (u ∙ λ j. part (sym (add-zero w) j) (8 - w) (x j)) j ∷ (k ∙ ap (part 0 w) x) j ∷ (c j).offset ∷ (c j).length ∷ [])
       (λ j. a j + y j)
 
 -- tallied
-pub entry-tally : (w : ℕ) (e : TextLabelEntry) (x : Borne) → borne_row (label w) x ≡ entry_row e → zeros (8 - w) e.reserved ≡ borne_tally (label w) x
+pub entry_tally : (w : ℕ) (e : TextLabelEntry) (x : Borne) → borne_row (label w) x ≡ entry_row e → zeros (8 - w) e.reserved ≡ borne_tally (label w) x
 unfolding tally cells shown sum flatten each
-entry-tally w e x q = let z : get_or x.0 0 0 ≡ e.reserved = cc q in ap (zeros (8 - w)) (sym z) ∙ sym (add-zero _)
+entry_tally w e x q = let z : get_or x.0 0 0 ≡ e.reserved = cc q in ap (zeros (8 - w)) (sym z) ∙ sym (add-zero _)
 
-pub entry-summed : (w : ℕ) {s : List ℕ} {at count pos left acc : ℕ} → Summing (an_entry w) (borne_tally (label w)) 8 s at count pos left acc → 0 < left
+pub entry_summed : (w : ℕ) {s : List ℕ} {at count pos left acc : ℕ} → Summing (an_entry w) (borne_tally (label w)) 8 s at count pos left acc → 0 < left
     → {e : TextLabelEntry} {next n : ℕ} → done (entry_row e) next ≡ map_out (borne_row (label w)) (run (an_entry w) s pos) → n ≡ zeros (8 - w) e.reserved
     → Summing (an_entry w) (borne_tally (label w)) 8 s at count next (left - 1) (acc + n)
-entry-summed w {s} {at} {count} {pos} i h {e} d q =
-    let (x, r, k) = as-done (borne_row (label w)) (run (an_entry w) s pos) (sym d) in
-    sum-turn (an_entry w) (borne_tally (label w)) 8 s at count i h (summed-done (sym r) (q ∙ entry-tally w e x k) (omega (arith, q))) refl
+entry_summed w {s} {at} {count} {pos} i h {e} d q =
+    let (x, r, k) = as_done (borne_row (label w)) (run (an_entry w) s pos) (sym d) in
+    sum_turn (an_entry w) (borne_tally (label w)) 8 s at count i h (summed_done (sym r) (q ∙ entry_tally w e x k) (omega (arith, q))) refl
 
 -- a row that ends with a payload, for each width
-pub label-passes : (w : ℕ) → w < 8 → bear_test (label w) ≡ true
+pub label_passes : (w : ℕ) → w < 8 → bear_test (label w) ≡ true
 unfolding bear_test form_proper form_all below proper all has distinct free eights total flatten
-label-passes w h = rw (eq-eqb (8 - w + (w + 0)) 8 (omega arith)) refl
+label_passes w h = rw (eq-eqb (8 - w + (w + 0)) 8 (omega arith)) refl
 
 abbrev pub label_bear : (w : ℕ) → w < 8 → Bear
-label_bear w h = record { row = label w; passes = label-passes w h }
+label_bear w h = record { row = label w; passes = label_passes w h }
 
 -- ---- a list: its count, and so many entries
 
@@ -108,77 +108,77 @@ abbrev after_count : ℕ → ℕ → Prog Labels
 after_count w b = many (part 0 w b) (an_entry w) >>= λ l. ret (list_is w b l)
 
 -- a count of at most seven bits
-pub count-below : {k : ℕ} (w : ℕ) → w < 8 → k < 2 ^ w → k < 128
-count-below w h l = wider w 7 (omega arith) l
+pub count_below : {k : ℕ} (w : ℕ) → w < 8 → k < 2 ^ w → k < 128
+count_below w h l = wider w 7 (omega arith) l
 
-pub count-few : (w b : ℕ) {count : ℕ} → w < 8 → count ≡ part 0 w b → count < 128
-count-few w b h e = rw e (count-below w h (part-below 0 w b))
+pub count_few : (w b : ℕ) {count : ℕ} → w < 8 → count ≡ part 0 w b → count < 128
+count_few w b h e = rw e (count_below w h (part_below 0 w b))
 
 -- measured
 module _ (w : ℕ) (s : List ℕ) (at : ℕ) (h : at ≤ length s) {a : Byte} (e : ByteRead s at a) where
-  pub count-lacks : {x y : Short} → a ≡ B.Short x → y ≡ short_of (byte_out a) → Summed (labels w) entry_count 127 s at (S.Short y)
+  pub count_lacks : {x y : Short} → a ≡ B.Short x → y ≡ short_of (byte_out a) → Summed (labels w) entry_count 127 s at (S.Short y)
   unfolding labels_over
-  count-lacks d q = summed-short (cut_off u8 (after_count w) (begun (labels w) s at h) e.is (ap byte_out d) q)
+  count_lacks d q = summed_short (cut_off u8 (after_count w) (begun (labels w) s at h) e.is (ap byte_out d) q)
 
   module _ {b n : ℕ} (d : a ≡ B.Got b n) where
     place : From (labels w) s at (after_count w b) n
     unfolding labels_over
     place = onward u8 (after_count w) (begun (labels w) s at h) e.is (ap byte_out d)
 
-    pub count-got : n ≤ length s
-    count-got = place.inside
+    pub count_got : n ≤ length s
+    count_got = place.inside
 
     module _ {count : ℕ} (k : count ≡ part 0 w b) {r : Ends} (m : AnyWidth (λ w. many count (an_entry w)) s n r) where
       ends_so : ends_out r ≡ end_of (run (many (part 0 w b) (an_entry w)) s n)
       ends_so = m.of w ∙ ap (λ (k : ℕ). end_of (run (many k (an_entry w)) s n)) k
 
-      pub entries-lack : {x y : Short} → r ≡ E.Short x → y ≡ short_of (ends_out r) → Summed (labels w) entry_count 127 s at (S.Short y)
-      entries-lack z q = summed-short (cut-off-as (many (part 0 w b) (an_entry w)) (λ l. tt) (λ l. ret (list_is w b l)) place ends_so (ap ends_out z) q)
+      pub entries_lack : {x y : Short} → r ≡ E.Short x → y ≡ short_of (ends_out r) → Summed (labels w) entry_count 127 s at (S.Short y)
+      entries_lack z q = summed_short (cut_off_as (many (part 0 w b) (an_entry w)) (λ l. tt) (λ l. ret (list_is w b l)) place ends_so (ap ends_out z) q)
 
       pub list_counted : w < 8 → {next : ℕ} → r ≡ E.At next → Summed (labels w) entry_count 127 s at (S.Got count next)
       list_counted i {next} z =
           let p = many (part 0 w b) (an_entry w) in
-          let (l, x, _) = as-done (λ (l : List Borne). tt) (run p s n) (sym ends_so ∙ ap ends_out z) in
-          summed-done (finished (onward p (λ l. ret (list_is w b l)) place refl x) refl) (k ∙ sym (many-long (an_entry w) s (part 0 w b) n l next x))
-          (omega (arith, count-few w b i k))
+          let (l, x, _) = as_done (λ (l : List Borne). tt) (run p s n) (sym ends_so ∙ ap ends_out z) in
+          summed_done (finished (onward p (λ l. ret (list_is w b l)) place refl x) refl) (k ∙ sym (many_long (an_entry w) s (part 0 w b) n l next x))
+          (omega (arith, count_few w b i k))
 
 -- known to be there: it is what its entries are
 module _ (w : ℕ) (s : List ℕ) (at : ℕ) (q : is_done (run (labels w) s at) ≡ true) where
   begins : (at < length s) × (run (labels w) s at ≡ run (after_count w (get_or s at 0)) s (at + 1))
   unfolding labels_over
   begins =
-      let (_, _, e) = is-done (run (labels w) s at) q in
-      let (h, e₁) = byte-taken s at (after_count w) e in
+      let (_, _, e) = is_done_lem (run (labels w) s at) q in
+      let (h, e₁) = byte_taken s at (after_count w) e in
       (h, e ∙ sym e₁)
 
-  pub count-there : at < length s
-  count-there = begins.0
+  pub count_there : at < length s
+  count_there = begins.0
 
-  pub entries-begin : at + 1 ≤ length s
-  entries-begin = omega (arith, begins.0)
+  pub entries_begin : at + 1 ≤ length s
+  entries_begin = omega (arith, begins.0)
 
   module _ {b count : ℕ} (x : b ≡ get_or s at 0) (y : count ≡ part 0 w b) where
     abbrev those : Out (List Borne)
     those = run (many count (an_entry w)) s (at + 1)
 
-    entries-so : run (labels w) s at ≡ map_out (list_is w b) those
-    entries-so =
-        begins.1 ∙ ap (λ (b : ℕ). run (after_count w b) s (at + 1)) (sym x) ∙ run-map (many (part 0 w b) (an_entry w)) (list_is w b) s (at + 1)
+    entries_so : run (labels w) s at ≡ map_out (list_is w b) those
+    entries_so =
+        begins.1 ∙ ap (λ (b : ℕ). run (after_count w b) s (at + 1)) (sym x) ∙ run_map (many (part 0 w b) (an_entry w)) (list_is w b) s (at + 1)
         ∙ ap (λ (k : ℕ). map_out (list_is w b) (run (many k (an_entry w)) s (at + 1))) (sym y)
 
-    pub entries-done : is_done those ≡ true
-    entries-done = sym (ap is_done entries-so ∙ map-done (list_is w b) those) ∙ q
+    pub entries_done : is_done those ≡ true
+    entries_done = sym (ap is_done entries_so ∙ map_done (list_is w b) those) ∙ q
 
     -- tallied
-    pub list-tally : {r before n next : ℕ} → r ≡ part w (8 - w) b → before ≡ zeros (8 - w) r → done n next ≡ map_out (sum (borne_tally (label w))) those
+    pub list_tally : {r before n next : ℕ} → r ≡ part w (8 - w) b → before ≡ zeros (8 - w) r → done n next ≡ map_out (sum (borne_tally (label w))) those
         → done (before + n) next ≡ map_out (labels_tally w) (run (labels w) s at)
-    list-tally {before = before} u z e =
-        ap (map_out (λ (n : ℕ). before + n)) e ∙ map-map (sum (borne_tally (label w))) (λ (n : ℕ). before + n) those
+    list_tally {before = before} u z e =
+        ap (map_out (λ (n : ℕ). before + n)) e ∙ map_map (sum (borne_tally (label w))) (λ (n : ℕ). before + n) those
         ∙ ap (λ (k : ℕ). map_out (λ (l : List Borne). k + sum (borne_tally (label w)) l) those) (z ∙ ap (zeros (8 - w)) u)
-        ∙ sym (ap (map_out (labels_tally w)) entries-so ∙ map-map (list_is w b) (labels_tally w) those)
+        ∙ sym (ap (map_out (labels_tally w)) entries_so ∙ map_map (list_is w b) (labels_tally w) those)
 
-pub list-few : (w b r : ℕ) {count before n : ℕ} → w < 8 → count ≡ part 0 w b → before ≡ zeros (8 - w) r → n ≤ 8 * count → before + n ≤ 1024
-list-few w b r h e z l = omega (arith, count-few w b h e, z)
+pub list_few : (w b r : ℕ) {count before n : ℕ} → w < 8 → count ≡ part 0 w b → before ≡ zeros (8 - w) r → n ≤ 8 * count → before + n ≤ 1024
+list_few w b r h e z l = omega (arith, count_few w b h e, z)
 
 -- filled
 module _ (w : ℕ) (s : List ℕ) (at first : ℕ) (t : List ℕ) (f : Fillable (labels w) 4 entry_count s at first t) where
@@ -186,20 +186,20 @@ module _ (w : ℕ) (s : List ℕ) (at first : ℕ) (t : List ℕ) (f : Fillable 
   list_done = ap is_done f.reads
 
   module _ {b count : ℕ} (x : b ≡ get_or s at 0) (y : count ≡ part 0 w b) where
-    the-entries : (run (many count (an_entry w)) s (at + 1) ≡ done f.value.entries f.end) × (list_is w b f.value.entries ≡ f.value)
-    the-entries =
-        let (l, e, q) = as-done (list_is w b) (run (many count (an_entry w)) s (at + 1)) (sym (entries-so w s at list_done x y) ∙ f.reads) in
+    the_entries : (run (many count (an_entry w)) s (at + 1) ≡ done f.value.entries f.end) × (list_is w b f.value.entries ≡ f.value)
+    the_entries =
+        let (l, e, q) = as_done (list_is w b) (run (many count (an_entry w)) s (at + 1)) (sym (entries_so w s at list_done x y) ∙ f.reads) in
         let z : l ≡ f.value.entries = ap (λ (d : Labels). d.entries) q in
         (e ∙ ap (λ (l : List Borne). done l f.end) z, ap (list_is w b) (sym z) ∙ q)
 
-    pub list-room : first * 4 + 4 * count ≤ length t
-    list-room = omega (arith, f.room, many-long (an_entry w) s count (at + 1) f.value.entries f.end the-entries.0)
+    pub list_room : first * 4 + 4 * count ≤ length t
+    list_room = omega (arith, f.room, many_long (an_entry w) s count (at + 1) f.value.entries f.end the_entries.0)
 
-    pub list-taken : {r n : ℕ} {after : List ℕ} → r ≡ part w (8 - w) b → n ≡ pos_of (run (many count (an_entry w)) s (at + 1))
+    pub list_taken : {r n : ℕ} {after : List ℕ} → r ≡ part w (8 - w) b → n ≡ pos_of (run (many count (an_entry w)) s (at + 1))
         → after ≡ sets t (first * 4) (flat_map (borne_row (label w)) (rows_of (run (many count (an_entry w)) s (at + 1))))
         → Nested (labels w) 4 list_from (λ d. flat_map (borne_row (label w)) d.entries) s at first t (descriptions r (range first count)) n after
-    list-taken u v z =
-        let (e, q) = the-entries in
+    list_taken u v z =
+        let (e, q) = the_entries in
         record {
           value = f.value;
           end = f.end;

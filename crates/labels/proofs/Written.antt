@@ -19,12 +19,12 @@ use Rattle.wire.specs.declared.pen.Fault.TheVariants as F
 use Rattle.wire.specs.declared.pen.Pen.{Pen}
 use Rattle.wire.specs.declared.pen.Pen.TheVariants.{At, Stop}
 use Rattle.wire.specs.declared.rows.Range.{Range}
-use Rattle.wire.proofs.Writing.Acts.{and_both, both-and}
-use Rattle.wire.proofs.Fields.{fits-cons, fit-one}
-use Rattle.wire.proofs.Writing.Passes.{then, stopped, here, byte_fits, rows-turn, Filling, fill_start, fill-row, fill-turn, fill-last}
+use Rattle.wire.proofs.Writing.Acts.{and_both, both_and}
+use Rattle.wire.proofs.Fields.{fits_cons, fit_one}
+use Rattle.wire.proofs.Writing.Passes.{then, stopped, here, byte_fits, rows_turn, Filling, fill_start, fill_row_lem, fill_turn, fill_last}
 use Rattle.wire.proofs.Writing.Passes as P
-use Rattle.wire.proofs.Writing.Plain.{Going, going-turn, going-odd, plain-odd, plain_end, rows-from, all-checked, filled-long, ready-part, fill-part, line_acts, line_plain, line-odd, line-checked}
-use Rattle.wire.proofs.Layouts.Bearers.{head_acts, payload_acts, bear-checked, bear-plain, bear-odd, bear-inside, bear-filling, size-ready, bytes-room, bytes-filled}
+use Rattle.wire.proofs.Writing.Plain.{Going, going_turn, going_odd, plain_odd, plain_end, rows_from_lem, all_checked, filled_long, ready_part, fill_part_lem, line_acts, line_plain, line_odd, line_checked}
+use Rattle.wire.proofs.Layouts.Bearers.{head_acts, payload_acts, bear_checked, bear_plain, bear_odd, bear_inside, bear_filling, size_ready, bytes_room, bytes_filled}
 use Rattle.labels.specs.Layout.{label}
 use Rattle.labels.specs.Rows.{entry_cols, entry_of}
 use Rattle.labels.specs.Write.{id_byte, entry_acts, row_acts, count_byte, entries_acts, list_acts}
@@ -38,53 +38,53 @@ size e = e.«data».length
 
 module _ (w : ℕ) (e : TextLabelEntry) where
   -- no demand of its head can fail
-  head-so : head_acts (label w) (entry_cols e) ≡ line_acts (id_byte w e ∷ [])
+  head_so : head_acts (label w) (entry_cols e) ≡ line_acts (id_byte w e ∷ [])
   unfolding writes shown cells matches matched every flatten
-  head-so = refl
+  head_so = refl
 
   module _ {v : ℕ} (s : Spells (id_byte w e) v) where
     -- where the check pass stands
     module _ {n : ℕ} (h : n < 2 ^ 30) {inside : Bool} {p₀ p₁ : Pen} (w₀ : Checked (demand F.Range inside ∷ []) 0 (At n) p₀) (w₁ : ChecksAll true (v ∷ []) p₀ p₁) where
-      pub id-reach : reach p₁ < 2 ^ 32
-      id-reach = omega (arith, w₀.near, (w₁.of (id_byte w e ∷ []) (more s none)).near)
+      pub id_reach : reach p₁ < 2 ^ 32
+      id_reach = omega (arith, w₀.near, (w₁.of (id_byte w e ∷ []) (more s none)).near)
 
-      pub length-reach : {fits : Bool} {p₂ : Pen} → fits ≡ ltb (size e) 256 → CheckedByte fits p₁ p₂ → reach p₂ < 2 ^ 32
-      length-reach f w₂ = omega (arith, w₀.near, (w₁.of (id_byte w e ∷ []) (more s none)).near, (w₂.of (field 8 (size e) ∷ []) (f ∙ fit-one 8 (size e))).near)
+      pub length_reach : {fits : Bool} {p₂ : Pen} → fits ≡ ltb (size e) 256 → CheckedByte fits p₁ p₂ → reach p₂ < 2 ^ 32
+      length_reach f w₂ = omega (arith, w₀.near, (w₁.of (id_byte w e ∷ []) (more s none)).near, (w₂.of (field 8 (size e) ∷ []) (f ∙ fit_one 8 (size e))).near)
 
     -- what the quick test says of its head
     head_plain : ltb v 65536 ≡ true → Quick (head_acts (label w) (entry_cols e)) 1 1
     unfolding fit_all
-    head_plain z = line_plain _ (id_byte w e ∷ []) head-so (both-and (sym s.fits ∙ z) refl) (omega arith)
+    head_plain z = line_plain _ (id_byte w e ∷ []) head_so (both_and (sym s.fits ∙ z) refl) (omega arith)
 
-    head-odd : ltb v 65536 ≡ false → Quick (head_acts (label w) (entry_cols e)) 1 0
+    head_odd : ltb v 65536 ≡ false → Quick (head_acts (label w) (entry_cols e)) 1 0
     unfolding fit_all
-    head-odd z = line-odd _ (id_byte w e ∷ []) head-so (ap (λ (b : Bool). b && true) (sym s.fits ∙ z))
+    head_odd z = line_odd _ (id_byte w e ∷ []) head_so (ap (λ (b : Bool). b && true) (sym s.fits ∙ z))
 
 module _ (w : ℕ) (store : List ℕ) (e : TextLabelEntry) {v : ℕ} (s : Spells (id_byte w e) v) where
   abbrev in_store : Bool
   in_store = leb (e.«data».offset + size e) (length store)
 
-  pub entry-checked : {inside fits : Bool} {n : ℕ} {p₀ p₁ p₂ r : Pen} → inside ≡ in_store → Checked (demand F.Range inside ∷ []) 0 (At n) p₀ → ChecksAll true (v ∷ []) p₀ p₁
+  pub entry_checked : {inside fits : Bool} {n : ℕ} {p₀ p₁ p₂ r : Pen} → inside ≡ in_store → Checked (demand F.Range inside ∷ []) 0 (At n) p₀ → ChecksAll true (v ∷ []) p₀ p₁
       → fits ≡ ltb (size e) 256 → CheckedByte fits p₁ p₂ → CheckedRun (size e) p₂ r → Checked (entry_acts w store e) 257 (At n) r
-  entry-checked {p₂ = p₂} i w₀ w₁ f w₂ w₃ =
-      bear-checked (label w) store (entry_cols e) p₂ i w₀ (line-checked _ (id_byte w e ∷ []) (head-so w e) (more s none) w₁)
-      (w₂.of (field 8 (size e) ∷ []) (f ∙ fit-one 8 (size e))) w₃
+  entry_checked {p₂ = p₂} i w₀ w₁ f w₂ w₃ =
+      bear_checked (label w) store (entry_cols e) p₂ i w₀ (line_checked _ (id_byte w e ∷ []) (head_so w e) (more s none) w₁)
+      (w₂.of (field 8 (size e) ∷ []) (f ∙ fit_one 8 (size e))) w₃
 
   -- the quick test
   module _ {inside fits : Bool} (i : inside ≡ in_store) (f : fits ≡ ltb (size e) 256) where
-    pub entry-plain : inside && (ltb v 65536 && fits) ≡ true → Quick (entry_acts w store e) 257 (2 + size e)
-    entry-plain q =
+    pub entry_plain : inside && (ltb v 65536 && fits) ≡ true → Quick (entry_acts w store e) 257 (2 + size e)
+    entry_plain q =
         let (a, b) = and_both inside _ q in
         let (z, y) = and_both (ltb v 65536) fits b in
         let n : 1 + (1 + size e) ≡ 2 + size e = omega arith in
-        subst (λ (k : ℕ). Quick (entry_acts w store e) 257 k) n (bear-plain (label w) store (entry_cols e) i (head_plain w e s z) (both-and a (sym f ∙ y)))
+        subst (λ (k : ℕ). Quick (entry_acts w store e) 257 k) n (bear_plain (label w) store (entry_cols e) i (head_plain w e s z) (both_and a (sym f ∙ y)))
 
-    pub entry-odd : inside && (ltb v 65536 && fits) ≡ false → Quick (entry_acts w store e) 257 0
-    entry-odd q = go (ltb v 65536) refl q
+    pub entry_odd : inside && (ltb v 65536 && fits) ≡ false → Quick (entry_acts w store e) 257 0
+    entry_odd q = go (ltb v 65536) refl q
       where
         go : (t : Bool) → ltb v 65536 ≡ t → inside && (t && fits) ≡ false → Quick (entry_acts w store e) 257 0
-        go true z q = bear-odd (label w) store (entry_cols e) i (head_plain w e s z) (ap (λ (b : Bool). inside && b) (sym f) ∙ q)
-        go false z q = bear-odd (label w) store (entry_cols e) i (head-odd w e s z) q
+        go true z q = bear_odd (label w) store (entry_cols e) i (head_plain w e s z) (ap (λ (b : Bool). inside && b) (sym f) ∙ q)
+        go false z q = bear_odd (label w) store (entry_cols e) i (head_odd w e s z) q
 
   -- the fill pass
   module _ {n : ℕ} {l : List ℕ} (x : Ready (entry_acts w store e) n l) where
@@ -93,30 +93,30 @@ module _ (w : ℕ) (store : List ℕ) (e : TextLabelEntry) {v : ℕ} (s : Spells
 
     begun : Filling (entry_acts w store e) (map byte (id_byte w e ∷ []) ++ behind_id) n l n l
     unfolding writes
-    begun = bear-filling (label w) store (entry_cols e) x
+    begun = bear_filling (label w) store (entry_cols e) x
 
-    pub id-ready : ReadyAll true (v ∷ []) n l
-    id-ready = ready-part behind_id {there = true} (more s none) begun
+    pub id_ready : ReadyAll true (v ∷ []) n l
+    id_ready = ready_part behind_id {there = true} (more s none) begun
 
     pub label_inside : e.«data».offset + size e ≤ length store
-    label_inside = bear-inside (label w) store (entry_cols e) x
+    label_inside = bear_inside (label w) store (entry_cols e) x
 
     module _ {n₁ : ℕ} {o₁ : List ℕ} (y : FillsAll true (v ∷ []) n l n₁ o₁) where
       left : Filling (entry_acts w store e) behind_id n l n₁ o₁
-      left = fill-part behind_id {there = true} (more s none) begun y
+      left = fill_part_lem behind_id {there = true} (more s none) begun y
 
-      pub length-fits : size e < 256
-      length-fits = (size-ready (label w) store (entry_cols e) left).0
+      pub length_fits : size e < 256
+      length_fits = (size_ready (label w) store (entry_cols e) left).0
 
-      pub length-room : n₁ < length o₁
-      length-room = (size-ready (label w) store (entry_cols e) left).1
+      pub length_room : n₁ < length o₁
+      length_room = (size_ready (label w) store (entry_cols e) left).1
 
       module _ {n₂ : ℕ} {o₂ : List ℕ} (z : (n₂ ≡ n₁ + 1) × (o₂ ≡ set o₁ n₁ (size e))) where
-        pub label-room : n₂ + size e ≤ length o₂
-        label-room = bytes-room (label w) store (entry_cols e) left z label_inside
+        pub label_room : n₂ + size e ≤ length o₂
+        label_room = bytes_room (label w) store (entry_cols e) left z label_inside
 
-        pub entry-filled : {r : ℕ} {o : List ℕ} → Filled (copy (slice e.«data».offset (e.«data».offset + size e) store) ∷ []) n₂ o₂ r o → Filled (entry_acts w store e) n l r o
-        entry-filled k = bytes-filled (label w) store (entry_cols e) left z k
+        pub entry_filled : {r : ℕ} {o : List ℕ} → Filled (copy (slice e.«data».offset (e.«data».offset + size e) store) ∷ []) n₂ o₂ r o → Filled (entry_acts w store e) n l r o
+        entry_filled k = bytes_filled (label w) store (entry_cols e) left z k
 
 -- ---- the rows of a list
 
@@ -132,82 +132,82 @@ module _ (w : ℕ) (t store : List ℕ) where
   unfolding writes shown cells matches matched every flatten
   row_same i = rw add-zero
 
-  row-acts : (i : ℕ) {e : TextLabelEntry} → e ≡ entry_of t (i * 4) → entry_acts w store e ≡ row_acts w t store i
-  row-acts i q = ap (entry_acts w store) q ∙ row_same i
+  row_acts_lem : (i : ℕ) {e : TextLabelEntry} → e ≡ entry_of t (i * 4) → entry_acts w store e ≡ row_acts w t store i
+  row_acts_lem i q = ap (entry_acts w store) q ∙ row_same i
 
   -- tested: what is said of row i of the list
   module _ (first : ℕ) {count i bytes : ℕ} (g : Going (λ j. row_acts w t store (first + j)) 257 count i bytes)
       {e : TextLabelEntry} (q : e ≡ entry_of t ((first + i) * 4)) {k : ℕ} (x : Quick (entry_acts w store e) 257 k) where
     quick : Quick (row_acts w t store (first + i)) 257 k
-    quick = subst (λ (a : List Act). Quick a 257 k) (row-acts (first + i) q) x
+    quick = subst (λ (a : List Act). Quick a 257 k) (row_acts_lem (first + i) q) x
 
     pub row_plain : i < count → (k ≡ 0 → ⊥) → Going (λ j. row_acts w t store (first + j)) 257 count (i + 1) (bytes + k)
-    row_plain h z = going-turn g quick h (omega (arith, z))
+    row_plain h z = going_turn g quick h (omega (arith, z))
 
-    pub row-odd : k ≡ 0 → PlainRows (λ j. row_acts w t store (first + j)) 257 count i bytes
-    row-odd z = going-odd g quick z
+    pub row_odd : k ≡ 0 → PlainRows (λ j. row_acts w t store (first + j)) 257 count i bytes
+    row_odd z = going_odd g quick z
 
   -- checked: where the test left off
   module _ (r : Range) (n : ℕ) {i bytes : ℕ} (v : PlainRows (λ j. row_acts w t store (r.first + j)) 257 r.count i bytes) where
-    pub entries-odd : i < r.count → {e : TextLabelEntry} → e ≡ entry_of t ((r.first + i) * 4) → {p : Pen} → Checked (entry_acts w store e) 257 (At (n + bytes)) p
+    pub entries_odd : i < r.count → {e : TextLabelEntry} → e ≡ entry_of t ((r.first + i) * 4) → {p : Pen} → Checked (entry_acts w store e) 257 (At (n + bytes)) p
         → Checked (entries_acts w t store r) (257 * r.count) (At n) p
-    entries-odd h q {p} x =
-        let c = subst (λ (a : List Act). Checked a 257 (At (n + bytes)) p) (row-acts (r.first + i) q) x in
-        rw (rows-from (row_acts w t store) r.first r.count) (plain-odd _ 257 r.count n v h c)
+    entries_odd h q {p} x =
+        let c = subst (λ (a : List Act). Checked a 257 (At (n + bytes)) p) (row_acts_lem (r.first + i) q) x in
+        rw (rows_from_lem (row_acts w t store) r.first r.count) (plain_odd _ 257 r.count n v h c)
 
-    pub entries-plain : r.count ≤ i → Checked (entries_acts w t store r) (257 * r.count) (At n) (At (n + bytes))
-    entries-plain h = rw (rows-from (row_acts w t store) r.first r.count) (plain_end _ 257 r.count n v h)
+    pub entries_plain : r.count ≤ i → Checked (entries_acts w t store r) (257 * r.count) (At n) (At (n + bytes))
+    entries_plain h = rw (rows_from_lem (row_acts w t store) r.first r.count) (plain_end _ 257 r.count n v h)
 
   -- filled: what is left from row i on
   module _ {all : List Act} {n₀ : ℕ} {l : List ℕ} {i end n : ℕ} {o : List ℕ} (f : Filling all (rows (row_acts w t store) i (end - i)) n₀ l n o)
       (h : i < end) {e : TextLabelEntry} (q : e ≡ entry_of t (i * 4)) where
     turn : rows (row_acts w t store) i (end - i) ≡ entry_acts w store e ++ rows (row_acts w t store) (i + 1) (end - (i + 1))
-    turn = rows-turn (row_acts w t store) i end h ∙ ap (λ (a : List Act). a ++ rows (row_acts w t store) (i + 1) (end - (i + 1))) (sym (row-acts i q))
+    turn = rows_turn (row_acts w t store) i end h ∙ ap (λ (a : List Act). a ++ rows (row_acts w t store) (i + 1) (end - (i + 1))) (sym (row_acts_lem i q))
 
-    pub row-ready : Ready (entry_acts w store e) n o
-    row-ready = fill-row (entry_acts w store e) _ f turn
+    pub row_ready : Ready (entry_acts w store e) n o
+    row_ready = fill_row_lem (entry_acts w store e) _ f turn
 
-    pub row-filled : {r : ℕ} {o' : List ℕ} → Filled (entry_acts w store e) n o r o' → Filling all (rows (row_acts w t store) (i + 1) (end - (i + 1))) n₀ l r o'
-    row-filled x = fill-turn f turn (filled-long x) x
+    pub row_filled : {r : ℕ} {o' : List ℕ} → Filled (entry_acts w store e) n o r o' → Filling all (rows (row_acts w t store) (i + 1) (end - (i + 1))) n₀ l r o'
+    row_filled x = fill_turn f turn (filled_long x) x
 
 -- ---- a list
 
 module _ (w : ℕ) (d : Descriptions) {v : ℕ} (s : Spells (count_byte w d) v) {p p₁ : Pen} (c : ChecksAll true (v ∷ []) p p₁) where
   counted : Checked (byte (count_byte w d) ∷ []) 1 p p₁
-  counted = all-checked (more s none) c
+  counted = all_checked (more s none) c
 
   module _ {n : ℕ} (q : p₁ ≡ At n) where
     pub count_fits : d.entries.count < 2 ^ w
-    count_fits = (fits-cons w _ [] (fits-cons _ _ _ (byte_fits p counted q)).1).0
+    count_fits = (fits_cons w _ [] (fits_cons _ _ _ (byte_fits p counted q)).1).0
 
-    pub count-reach : reach p < 2 ^ 28 → n < 2 ^ 29
-    count-reach h = let k : n ≤ reach p + 1 = rw q at counted.near in omega (arith, h, k)
+    pub count_reach : reach p < 2 ^ 28 → n < 2 ^ 29
+    count_reach h = let k : n ≤ reach p + 1 = rw q at counted.near in omega (arith, h, k)
 
 module _ (w : ℕ) (t store : List ℕ) (d : Descriptions) {v : ℕ} (s : Spells (count_byte w d) v) where
   module _ {p p₁ : Pen} (c : ChecksAll true (v ∷ []) p p₁) where
-    pub count-stops : {f : Fault} {n : ℕ} → p₁ ≡ Stop f n → Checked (list_acts w t store d) (1 + 257 * (2 ^ w - 1)) p p₁
+    pub count_stops : {f : Fault} {n : ℕ} → p₁ ≡ Stop f n → Checked (list_acts w t store d) (1 + 257 * (2 ^ w - 1)) p p₁
     unfolding list_acts
-    count-stops q = then (counted w d s c) (stopped (entries_acts w t store d.entries) _ q)
+    count_stops q = then (counted w d s c) (stopped (entries_acts w t store d.entries) _ q)
 
-    pub list-checked : {n : ℕ} {r : Pen} → p₁ ≡ At n → Checked (entries_acts w t store d.entries) (257 * d.entries.count) (At n) r
+    pub list_checked : {n : ℕ} {r : Pen} → p₁ ≡ At n → Checked (entries_acts w t store d.entries) (257 * d.entries.count) (At n) r
         → Checked (list_acts w t store d) (1 + 257 * (2 ^ w - 1)) p r
     unfolding list_acts
-    list-checked q x = P.more _ (then (counted w d s c) (here q x)) (omega (arith, count_fits w d s c q))
+    list_checked q x = P.more _ (then (counted w d s c) (here q x)) (omega (arith, count_fits w d s c q))
 
   module _ {n : ℕ} {l : List ℕ} (x : Ready (list_acts w t store d) n l) where
     all_left : Filling (list_acts w t store d) (map byte (count_byte w d ∷ []) ++ entries_acts w t store d.entries) n l n l
     unfolding list_acts
     all_left = fill_start x
 
-    pub count-ready : ReadyAll true (v ∷ []) n l
-    count-ready = ready-part (entries_acts w t store d.entries) {there = true} (more s none) all_left
+    pub count_ready : ReadyAll true (v ∷ []) n l
+    count_ready = ready_part (entries_acts w t store d.entries) {there = true} (more s none) all_left
 
     module _ {n₁ : ℕ} {o₁ : List ℕ} (y : FillsAll true (v ∷ []) n l n₁ o₁) where
-      entries-left : Filling (list_acts w t store d) (entries_acts w t store d.entries) n l n₁ o₁
-      entries-left = fill-part (entries_acts w t store d.entries) {there = true} (more s none) all_left y
+      entries_left : Filling (list_acts w t store d) (entries_acts w t store d.entries) n l n₁ o₁
+      entries_left = fill_part_lem (entries_acts w t store d.entries) {there = true} (more s none) all_left y
 
-      pub entries-ready : Ready (entries_acts w t store d.entries) n₁ o₁
-      entries-ready = entries-left.ready
+      pub entries_ready : Ready (entries_acts w t store d.entries) n₁ o₁
+      entries_ready = entries_left.ready
 
-      pub list-filled : {r : ℕ} {o : List ℕ} → Filled (entries_acts w t store d.entries) n₁ o₁ r o → Filled (list_acts w t store d) n l r o
-      list-filled z = fill-last entries-left z
+      pub list_filled : {r : ℕ} {o : List ℕ} → Filled (entries_acts w t store d.entries) n₁ o₁ r o → Filled (list_acts w t store d) n l r o
+      list_filled z = fill_last entries_left z

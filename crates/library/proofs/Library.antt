@@ -12,14 +12,14 @@ pub library : Library
 library = record {
   base = Base.claims;
   scene = Scene.claims;
-  text-label = TextLabel.claims;
-  multi-stream = MultiStream.claims;
-  drc-loudness = DrcLoudness.claims;
+  text_label = TextLabel.claims;
+  multi_stream = MultiStream.claims;
+  drc_loudness = DrcLoudness.claims;
   told = N.told;
-  base-fixed = Base.fixed;
-  scene-fixed = Scene.fixed;
-  text-label-fixed = TextLabel.fixed;
-  multi-stream-fixed = MultiStream.fixed;
-  drc-loudness-fixed = DrcLoudness.fixed;
+  base_fixed = Base.fixed;
+  scene_fixed = Scene.fixed;
+  text_label_fixed = TextLabel.fixed;
+  multi_stream_fixed = MultiStream.fixed;
+  drc_loudness_fixed = DrcLoudness.fixed;
   starred = S.starred;
 }

@@ -2,7 +2,7 @@
 use mathlib.Core.List.{flatten, flat_map}
 use mathlib.Core.Path.{refl}
 use lib.Count.{ones, ones_in}
-use Rattle.wire.proofs.Lists.{every-each}
+use Rattle.wire.proofs.Lists.{every_each}
 use Rattle.wire.specs.Bits.{split, total}
 use Rattle.wire.specs.Layout.{put, puts, reads, shown, cells, tally, has}
 use Rattle.wire.specs.Lists.{each, sum, firsts}
@@ -29,7 +29,7 @@ use Rattle.library.specs.Starred.{Holds, starred as stars, Starred}
 pub starred : Starred
 unfolding reading tallying onto into judging placing run u8 pass many ◌>>=◌ needs first_table other_tables room lacking filled flatten flat_map sum firsts ones ones_in Base.kind BaseLayout.head each split total put puts reads shown cells tally SceneLayout.groups SceneLayout.switch_group_list SceneLayout.presets Body.layouts Body.carried Body.parse Body.with_place Body.tables Body.zeros Scene.kind TextLabel.kind TextLabelLayout.head TextLabelLayout.groups TextLabelLayout.switch_group_list TextLabelLayout.presets ranged MultiStream.kind MultiStreamLayout.head StreamGroups.group has Scopes.scope Pairs.pair Downmixes.downmix DrcLayout.head Drc.kind
 starred = record {
-  all = every-each Holds stars (
+  all = every_each Holds stars (
     record { reads = refl; tallies = refl },
     (
       record { reads = refl; tallies = refl },

@@ -17,16 +17,16 @@ pub record Library : Type 0 where
   -- the three conditions of the tender, and document 01
   pub base : Claims Base.kind
   pub scene : Claims Scene.kind
-  pub text-label : Claims TextLabel.kind
-  pub multi-stream : Claims MultiStream.kind
-  pub drc-loudness : Claims DrcLoudness.kind
+  pub text_label : Claims TextLabel.kind
+  pub multi_stream : Claims MultiStream.kind
+  pub drc_loudness : Claims DrcLoudness.kind
   -- document 01's number and values of each case of an answer
   pub told : Told
   -- no second answer of the code meets a contract
-  pub base-fixed : Fixed Base.kind BaseCode.read BaseCode.measured
-  pub scene-fixed : Fixed Scene.kind SceneCode.read SceneCode.measured
-  pub text-label-fixed : Fixed TextLabel.kind TextLabelCode.read TextLabelCode.measured
-  pub multi-stream-fixed : Fixed MultiStream.kind MultiStreamCode.read MultiStreamCode.measured
-  pub drc-loudness-fixed : Fixed DrcLoudness.kind DrcLoudnessCode.read DrcLoudnessCode.measured
+  pub base_fixed : Fixed Base.kind BaseCode.read BaseCode.measured
+  pub scene_fixed : Fixed Scene.kind SceneCode.read SceneCode.measured
+  pub text_label_fixed : Fixed TextLabel.kind TextLabelCode.read TextLabelCode.measured
+  pub multi_stream_fixed : Fixed MultiStream.kind MultiStreamCode.read MultiStreamCode.measured
+  pub drc_loudness_fixed : Fixed DrcLoudness.kind DrcLoudnessCode.read DrcLoudnessCode.measured
   -- document 01's thirteen starred bodies, one list
   pub starred : Starred

@@ -24,9 +24,9 @@ use Rattle.drc_kind.specs.Kind as DrcLoudness
 pub data Star : Type 0 where
   base : List ℕ → Answer MpegH3dAudio → Answer ℕ → Star
   scene : List ℕ → Lent → Answer MpegH3dAudioScene → Lent → Answer ℕ → Star
-  text-label : List ℕ → Lent → Answer MpegH3dAudioTextLabel → Lent → Answer ℕ → Star
-  multi-stream : List ℕ → Lent → Answer MpegH3dAudioMultiStream → Lent → Answer ℕ → Star
-  drc-loudness : List ℕ → Lent → Answer MpegH3dAudioDrcLoudness → Lent → Answer ℕ → Star
+  text_label : List ℕ → Lent → Answer MpegH3dAudioTextLabel → Lent → Answer ℕ → Star
+  multi_stream : List ℕ → Lent → Answer MpegH3dAudioMultiStream → Lent → Answer ℕ → Star
+  drc_loudness : List ℕ → Lent → Answer MpegH3dAudioDrcLoudness → Lent → Answer ℕ → Star
 
 -- the entry points answer so
 pub record Answers {Tree Top Value : Type 0} (K : Kind Tree Top Value) (body : List ℕ) (lent : Lent) (read : Answer Top) (after : Lent) (tally : Answer ℕ) : Type 0 where
@@ -36,9 +36,9 @@ pub record Answers {Tree Top Value : Type 0} (K : Kind Tree Top Value) (body : L
 abbrev pub Holds : Star → Type 0
 Holds (base body read tally) = Answers Base.kind body [] read [] tally
 Holds (scene body lent read after tally) = Answers Scene.kind body lent read after tally
-Holds (text-label body lent read after tally) = Answers TextLabel.kind body lent read after tally
-Holds (multi-stream body lent read after tally) = Answers MultiStream.kind body lent read after tally
-Holds (drc-loudness body lent read after tally) = Answers DrcLoudness.kind body lent read after tally
+Holds (text_label body lent read after tally) = Answers TextLabel.kind body lent read after tally
+Holds (multi_stream body lent read after tally) = Answers MultiStream.kind body lent read after tally
+Holds (drc_loudness body lent read after tally) = Answers DrcLoudness.kind body lent read after tally
 
 -- a table of so many columns, all 9: a column or more than the rows that are filled
 abbrev pub nines : ℕ → List ℕ
@@ -63,13 +63,13 @@ starred =
     ∷ scene (0x40 ∷ 0x00 ∷ 0x01 ∷ 0x02 ∷ 0x00 ∷ 0x85 ∷ []) (five (nines 10) (nines 3)) (refuses 1 (7 ∷ [])) (five (nines 10) (nines 3)) (refuses 1 (7 ∷ []))
     ∷ scene (0x40 ∷ 0x00 ∷ 0x01 ∷ 0x02 ∷ 0x00 ∷ 0x85 ∷ 0x05 ∷ []) (five (nines 10) (nines 3)) (accepted one_member) (five (one_switch_group (nines 1)) (member5 (nines 1)))
     (accepted 13)
-    ∷ text-label (0x07 ∷ 0xF1 ∷ 0x65 ∷ 0x6E ∷ 0x67 ∷ 0x80 ∷ 0xE0 ∷ 0xE1 ∷ 0xE2 ∷ 0x02 ∷ 0x48 ∷ 0x69 ∷ []) (nines 13 ∷ nines 6 ∷ []) (accepted one_preset)
+    ∷ text_label (0x07 ∷ 0xF1 ∷ 0x65 ∷ 0x6E ∷ 0x67 ∷ 0x80 ∷ 0xE0 ∷ 0xE1 ∷ 0xE2 ∷ 0x02 ∷ 0x48 ∷ 0x69 ∷ []) (nines 13 ∷ nines 6 ∷ []) (accepted one_preset)
     (english (nines 1) ∷ preset2 (nines 2) ∷ []) (accepted 0)
-    ∷ multi-stream (0x81 ∷ 0x80 ∷ 0x82 ∷ 0x07 ∷ 0x08 ∷ 0x85 ∷ []) (nines 11 ∷ []) (accepted two_groups) (two_rows (nines 1) ∷ []) (accepted 0)
-    ∷ drc-loudness (0x01 ∷ 0x01 ∷ 0x00 ∷ 0x00 ∷ 0x01 ∷ 0x00 ∷ 0x00 ∷ 0x00 ∷ 0x00 ∷ 0x00 ∷ []) (four (nines 25) (nines 1)) (accepted one_instruction)
+    ∷ multi_stream (0x81 ∷ 0x80 ∷ 0x82 ∷ 0x07 ∷ 0x08 ∷ 0x85 ∷ []) (nines 11 ∷ []) (accepted two_groups) (two_rows (nines 1) ∷ []) (accepted 0)
+    ∷ drc_loudness (0x01 ∷ 0x01 ∷ 0x00 ∷ 0x00 ∷ 0x01 ∷ 0x00 ∷ 0x00 ∷ 0x00 ∷ 0x00 ∷ 0x00 ∷ []) (four (nines 25) (nines 1)) (accepted one_instruction)
     (four (plain_scope (nines 1)) (nines 1)) (accepted 26)
-    ∷ drc-loudness (0x01 ∷ 0x00 ∷ 0x01 ∷ 0x00 ∷ 0x01 ∷ 0x85 ∷ 0x00 ∷ []) (four (nines 1) (nines 8)) (accepted one_entry) (four (nines 1) (group_scope (nines 1))) (accepted 20)
-    ∷ drc-loudness (0x00 ∷ []) (four (nines 1) (nines 1)) (accepted info_absent) (four (nines 1) (nines 1)) (accepted 7)
+    ∷ drc_loudness (0x01 ∷ 0x00 ∷ 0x01 ∷ 0x00 ∷ 0x01 ∷ 0x85 ∷ 0x00 ∷ []) (four (nines 1) (nines 8)) (accepted one_entry) (four (nines 1) (group_scope (nines 1))) (accepted 20)
+    ∷ drc_loudness (0x00 ∷ []) (four (nines 1) (nines 1)) (accepted info_absent) (four (nines 1) (nines 1)) (accepted 7)
     ∷ []
 
 -- the claim

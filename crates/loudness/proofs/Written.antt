@@ -17,10 +17,10 @@ use Rattle.wire.specs.declared.pen.Fault.TheVariants as F
 use Rattle.wire.specs.declared.pen.Pen.{Pen}
 use Rattle.wire.specs.declared.pen.Pen.TheVariants.{At}
 use Rattle.wire.specs.declared.rows.Payload.{Payload}
-use Rattle.wire.proofs.Fields.{fit-one}
-use Rattle.wire.proofs.Writing.Passes.{then, more, Filling, fill-demand, fill-row, fill-turn}
-use Rattle.wire.proofs.Writing.Plain.{met, filled-long}
-use Rattle.wire.proofs.Layouts.Bearers.{head_acts, payload_acts, bear-checked, bear-plain, bear-odd, bear-inside, bear-filling, size-ready, bytes-room, bytes-filled, bear-acts}
+use Rattle.wire.proofs.Fields.{fit_one}
+use Rattle.wire.proofs.Writing.Passes.{then, more, Filling, fill_demand, fill_row_lem, fill_turn}
+use Rattle.wire.proofs.Writing.Plain.{met, filled_long}
+use Rattle.wire.proofs.Layouts.Bearers.{head_acts, payload_acts, bear_checked, bear_plain, bear_odd, bear_inside, bear_filling, size_ready, bytes_room, bytes_filled, bear_acts}
 use Rattle.scopes.specs.Layout.{scope}
 use Rattle.scopes.specs.Rows.{scope_row, scope_is, scoped}
 use Rattle.scopes.specs.Write.{scope_acts, scope_bytes}
@@ -36,37 +36,37 @@ abbrev made : ℕ → DrcScope → Payload → LoudnessInfoEntry
 made rt c p = record { reserved_type = rt; scope = c; loudness_info = p }
 
 -- no flag and no list is in a scope, so its demands are the first
-head-so : (rt : ℕ) (c : DrcScope) (p : Payload) → head_acts entry (entry_cols (made rt c p)) ≡ demand F.Field true ∷ demand F.Empty true ∷ scope_acts types rt c
+head_so : (rt : ℕ) (c : DrcScope) (p : Payload) → head_acts entry (entry_cols (made rt c p)) ≡ demand F.Field true ∷ demand F.Empty true ∷ scope_acts types rt c
 unfolding writes shown cells matches matched every scope flatten
-head-so rt (Plain k) p = refl
-head-so rt (Group k r i) p = refl
-head-so rt (Preset r i) p = refl
-head-so rt Unknown p = refl
+head_so rt (Plain k) p = refl
+head_so rt (Group k r i) p = refl
+head_so rt (Preset r i) p = refl
+head_so rt Unknown p = refl
 
 -- its bytes, behind the demand that its fields fit
 abbrev judged_act : ℕ → DrcScope → Payload → Act
 judged_act rt c p = demand F.Field (fit (map (field_of (entry_cols (made rt c p))) (shown (scope types) (entry_cols (made rt c p)))))
 
-writes-so : (rt : ℕ) (c : DrcScope) (p : Payload) → writes entry.head (entry_cols (made rt c p)) ≡ judged_act rt c p ∷ scope_bytes rt c
+writes_so : (rt : ℕ) (c : DrcScope) (p : Payload) → writes entry.head (entry_cols (made rt c p)) ≡ judged_act rt c p ∷ scope_bytes rt c
 unfolding writes shown scope
-writes-so rt (Plain k) p = refl
-writes-so rt (Group k r i) p = refl
-writes-so rt (Preset r i) p = refl
-writes-so rt Unknown p = refl
+writes_so rt (Plain k) p = refl
+writes_so rt (Group k r i) p = refl
+writes_so rt (Preset r i) p = refl
+writes_so rt Unknown p = refl
 
 -- a row of table 11 is written as the entry that its columns make
-columns-so : (t : List ℕ) (b : ℕ) → entry_row (entry_of t b) ≡ row 7 (scoped (from t b))
+columns_so : (t : List ℕ) (b : ℕ) → entry_row (entry_of t b) ≡ row 7 (scoped (from t b))
 unfolding each
-columns-so t b =
+columns_so t b =
     let p₀ = sym (add-zero b) in
     let p₂ : b + 1 + 1 ≡ b + 2 = omega arith in
     let p₃ : b + 1 + 2 ≡ b + 3 = omega arith in
     let p₄ : b + 1 + 3 ≡ b + 4 = omega arith in
     λ i. get_or t (p₀ i) 0 ∷ scope_row (scope_is (get_or t (b + 1) 0) (get_or t (p₂ i) 0) (get_or t (p₃ i) 0) (get_or t (p₄ i) 0)) ++ (get_or t (b + 5) 0 ∷ get_or t (b + 6) 0 ∷ [])
 
-pub row-acts : (t store : List ℕ) (i : ℕ) {e : LoudnessInfoEntry} → e ≡ entry_of t (i * 7) → entry_acts store e ≡ row_acts t store i
+pub row_acts_lem : (t store : List ℕ) (i : ℕ) {e : LoudnessInfoEntry} → e ≡ entry_of t (i * 7) → entry_acts store e ≡ row_acts t store i
 unfolding each
-row-acts t store i q = ap (entry_acts store) q ∙ bear-acts entry_bear store (entry_cols (entry_of t (i * 7))) (scoped (at 7 t i)) (columns-so t (i * 7))
+row_acts_lem t store i q = ap (entry_acts store) q ∙ bear_acts entry_bear store (entry_cols (entry_of t (i * 7))) (scoped (at 7 t i)) (columns_so t (i * 7))
 
 module _ (store : List ℕ) (e : LoudnessInfoEntry) where
   abbrev info_length : ℕ
@@ -74,51 +74,51 @@ module _ (store : List ℕ) (e : LoudnessInfoEntry) where
 
   -- ---- the check pass
 
-  pub entry-checked : {inside fits : Bool} {n : ℕ} {p₀ p₁ : Pen} (p₂ : Pen) {r : Pen} → inside ≡ leb (e.loudness_info.offset + info_length) (length store)
+  pub entry_checked : {inside fits : Bool} {n : ℕ} {p₀ p₁ : Pen} (p₂ : Pen) {r : Pen} → inside ≡ leb (e.loudness_info.offset + info_length) (length store)
       → Checked (demand F.Range inside ∷ []) 0 (At n) p₀
       → Checked (scope_acts types e.reserved_type e.scope) 2 p₀ p₁ → fits ≡ ltb info_length 256 → CheckedByte fits p₁ p₂ → CheckedRun info_length p₂ r → Checked (entry_acts store e) 258 (At n) r
-  entry-checked {p₀ = p₀} {p₁} p₂ i w₀ w₁ f w₂ w₃ =
-      let head : Checked (head_acts entry (entry_cols e)) 2 p₀ p₁ = rw (head-so e.reserved_type e.scope e.loudness_info) (more 2 (then (met F.Field p₀) (then (met F.Empty p₀) w₁)) (omega arith)) in
-      bear-checked entry store (entry_cols e) p₂ i w₀ head (w₂.of (field 8 info_length ∷ []) (f ∙ fit-one 8 info_length)) w₃
+  entry_checked {p₀ = p₀} {p₁} p₂ i w₀ w₁ f w₂ w₃ =
+      let head : Checked (head_acts entry (entry_cols e)) 2 p₀ p₁ = rw (head_so e.reserved_type e.scope e.loudness_info) (more 2 (then (met F.Field p₀) (then (met F.Empty p₀) w₁)) (omega arith)) in
+      bear_checked entry store (entry_cols e) p₂ i w₀ head (w₂.of (field 8 info_length ∷ []) (f ∙ fit_one 8 info_length)) w₃
 
   -- ---- the quick test
 
-  met-first : {k : ℕ} → Quick (scope_acts types e.reserved_type e.scope) 2 k → Quick (head_acts entry (entry_cols e)) 2 k
+  met_first : {k : ℕ} → Quick (scope_acts types e.reserved_type e.scope) 2 k → Quick (head_acts entry (entry_cols e)) 2 k
   unfolding looks glance look clean
-  met-first w = rw (head-so e.reserved_type e.scope e.loudness_info) (record { to = λ p n. record { pens = (w.to p n).pens; near = (w.to p n).near }; odd = w.odd })
+  met_first w = rw (head_so e.reserved_type e.scope e.loudness_info) (record { to = λ p n. record { pens = (w.to p n).pens; near = (w.to p n).near }; odd = w.odd })
 
   module _ {inside fits : Bool} {k : ℕ} (i : inside ≡ leb (e.loudness_info.offset + info_length) (length store)) (w : Quick (scope_acts types e.reserved_type e.scope) 2 k) (f : fits ≡ ltb info_length 256) where
-    pub entry-plain : inside && (ltb 0 k && fits) ≡ true → Quick (entry_acts store e) 258 (k + (1 + info_length))
-    entry-plain q = bear-plain entry store (entry_cols e) i (met-first w) (ap (λ (b : Bool). inside && (ltb 0 k && b)) (sym f) ∙ q)
+    pub entry_plain : inside && (ltb 0 k && fits) ≡ true → Quick (entry_acts store e) 258 (k + (1 + info_length))
+    entry_plain q = bear_plain entry store (entry_cols e) i (met_first w) (ap (λ (b : Bool). inside && (ltb 0 k && b)) (sym f) ∙ q)
 
-    pub entry-odd : inside && (ltb 0 k && fits) ≡ false → Quick (entry_acts store e) 258 0
-    entry-odd q = bear-odd entry store (entry_cols e) i (met-first w) (ap (λ (b : Bool). inside && (ltb 0 k && b)) (sym f) ∙ q)
+    pub entry_odd : inside && (ltb 0 k && fits) ≡ false → Quick (entry_acts store e) 258 0
+    entry_odd q = bear_odd entry store (entry_cols e) i (met_first w) (ap (λ (b : Bool). inside && (ltb 0 k && b)) (sym f) ∙ q)
 
   -- ---- the fill pass
 
   module _ {n : ℕ} {l : List ℕ} (w : Ready (entry_acts store e) n l) where
     start : Filling (entry_acts store e) (scope_bytes e.reserved_type e.scope ++ payload_acts entry store (entry_cols e)) n l n l
     start =
-        fill-demand
-        (subst (λ (q : List Act). Filling (entry_acts store e) (q ++ payload_acts entry store (entry_cols e)) n l n l) (writes-so e.reserved_type e.scope e.loudness_info) (bear-filling entry store (entry_cols e) w))
+        fill_demand
+        (subst (λ (q : List Act). Filling (entry_acts store e) (q ++ payload_acts entry store (entry_cols e)) n l n l) (writes_so e.reserved_type e.scope e.loudness_info) (bear_filling entry store (entry_cols e) w))
 
-    pub scope-ready : Ready (scope_bytes e.reserved_type e.scope) n l
-    scope-ready = fill-row (scope_bytes e.reserved_type e.scope) (payload_acts entry store (entry_cols e)) start refl
+    pub scope_ready : Ready (scope_bytes e.reserved_type e.scope) n l
+    scope_ready = fill_row_lem (scope_bytes e.reserved_type e.scope) (payload_acts entry store (entry_cols e)) start refl
 
-    pub info-inside : e.loudness_info.offset + info_length ≤ length store
-    info-inside = bear-inside entry store (entry_cols e) w
+    pub info_inside : e.loudness_info.offset + info_length ≤ length store
+    info_inside = bear_inside entry store (entry_cols e) w
 
     module _ {n₁ : ℕ} {o₁ : List ℕ} (x : Filled (scope_bytes e.reserved_type e.scope) n l n₁ o₁) where
       behind : Filling (entry_acts store e) (payload_acts entry store (entry_cols e)) n l n₁ o₁
-      behind = fill-turn start refl (filled-long x) x
+      behind = fill_turn start refl (filled_long x) x
 
-      pub length-ready : (info_length < 256) × (n₁ < length o₁)
-      length-ready = size-ready entry store (entry_cols e) behind
+      pub length_ready : (info_length < 256) × (n₁ < length o₁)
+      length_ready = size_ready entry store (entry_cols e) behind
 
       module _ {n₂ : ℕ} {o₂ : List ℕ} (y : (n₂ ≡ n₁ + 1) × (o₂ ≡ set o₁ n₁ info_length)) where
-        pub info-room : n₂ + info_length ≤ length o₂
-        info-room = bytes-room entry store (entry_cols e) behind y info-inside
+        pub info_room : n₂ + info_length ≤ length o₂
+        info_room = bytes_room entry store (entry_cols e) behind y info_inside
 
-        pub entry-filled : {r : ℕ} {o : List ℕ} → Filled (copy (slice e.loudness_info.offset (e.loudness_info.offset + info_length) store) ∷ []) n₂ o₂ r o
+        pub entry_filled : {r : ℕ} {o : List ℕ} → Filled (copy (slice e.loudness_info.offset (e.loudness_info.offset + info_length) store) ∷ []) n₂ o₂ r o
             → Filled (entry_acts store e) n l r o
-        entry-filled z = bytes-filled entry store (entry_cols e) behind y z
+        entry_filled z = bytes_filled entry store (entry_cols e) behind y z

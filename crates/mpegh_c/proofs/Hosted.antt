@@ -7,11 +7,11 @@ use lib.ListN.{length}
 use lib.Dec.{leb}
 use lib.Seq.{sets}
 use borrow.Author.Tests.{le-leb, lt-leb, leb-true, leb-false}
-use Rattle.wire.proofs.Reading.Steps.{front-stored}
+use Rattle.wire.proofs.Reading.Steps.{front_stored}
 use Rattle.frame.specs.Numbers.{Numbered, Answer, accepted, refused}
 use Rattle.frame.specs.Kind.{Kind, Lent}
 use Rattle.frame.specs.Entry.{Sizes, Output, leaves, onto, no_room, judging, sizes, measuring, Reads, Measures, Tallies, Writes}
-use Rattle.frame.proofs.Entries.{reads-unmeasured}
+use Rattle.frame.proofs.Entries.{reads_unmeasured}
 use Rattle.mpegh_c.specs.Code.{code, refused_code, answer_code}
 use Rattle.mpegh_c.specs.Host.{Hosted, hosted, fronted, topped, rows_of, hosted_sizes, unread, host_reading, host_measuring, HostReads, HostMeasures, HostTallies, HostWrites}
 
@@ -23,10 +23,10 @@ said n front lent = record { code = n; front = front; tables = lent }
 abbrev pub unroomed : {A : Type 0} → Answer A → Answer ℕ
 unroomed a = elim a [ accepted s ↦ no_room 0 1 | refused x ↦ refused x ]
 
-unroomed-onto : {A B : Type 0} (f : A → B) (a : Answer A) → unroomed (onto f a) ≡ unroomed a
+unroomed_onto : {A B : Type 0} (f : A → B) (a : Answer A) → unroomed (onto f a) ≡ unroomed a
 unfolding onto
-unroomed-onto f (accepted a) = refl
-unroomed-onto f (refused x) = refl
+unroomed_onto f (accepted a) = refl
+unroomed_onto f (refused x) = refl
 
 module _ {Tree Top Value : Type 0} (K : Kind Tree Top Value) where
   -- ---- tallying, writing
@@ -41,37 +41,37 @@ module _ {Tree Top Value : Type 0} (K : Kind Tree Top Value) where
   -- ---- measuring
 
   module _ {body rows : List ℕ} where
-    pub measures-refused : {x : Numbered} {n : ℕ} → Measures K body (refused x) → n ≡ refused_code x → HostMeasures K body rows n rows
+    pub measures_refused : {x : Numbered} {n : ℕ} → Measures K body (refused x) → n ≡ refused_code x → HostMeasures K body rows n rows
     unfolding host_measuring
-    measures-refused w e = record { promised = ap (λ (n : ℕ). said n rows []) e ∙ ap (hosted_sizes rows) w.promised }
+    measures_refused w e = record { promised = ap (λ (n : ℕ). said n rows []) e ∙ ap (hosted_sizes rows) w.promised }
 
     module _ {z : Sizes} (w : Measures K body (accepted z)) where
       -- the slice is too short for the counts
-      pub measures-unroomed : {n : ℕ} → length rows < length (rows_of z.tables) → n ≡ answer_code (no_room 0 1) → HostMeasures K body rows n rows
+      pub measures_unroomed : {n : ℕ} → length rows < length (rows_of z.tables) → n ≡ answer_code (no_room 0 1) → HostMeasures K body rows n rows
       unfolding host_measuring
-      measures-unroomed h e =
+      measures_unroomed h e =
           let q : hosted_sizes rows (accepted z) ≡ hosted (no_room 0 1) rows [] = rw (lt-leb _ _ h, hosted_sizes) refl in
           record { promised = ap (λ (n : ℕ). said n rows []) e ∙ sym q ∙ ap (hosted_sizes rows) w.promised }
 
-      pub measures-sized : {n : ℕ} {after : List ℕ} → length (rows_of z.tables) ≤ length rows → after ≡ sets rows 0 (rows_of z.tables) → n ≡ code 0 z.before
+      pub measures_sized : {n : ℕ} {after : List ℕ} → length (rows_of z.tables) ≤ length rows → after ≡ sets rows 0 (rows_of z.tables) → n ≡ code 0 z.before
           → HostMeasures K body rows n after
       unfolding host_measuring
-      measures-sized h f e =
+      measures_sized h f e =
           let q : hosted_sizes rows (accepted z) ≡ hosted (accepted z.before) (fronted (rows_of z.tables) rows) [] = rw (le-leb _ _ h, hosted_sizes) refl in
-          let g = f ∙ front-stored rows (rows_of z.tables) h in
+          let g = f ∙ front_stored rows (rows_of z.tables) h in
           record { promised = (λ i. said (e i) (g i) []) ∙ sym q ∙ ap (hosted_sizes rows) w.promised }
 
   -- ---- reading
 
-  pub unread-so : {body : List ℕ} {z : Answer Sizes} {n : ℕ} → Measures K body z → n ≡ answer_code (unroomed z) → n ≡ answer_code (unread K body)
+  pub unread_so : {body : List ℕ} {z : Answer Sizes} {n : ℕ} → Measures K body z → n ≡ answer_code (unroomed z) → n ≡ answer_code (unread K body)
   unfolding measuring
-  unread-so {body} w e = e ∙ ap (λ (z : Answer Sizes). answer_code (unroomed z)) w.promised ∙ ap answer_code (unroomed-onto (sizes K) (judging K body))
+  unread_so {body} w e = e ∙ ap (λ (z : Answer Sizes). answer_code (unroomed z)) w.promised ∙ ap answer_code (unroomed_onto (sizes K) (judging K body))
 
   module _ (columns : ℕ) (row : Top → List ℕ) where
     -- the slice is too short for the top record
-    pub reads-unroomed : {body top : List ℕ} {lent : Lent} {n : ℕ} → length top < columns → n ≡ answer_code (unread K body) → HostReads K columns row body top lent n top lent
+    pub reads_unroomed : {body top : List ℕ} {lent : Lent} {n : ℕ} → length top < columns → n ≡ answer_code (unread K body) → HostReads K columns row body top lent n top lent
     unfolding host_reading
-    reads-unroomed {top = top} {lent} h e = record { promised = ap (λ (n : ℕ). said n top lent) e ∙ sym (rw (lt-leb _ _ h, host_reading) refl) }
+    reads_unroomed {top = top} {lent} h e = record { promised = ap (λ (n : ℕ). said n top lent) e ∙ sym (rw (lt-leb _ _ h, host_reading) refl) }
 
     roomy : {body : List ℕ} (top : List ℕ) {lent after : Lent} {r : Answer Top} → columns ≤ length top → Reads K body lent r after
         → topped row top (leaves r after) ≡ host_reading K columns row body top lent
@@ -79,18 +79,18 @@ module _ {Tree Top Value : Type 0} (K : Kind Tree Top Value) where
     roomy top h w = ap (topped row top) w.promised ∙ sym (rw (le-leb _ _ h, host_reading) refl)
 
     module _ {body top : List ℕ} {lent after : Lent} (h : columns ≤ length top) where
-      pub reads-refused : {x : Numbered} {n : ℕ} → Reads K body lent (refused x) after → n ≡ refused_code x → HostReads K columns row body top lent n top after
-      reads-refused w e = record { promised = ap (λ (n : ℕ). said n top after) e ∙ roomy top h w }
+      pub reads_refused : {x : Numbered} {n : ℕ} → Reads K body lent (refused x) after → n ≡ refused_code x → HostReads K columns row body top lent n top after
+      reads_refused w e = record { promised = ap (λ (n : ℕ). said n top after) e ∙ roomy top h w }
 
-      pub reads-done : {t : Top} {front : List ℕ} → Reads K body lent (accepted t) after → length (row t) ≡ columns → front ≡ sets top 0 (row t)
+      pub reads_done : {t : Top} {front : List ℕ} → Reads K body lent (accepted t) after → length (row t) ≡ columns → front ≡ sets top 0 (row t)
           → HostReads K columns row body top lent 0 front after
-      reads-done {t} w l e = record { promised = ap (λ (front : List ℕ). said 0 front after) (e ∙ front-stored top (row t) (rw l h)) ∙ roomy top h w }
+      reads_done {t} w l e = record { promised = ap (λ (front : List ℕ). said 0 front after) (e ∙ front_stored top (row t) (rw l h)) ∙ roomy top h w }
 
     -- a body that is refused whatever is lent
-    pub reads-neither : {body top : List ℕ} {lent : Lent} {x : Numbered} {n : ℕ} → Measures K body (refused x) → n ≡ refused_code x
+    pub reads_neither : {body top : List ℕ} {lent : Lent} {x : Numbered} {n : ℕ} → Measures K body (refused x) → n ≡ refused_code x
         → HostReads K columns row body top lent n top lent
-    reads-neither {body} {top} {lent} {n = n} w e = go (leb columns (length top)) refl
+    reads_neither {body} {top} {lent} {n = n} w e = go (leb columns (length top)) refl
       where
         go : (b : Bool) → leb columns (length top) ≡ b → HostReads K columns row body top lent n top lent
-        go true h = reads-refused (leb-true _ _ h) (reads-unmeasured K body w lent) e
-        go false h = reads-unroomed (leb-false _ _ h) (unread-so w e)
+        go true h = reads_refused (leb-true _ _ h) (reads_unmeasured K body w lent) e
+        go false h = reads_unroomed (leb-false _ _ h) (unread_so w e)

@@ -1,4 +1,4 @@
-// The multi-stream body (kind 4) for C: the functions of `mpegh_c`, under the same names.
+// The multi_stream body (kind 4) for C: the functions of `mpegh_c`, under the same names.
 ghost use Rattle.std.specs.Prelude.{[], ◌∷◌};
 ghost use Rattle.wire.specs.Prog.{span};
 ghost use Rattle.multi_stream.specs.Rows.{top_columns, top_row};

@@ -1,4 +1,4 @@
--- Records and rows of multi-stream bodies: what the claims and the starred list compare with.
+-- Records and rows of multi_stream bodies: what the claims and the starred list compare with.
 use Prim.Native.Nat.{ℕ}
 use mathlib.Core.List.{List, ◌∷◌}
 use Rattle.wire.specs.Prog.{span}

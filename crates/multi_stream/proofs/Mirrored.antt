@@ -15,8 +15,8 @@ use Rattle.wire.specs.Act.{Act, demand, byte, pick, rows}
 use Rattle.wire.specs.declared.pen.Fault.TheVariants as F
 use Rattle.wire.specs.Layout.{Columns, end, one, num, reserved, flag, blank, set, put, puts, reads, row, flat, cells, matches, matched, shown, writes, every, has}
 use Rattle.wire.proofs.Reading.Runs.{bind_assoc}
-use Rattle.wire.proofs.Fields.{part-below}
-use Rattle.wire.proofs.Writing.Parts.{within-absent}
+use Rattle.wire.proofs.Fields.{part_below}
+use Rattle.wire.proofs.Writing.Parts.{within_absent}
 use Rattle.frame.specs.Kind.{Lent}
 use Rattle.frame.specs.Sight.{head_acts}
 use Rattle.frame.specs.Entry.{first_table}
@@ -41,9 +41,9 @@ location g zero h e₁ e₂ e₃ e₄ = λ i. look 1 (λ x. ret (g 0 ∷ e₁ i 
 location g (suc zero) h e₁ e₂ e₃ e₄ = λ i. ret (g 0 ∷ e₁ i ∷ e₂ i ∷ e₃ i ∷ e₄ i ∷ [])
 location g (suc (suc v)) h e₁ e₂ e₃ e₄ = absurd (omega arith)
 
-pub group-so : flat 5 G.group ≡ R.group
+pub group_so : flat 5 G.group ≡ R.group
 unfolding G.group reads puts put split total R.group u8 ◌>>=◌
-group-so = λ i. look 1 (λ b. location (headed b) (part 0 1 (get_or b 0 0)) (part-below 0 1 (get_or b 0 0)) refl refl refl refl i)
+group_so = λ i. look 1 (λ b. location (headed b) (part 0 1 (get_or b 0 0)) (part_below 0 1 (get_or b 0 0)) refl refl refl refl i)
   where
     headed : List ℕ → Columns
     headed b = set 2 (get_or (1 ∷ 0 ∷ []) (part 0 1 (get_or b 0 0)) 0) (puts ((num 7 0 ∷ flag 1 ∷ []) ∷ []) b blank)
@@ -54,9 +54,9 @@ module _ (p : Prog (List ℕ)) where
   abbrev to_groups : Columns → Prog MultiStream
   to_groups g = many (g 5) p >>= λ l. ret (row 6 g, (l, tt))
 
-  body-so : reads head blank >>= to_groups ≡ multi_stream_over p
+  body_so : reads head blank >>= to_groups ≡ multi_stream_over p
   unfolding head reads puts put split total main multi_stream_over u8 many ◌>>=◌ each
-  body-so = λ i. look 1 (λ b. go (get_or b 0 0) (eqb (part 7 1 (get_or b 0 0)) 1) i)
+  body_so = λ i. look 1 (λ b. go (get_or b 0 0) (eqb (part 7 1 (get_or b 0 0)) 1) i)
     where
       headed : ℕ → Columns
       headed b = put (flag 1 ∷ num 7 0 ∷ []) (split (1 ∷ 7 ∷ []) b) blank
@@ -67,19 +67,19 @@ module _ (p : Prog (List ℕ)) where
       go b false = refl
 
 -- the body reads as the Rust's `parse`, over the layout of its rows
-pub parse-over : kind.program ≡ multi_stream_over (flat 5 G.group)
+pub parse_over : kind.program ≡ multi_stream_over (flat 5 G.group)
 unfolding kind parse reads ◌>>=◌
-parse-over = body-so (flat 5 G.group)
+parse_over = body_so (flat 5 G.group)
 
 -- and with that of its rows
 pub mirrored : kind.program ≡ R.multi_stream
-mirrored = parse-over ∙ (λ i. multi_stream_over (group-so i))
+mirrored = parse_over ∙ (λ i. multi_stream_over (group_so i))
 
 -- ---- and is written as the Rust's `write`
 
-pub written-so : (m : MpegH3dAudioMultiStream) (lent : Lent) (store : List ℕ) → kind.acts m lent store ≡ multi_stream_acts m (first_table lent)
+pub written_so : (m : MpegH3dAudioMultiStream) (lent : Lent) (store : List ℕ) → kind.acts m lent store ≡ multi_stream_acts m (first_table lent)
 unfolding kind layouts inside pieced beyond multi_stream_acts main_acts A.within head cells matches matched shown writes every has flatten rows each
-written-so m lent store = go m m.main.present
+written_so m lent store = go m m.main.present
   where
     with : MpegH3dAudioMultiStream → Bool → MpegH3dAudioMultiStream
     with m a = record { this_stream_id = m.this_stream_id; main = record { present = a; part = m.main.part }; trailing = m.trailing }
@@ -97,11 +97,11 @@ written-so m lent store = go m m.main.present
     go m a = case m a ∙ λ i. ends (with m a) (λ t. and-true t i) (λ q. append-nil q i)
 
 -- t is table 8
-pub acts-are : (m : MpegH3dAudioMultiStream) (t store : List ℕ) → kind.acts m (t ∷ []) store ≡ multi_stream_acts m t
+pub acts_are : (m : MpegH3dAudioMultiStream) (t store : List ℕ) → kind.acts m (t ∷ []) store ≡ multi_stream_acts m t
 unfolding first_table
-acts-are m t store = written-so m (t ∷ []) store
+acts_are m t store = written_so m (t ∷ []) store
 
 -- without a main part the actions are those of the head alone
-pub bare-acts : (m : MpegH3dAudioMultiStream) (t : List ℕ) → not m.main.present ≡ true → multi_stream_acts m t ≡ head_acts (head_fields m)
+pub bare_acts : (m : MpegH3dAudioMultiStream) (t : List ℕ) → not m.main.present ≡ true → multi_stream_acts m t ≡ head_acts (head_fields m)
 unfolding multi_stream_acts main_acts
-bare-acts m t e = rw (not-true m.main.present e, sym (within-absent false m.main.part.groups 5 t refl))
+bare_acts m t e = rw (not-true m.main.present e, sym (within_absent false m.main.part.groups 5 t refl))

@@ -15,15 +15,15 @@ use Rattle.wire.specs.Straight.{ends, ones}
 use Rattle.wire.specs.declared.reads.Short.{Short}
 use Rattle.wire.specs.declared.reads.Sum.{Sum}
 use Rattle.wire.specs.declared.reads.Sum.TheVariants as S
-use Rattle.wire.proofs.Reading.Runs.{run-split, run_ret}
-use Rattle.wire.proofs.Reading.Walk.{From, begun, onward, cut_off, cut-off-as, as-done, finished, byte-taken, is-done, run_ret as run-done}
-use Rattle.wire.proofs.Reading.Loops.{many-long, summed-done, summed-cut, sum-onward, sum-cut-off, sum-small}
-use Rattle.wire.proofs.Layouts.Straight.{ones-past, singly, singly-there, singly-cut}
+use Rattle.wire.proofs.Reading.Runs.{run_split, run_ret}
+use Rattle.wire.proofs.Reading.Walk.{From, begun, onward, cut_off, cut_off_as, as_done, finished, byte_taken, is_done_lem, run_ret as run-done}
+use Rattle.wire.proofs.Reading.Loops.{many_long, summed_done, summed_cut, sum_onward, sum_cut_off, sum_small}
+use Rattle.wire.proofs.Layouts.Straight.{ones_past, singly, singly_there, singly_cut}
 use Rattle.stream_groups.specs.Layout.{group}
 use Rattle.multi_stream.specs.Rows.{MultiStream}
 use Rattle.multi_stream.specs.Read.{Main, no_main, main_of, main, stream_of, multi_stream_over}
 use Rattle.multi_stream.specs.Kind.{kind}
-use Rattle.multi_stream.proofs.Mirrored.{parse-over}
+use Rattle.multi_stream.proofs.Mirrored.{parse_over}
 
 -- ---- the main part
 
@@ -38,13 +38,13 @@ abbrev pub behind_two : ℕ → ℕ → Prog Main
 behind_two a g = groups (part 0 7 g) >>= λ l. ret (main_of a g l)
 
 module _ (s : List ℕ) (at : ℕ) {o : Out (Unit {0})} (q : o ≡ ends (ones 2) s at) where
-  pub main-cut : {x : Short} → o ≡ short x → run (main_part true) s at ≡ short x
+  pub main_cut : {x : Short} → o ≡ short x → run (main_part true) s at ≡ short x
   unfolding main singly
-  main-cut d = singly-cut 2 (λ l. behind_two (get_or l 0 0) (get_or l 1 0)) s at (sym q ∙ d)
+  main_cut d = singly_cut 2 (λ l. behind_two (get_or l 0 0) (get_or l 1 0)) s at (sym q ∙ d)
 
-pub behind-there : (s : List ℕ) (at : ℕ) → at + 2 ≤ length s → From (main_part true) s at (behind_two (get_or s at 0) (get_or s (at + 1) 0)) (at + 2)
+pub behind_there : (s : List ℕ) (at : ℕ) → at + 2 ≤ length s → From (main_part true) s at (behind_two (get_or s at 0) (get_or s (at + 1) 0)) (at + 2)
 unfolding main singly each
-behind-there s at h = record { same = singly-there 2 (λ l. behind_two (get_or l 0 0) (get_or l 1 0)) s at h; inside = h }
+behind_there s at h = record { same = singly_there 2 (λ l. behind_two (get_or l 0 0) (get_or l 1 0)) s at h; inside = h }
 
 -- the groups behind them, by the count as code has it
 module _ (s : List ℕ) (at : ℕ) {o : Out (Unit {0})} (q : o ≡ ends (ones 2) s at) (h : at ≤ length s) {n : ℕ} (d : o ≡ done tt n) {v c : ℕ} (e : v ≡ get_or s (at + 1) 0) (f : c ≡ part 0 7 v) {r : Out (Unit {0})} (w : r ≡ end_of (run (groups c) s n)) where
@@ -52,22 +52,22 @@ module _ (s : List ℕ) (at : ℕ) {o : Out (Unit {0})} (q : o ≡ ends (ones 2)
   count = part 0 7 (get_or s (at + 1) 0)
 
   place : From (main_part true) s at (behind_two (get_or s at 0) (get_or s (at + 1) 0)) (at + 2)
-  place = behind-there s at (ones-past 2 s at h q d).inside
+  place = behind_there s at (ones_past 2 s at h q d).inside
 
   ended : r ≡ map_out (λ l. tt) (run (groups count) s (at + 2))
   unfolding count
-  ended = w ∙ λ i. end_of (run (groups ((f ∙ ap (part 0 7) e) i)) s ((ones-past 2 s at h q d).is i))
+  ended = w ∙ λ i. end_of (run (groups ((f ∙ ap (part 0 7) e) i)) s ((ones_past 2 s at h q d).is i))
 
-  pub groups-cut : {x y : Short} → r ≡ short x → y ≡ short_of r → short y ≡ run (main_part true) s at
+  pub groups_cut : {x y : Short} → r ≡ short x → y ≡ short_of r → short y ≡ run (main_part true) s at
   unfolding count
-  groups-cut z u = cut-off-as (groups (part 0 7 (get_or s (at + 1) 0))) (λ l. tt) _ place ended z u
+  groups_cut z u = cut_off_as (groups (part 0 7 (get_or s (at + 1) 0))) (λ l. tt) _ place ended z u
 
-  pub groups-summed : {k : ℕ} → r ≡ done tt k → Summed (main_part true) (λ m. length m.groups) 127 s at (S.Got c k)
+  pub groups_summed : {k : ℕ} → r ≡ done tt k → Summed (main_part true) (λ m. length m.groups) 127 s at (S.Got c k)
   unfolding count
-  groups-summed z =
-      let (l, y, _) = as-done (λ l. tt) (run (groups (part 0 7 (get_or s (at + 1) 0))) s (at + 2)) (sym ended ∙ z) in
-      let a = many-long (flat 5 group) s (part 0 7 (get_or s (at + 1) 0)) (at + 2) l _ y in
-      summed-done (finished (onward (groups (part 0 7 (get_or s (at + 1) 0))) _ place refl y) refl) (f ∙ ap (part 0 7) e ∙ sym a) (omega (arith, f))
+  groups_summed z =
+      let (l, y, _) = as_done (λ l. tt) (run (groups (part 0 7 (get_or s (at + 1) 0))) s (at + 2)) (sym ended ∙ z) in
+      let a = many_long (flat 5 group) s (part 0 7 (get_or s (at + 1) 0)) (at + 2) l _ y in
+      summed_done (finished (onward (groups (part 0 7 (get_or s (at + 1) 0))) _ place refl y) refl) (f ∙ ap (part 0 7) e ∙ sym a) (omega (arith, f))
 
 -- a main part that was read: its two bytes, and as many groups as the count says
 pub record MainThere (s : List ℕ) (at : ℕ) (m : Main) (k : ℕ) : Type 0 where
@@ -77,37 +77,37 @@ pub record MainThere (s : List ℕ) (at : ℕ) (m : Main) (k : ℕ) : Type 0 whe
   pub count : length rows ≡ part 0 7 (get_or s (at + 1) 0)
   pub reads : run (groups (length rows)) s (at + 2) ≡ done rows k
 
-pub main-there : (s : List ℕ) (at : ℕ) {m : Main} {k : ℕ} → run (main_part true) s at ≡ done m k → MainThere s at m k
+pub main_there : (s : List ℕ) (at : ℕ) {m : Main} {k : ℕ} → run (main_part true) s at ≡ done m k → MainThere s at m k
 unfolding main
-main-there s at {m} {k} e =
-    let (h, e₁) = byte-taken s at (λ a. u8 >>= behind_two a) e in
-    let (h₁, e₂) = byte-taken s (at + 1) (behind_two (get_or s at 0)) e₁ in
+main_there s at {m} {k} e =
+    let (h, e₁) = byte_taken s at (λ a. u8 >>= behind_two a) e in
+    let (h₁, e₂) = byte_taken s (at + 1) (behind_two (get_or s at 0)) e₁ in
     let n = part 0 7 (get_or s (at + 1) 0) in
-    let x = run-split (groups n) (λ l. ret (main_of (get_or s at 0) (get_or s (at + 1) 0) l)) s (at + 1 + 1) m k e₂ in
+    let x = run_split (groups n) (λ l. ret (main_of (get_or s at 0) (get_or s (at + 1) 0) l)) s (at + 1 + 1) m k e₂ in
     let (q, j) = run_ret _ s x.middle x.second in
-    let c = many-long (flat 5 group) s n (at + 1 + 1) x.value _ x.first in
+    let c = many_long (flat 5 group) s n (at + 1 + 1) x.value _ x.first in
     let w : at + 1 + 1 ≡ at + 2 = omega arith in
     record { inside = omega arith; rows = x.value; is = sym q; count = c; reads = (λ i. run (groups (c i)) s (sym w i)) ∙ x.first ∙ ap (done x.value) j }
 
-pub main-aside : (s : List ℕ) (at : ℕ) {m : Main} {k : ℕ} → run (main_part false) s at ≡ done m k → m ≡ no_main
+pub main_aside : (s : List ℕ) (at : ℕ) {m : Main} {k : ℕ} → run (main_part false) s at ≡ done m k → m ≡ no_main
 unfolding main
-main-aside s at e = sym (run_ret _ s at e).0
+main_aside s at e = sym (run_ret _ s at e).0
 
 -- what is taken of it without a test
 module _ (s : List ℕ) (q : is_done (run (main_part true) s 1) ≡ true) where
-  the-main : (m : Main) × (k : ℕ) × (run (main_part true) s 1 ≡ done m k)
-  the-main = is-done (run (main_part true) s 1) q
+  the_main : (m : Main) × (k : ℕ) × (run (main_part true) s 1 ≡ done m k)
+  the_main = is_done_lem (run (main_part true) s 1) q
 
-  pub both-there : 3 ≤ length s
-  both-there = (main-there s 1 the-main.2).inside
+  pub both_there : 3 ≤ length s
+  both_there = (main_there s 1 the_main.2).inside
 
-  pub main-placed : {a g : ℕ} → a ≡ get_or s 1 0 → g ≡ get_or s 2 0
+  pub main_placed : {a g : ℕ} → a ≡ get_or s 1 0 → g ≡ get_or s 2 0
       → done (part 7 1 a ∷ part 0 7 a ∷ part 7 1 g ∷ part 0 7 g ∷ []) (pos_of (run (main_part true) s 1)) ≡ map_out (λ m. m.columns) (run (main_part true) s 1)
-  main-placed e f = let (m, k, r) = the-main in rw (r, e, f, (main-there s 1 r).is) refl
+  main_placed e f = let (m, k, r) = the_main in rw (r, e, f, (main_there s 1 r).is) refl
 
-pub aside-placed : (s : List ℕ) → done (0 ∷ 0 ∷ 0 ∷ 0 ∷ []) (pos_of (run (main_part false) s 1)) ≡ map_out (λ m. m.columns) (run (main_part false) s 1)
+pub aside_placed : (s : List ℕ) → done (0 ∷ 0 ∷ 0 ∷ 0 ∷ []) (pos_of (run (main_part false) s 1)) ≡ map_out (λ m. m.columns) (run (main_part false) s 1)
 unfolding main
-aside-placed s = rw (run-done {A = Main} no_main s 1) refl
+aside_placed s = rw (run-done {A = Main} no_main s 1) refl
 
 -- ---- the body
 
@@ -120,20 +120,20 @@ module _ (s : List ℕ) {o : Out ℕ} (e : o ≡ run u8 s 0) where
   unfolding multi_stream_over
   begins = begun (multi_stream_over (flat 5 group)) s 0 (omega arith)
 
-  pub first-there : {v n : ℕ} → o ≡ done v n → From kind.program s 0 (behind_first v) n
-  first-there d = let w = onward u8 behind_first begins e d in record { same = ap (λ (p : Prog MultiStream). run p s 0) parse-over ∙ w.same; inside = w.inside }
+  pub first_there : {v n : ℕ} → o ≡ done v n → From kind.program s 0 (behind_first v) n
+  first_there d = let w = onward u8 behind_first begins e d in record { same = ap (λ (p : Prog MultiStream). run p s 0) parse_over ∙ w.same; inside = w.inside }
 
-  pub first-cut : {x y : Short} → o ≡ short x → y ≡ short_of o → short y ≡ run kind.program s 0
-  first-cut d h = cut_off u8 behind_first begins e d h ∙ ap (λ (p : Prog MultiStream). run p s 0) (sym parse-over)
+  pub first_cut : {x y : Short} → o ≡ short x → y ≡ short_of o → short y ≡ run kind.program s 0
+  first_cut d h = cut_off u8 behind_first begins e d h ∙ ap (λ (p : Prog MultiStream). run p s 0) (sym parse_over)
 
 -- its groups are those of the main part
-pub body-summed : (b : ℕ) {s : List ℕ} {n : ℕ} {r : Sum} → From kind.program s 0 (behind_first b) n
+pub body_summed : (b : ℕ) {s : List ℕ} {n : ℕ} {r : Sum} → From kind.program s 0 (behind_first b) n
     → Summed (main_part (eqb (part 7 1 b) 1)) (λ m. length m.groups) 127 s n r → Summed kind.program (λ t. length t.1.0) 127 s 0 r
-body-summed b {s} {n} {r} w x = go r refl
+body_summed b {s} {n} {r} w x = go r refl
   where
     go : (y : Sum) → r ≡ y → Summed kind.program (λ t. length t.1.0) 127 s 0 r
-    go (S.Got v m) e = let g = sum-onward (main_part (eqb (part 7 1 b) 1)) _ w x e in rw e (summed-done (finished g.place refl) (sym g.is) (sum-small x e))
-    go (S.Short y) e = summed-cut e (sum-cut-off (main_part (eqb (part 7 1 b) 1)) _ w x e)
+    go (S.Got v m) e = let g = sum_onward (main_part (eqb (part 7 1 b) 1)) _ w x e in rw e (summed_done (finished g.place refl) (sym g.is) (sum_small x e))
+    go (S.Short y) e = summed_cut e (sum_cut_off (main_part (eqb (part 7 1 b) 1)) _ w x e)
 
 -- a body that was read: its first byte, and the main part that this steers
 pub record BodyRun (s : List ℕ) (t : MultiStream) (k : ℕ) : Type 0 where
@@ -145,9 +145,9 @@ pub record BodyRun (s : List ℕ) (t : MultiStream) (k : ℕ) : Type 0 where
 pub body_run : (s : List ℕ) {t : MultiStream} {k : ℕ} → run kind.program s 0 ≡ done t k → BodyRun s t k
 unfolding multi_stream_over
 body_run s {t} {k} e =
-    let (h, e₁) = byte-taken s 0 behind_first (ap (λ (p : Prog MultiStream). run p s 0) (sym parse-over) ∙ e) in
+    let (h, e₁) = byte_taken s 0 behind_first (ap (λ (p : Prog MultiStream). run p s 0) (sym parse_over) ∙ e) in
     let b = get_or s 0 0 in
-    let x = run-split (main_part (eqb (part 7 1 b) 1)) (λ m. ret (stream_of b m)) s 1 t k e₁ in
+    let x = run_split (main_part (eqb (part 7 1 b) 1)) (λ m. ret (stream_of b m)) s 1 t k e₁ in
     let (q, n) = run_ret _ s x.middle x.second in
     record { inside = h; part_of = x.value; reads = x.first ∙ ap (done x.value) n; is = sym q }
 
@@ -156,9 +156,9 @@ pub record Groups (s : List ℕ) (l : List (List ℕ)) (k : ℕ) : Type 0 where
   pub inside : 3 ≤ length s
   pub reads : run (groups (length l)) s 3 ≡ done l k
 
-pub groups-run : (s : List ℕ) {t : MultiStream} {k : ℕ} → run kind.program s 0 ≡ done t k → 0 < length t.1.0 → Groups s t.1.0 k
-groups-run s {t} {k} e h = let r = body_run s e in go (eqb (part 7 1 (get_or s 0 0)) 1) r.part_of r.reads (ap (λ (t : MultiStream). t.1.0) r.is)
+pub groups_run : (s : List ℕ) {t : MultiStream} {k : ℕ} → run kind.program s 0 ≡ done t k → 0 < length t.1.0 → Groups s t.1.0 k
+groups_run s {t} {k} e h = let r = body_run s e in go (eqb (part 7 1 (get_or s 0 0)) 1) r.part_of r.reads (ap (λ (t : MultiStream). t.1.0) r.is)
   where
     go : (b : Bool) (m : Main) → run (main_part b) s 1 ≡ done m k → t.1.0 ≡ m.groups → Groups s t.1.0 k
-    go false m r q = absurd (omega (arith, h, ap length (q ∙ ap (λ (m : Main). m.groups) (main-aside s 1 r))))
-    go true m r q = let w = main-there s 1 r in rw (q ∙ ap (λ (m : Main). m.groups) w.is) (record { inside = w.inside; reads = w.reads })
+    go false m r q = absurd (omega (arith, h, ap length (q ∙ ap (λ (m : Main). m.groups) (main_aside s 1 r))))
+    go true m r q = let w = main_there s 1 r in rw (q ∙ ap (λ (m : Main). m.groups) w.is) (record { inside = w.inside; reads = w.reads })

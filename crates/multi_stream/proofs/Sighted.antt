@@ -16,7 +16,7 @@ use Rattle.wire.specs.Act.{pick}
 use Rattle.wire.specs.declared.rows.Payload.{Payload}
 use Rattle.wire.specs.Layout.{Cell, num, reserved, flag, column, idle, Columns, of, shown, cells, tally}
 use Rattle.wire.proofs.Layouts.Rowed.{Wide}
-use Rattle.wire.proofs.Layouts.Fronts.{flat-front}
+use Rattle.wire.proofs.Layouts.Fronts.{flat_front}
 use Rattle.frame.specs.declared.Room.{Room}
 use Rattle.frame.specs.declared.Room.TheVariants as M
 use Rattle.frame.specs.Numbers.{accepted}
@@ -26,8 +26,8 @@ use Rattle.frame.specs.Body as B
 use Rattle.frame.specs.Body.{layouts, with_place, tables}
 use Rattle.frame.proofs.Lawful.{Shaped}
 use Rattle.frame.proofs.Tables.{enough}
-use Rattle.frame.proofs.MoreRoom.{none-fit, fit-head, shapes}
-use Rattle.frame.proofs.Entries.{first_rows, Known, known, tops-known, fills-known}
+use Rattle.frame.proofs.MoreRoom.{none_fit, fit_head, shapes}
+use Rattle.frame.proofs.Entries.{first_rows, Known, known, tops_known, fills_known}
 use Rattle.stream_groups.specs.Layout.{group}
 use Rattle.multi_stream.specs.declared.rows.MainStream.{MainStream}
 use Rattle.multi_stream.specs.Layout.{head}
@@ -36,50 +36,50 @@ use Rattle.multi_stream.specs.Read.{Main}
 use Rattle.multi_stream.specs.Kind.{pieces, kind}
 use Rattle.multi_stream.specs.Contract.{needed, sized, zeros_of}
 use Rattle.multi_stream.proofs.Lawful.{lawful}
-use Rattle.multi_stream.proofs.Parsed.{groups, main_part, body_run, Groups, groups-run}
+use Rattle.multi_stream.proofs.Parsed.{groups, main_part, body_run, Groups, groups_run}
 
-pub sizes-are : (t : MultiStream) (k : ℕ) → sizes kind (record { tree = t; before = k }) ≡ sized (length t.1.0) k
+pub sizes_are : (t : MultiStream) (k : ℕ) → sizes kind (record { tree = t; before = k }) ≡ sized (length t.1.0) k
 unfolding sizes kind tables needs
-sizes-are t k = refl
+sizes_are t k = refl
 
 -- ---- the room of table 8
 
 module _ (n : ℕ) (t : List ℕ) {r : Room} (e : r ≡ and_table M.Enough (record { number = 8; columns = 5; rows = n }) t) where
-  pub room-so : r ≡ and_tables M.Enough (needed n) (t ∷ [])
+  pub room_so : r ≡ and_tables M.Enough (needed n) (t ∷ [])
   unfolding and_tables first_table
-  room-so = e
+  room_so = e
 
   pub has_room : r ≡ M.Enough → (lacking (needed n) (t ∷ []) ≡ none) × (n ≤ length t / 5)
   unfolding room first_table
-  has_room d = let h = enough (needed n) (t ∷ []) (sym room-so ∙ d) in (h, (fit-head (none-fit (needed n) (t ∷ []) h)).0)
+  has_room d = let h = enough (needed n) (t ∷ []) (sym room_so ∙ d) in (h, (fit_head (none_fit (needed n) (t ∷ []) h)).0)
 
 -- ---- the reserved bits: those of the record alone
 
-top-tally : (g : Columns) → tally (layouts pieces) g ≡ pick (eqb (g 1) 1) (zeros 1 (g 2) + zeros 1 (g 4)) 0
+top_tally : (g : Columns) → tally (layouts pieces) g ≡ pick (eqb (g 1) 1) (zeros 1 (g 2) + zeros 1 (g 4)) 0
 unfolding layouts tally cells shown head sum flatten
-top-tally g = go (eqb (g 1) 1)
+top_tally g = go (eqb (g 1) 1)
   where
     go : (a : Bool)
         → sum (λ (c : Cell). idle c (g (column c))) ((flag 1 ∷ num 7 0 ∷ (pick a (reserved 1 2 ∷ num 7 3 ∷ reserved 1 4 ∷ num 7 5 ∷ []) [] ++ [])) ++ []) ≡ pick a (zeros 1 (g 2) + zeros 1 (g 4)) 0
     go true = omega arith
     go false = refl
 
-group-tally : (g : Columns) → tally (group ∷ []) g ≡ 0
+group_tally : (g : Columns) → tally (group ∷ []) g ≡ 0
 unfolding tally cells shown group sum flatten
-group-tally g = go (eqb (g 2) 1)
+group_tally g = go (eqb (g 2) 1)
   where
     go : (a : Bool) → sum (λ (c : Cell). idle c (g (column c))) (num 7 0 ∷ flag 1 ∷ flag 2 ∷ (pick a (flag 3 ∷ num 7 4 ∷ []) [] ++ [])) ≡ 0
     go true = refl
     go false = refl
 
-groups-tally : (l : List (List ℕ)) → sum (λ r. tally (group ∷ []) (of r)) l ≡ 0
+groups_tally_lem : (l : List (List ℕ)) → sum (λ r. tally (group ∷ []) (of r)) l ≡ 0
 unfolding sum
-groups-tally [] = refl
-groups-tally (r ∷ l) = omega (arith, group-tally (of r), groups-tally l)
+groups_tally_lem [] = refl
+groups_tally_lem (r ∷ l) = omega (arith, group_tally (of r), groups_tally_lem l)
 
-pub zeros-are : (t : MultiStream) (p : Payload) → zeros_of (kind.top t p) ≡ kind.zeros t
+pub zeros_are : (t : MultiStream) (p : Payload) → zeros_of (kind.top t p) ≡ kind.zeros t
 unfolding kind with_place each B.zeros
-zeros-are t p = omega (arith, top-tally (of t.0), groups-tally t.1.0)
+zeros_are t p = omega (arith, top_tally (of t.0), groups_tally_lem t.1.0)
 
 -- ---- a body that was measured: its groups stand behind the third byte
 
@@ -100,16 +100,16 @@ module _ (body : List ℕ) {n k : ℕ} (m : Measures kind body (accepted (sized 
   rows : List (List ℕ)
   rows = knows.sound.tree.1.0
 
-  count-is : length rows ≡ n
+  count_is : length rows ≡ n
   unfolding rows
-  count-is = ap first_rows (sym (sizes-are knows.sound.tree knows.sound.before) ∙ knows.size_is)
+  count_is = ap first_rows (sym (sizes_are knows.sound.tree knows.sound.before) ∙ knows.size_is)
 
   stand : 0 < n → Groups body rows knows.sound.before
   unfolding rows
-  stand h = groups-run body ran (omega (arith, h, count-is))
+  stand h = groups_run body ran (omega (arith, h, count_is))
 
   pub fillable : 0 < n → Fillable body n
-  fillable h = record { inside = (stand h).inside; sound = ap (λ (n : ℕ). is_done (run (groups n) body 3)) (sym count-is) ∙ ap is_done (stand h).reads }
+  fillable h = record { inside = (stand h).inside; sound = ap (λ (n : ℕ). is_done (run (groups n) body 3)) (sym count_is) ∙ ap is_done (stand h).reads }
 
   wide : Every (Wide 5) rows
   unfolding rows kind tables
@@ -118,18 +118,18 @@ module _ (body : List ℕ) {n k : ℕ} (m : Measures kind body (accepted (sized 
       go : Every Shaped (tables pieces knows.sound.tree.1) → Every (Wide 5) knows.sound.tree.1.0
       go (all_cons h all_nil) = h
 
-  filled-so : (t after : List ℕ) → after ≡ flatten rows ++ drop (length (flatten rows)) t → Fills kind body (t ∷ []) (after ∷ [])
+  filled_so : (t after : List ℕ) → after ≡ flatten rows ++ drop (length (flatten rows)) t → Fills kind body (t ∷ []) (after ∷ [])
   unfolding rows kind filled tables first_table other_tables
-  filled-so t after e = fills-known kind knows (ap (λ (a : List ℕ). a ∷ []) e)
+  filled_so t after e = fills_known kind knows (ap (λ (a : List ℕ). a ∷ []) e)
 
-  pub filled-there : 0 < n → (t after : List ℕ) → n ≤ length t / 5 → after ≡ sets t 0 (flat_map (λ r. r) (rows_of_table body n)) → Fills kind body (t ∷ []) (after ∷ [])
-  filled-there p t after h e =
-      let r : run (groups n) body 3 ≡ done rows knows.sound.before = ap (λ (n : ℕ). run (groups n) body 3) (sym count-is) ∙ (stand p).reads in
-      filled-so t after (flat-front 5 rows t e r wide (omega (arith, count-is, h)))
+  pub filled_there : 0 < n → (t after : List ℕ) → n ≤ length t / 5 → after ≡ sets t 0 (flat_map (λ r. r) (rows_of_table body n)) → Fills kind body (t ∷ []) (after ∷ [])
+  filled_there p t after h e =
+      let r : run (groups n) body 3 ≡ done rows knows.sound.before = ap (λ (n : ℕ). run (groups n) body 3) (sym count_is) ∙ (stand p).reads in
+      filled_so t after (flat_front 5 rows t e r wide (omega (arith, count_is, h)))
 
   pub filled_none : n ≤ 0 → (t : List ℕ) → Fills kind body (t ∷ []) (t ∷ [])
   unfolding flatten
-  filled_none h t = filled-so t t (go rows (omega (arith, h, count-is)))
+  filled_none h t = filled_so t t (go rows (omega (arith, h, count_is)))
     where
       go : (l : List (List ℕ)) → length l ≡ 0 → t ≡ flatten l ++ drop (length (flatten l)) t
       go [] e = refl
@@ -137,8 +137,8 @@ module _ (body : List ℕ) {n k : ℕ} (m : Measures kind body (accepted (sized 
 
   -- ---- its record
 
-  pub main-sound : (0 < length body) × (is_done (run (main_part (eqb (part 7 1 (get_or body 0 0)) 1)) body 1) ≡ true)
-  main-sound = let r = body_run body ran in (r.inside, ap is_done r.reads)
+  pub main_sound : (0 < length body) × (is_done (run (main_part (eqb (part 7 1 (get_or body 0 0)) 1)) body 1) ≡ true)
+  main_sound = let r = body_run body ran in (r.inside, ap is_done r.reads)
 
   pub tops_are : {id : ℕ} {m : MainStream} {p : Payload} → id ≡ part 0 7 (get_or body 0 0) → m.present ≡ eqb (part 7 1 (get_or body 0 0)) 1
       → (x : ℕ) → done (main_columns m) x ≡ map_out (λ m. m.columns) (run (main_part (eqb (part 7 1 (get_or body 0 0)) 1)) body 1) → p ≡ tail k body → Tops kind body (record { this_stream_id = id; main = m; trailing = p })
@@ -150,7 +150,7 @@ module _ (body : List ℕ) {n k : ℕ} (m : Measures kind body (accepted (sized 
       let c : (j : ℕ) → get_or (main_columns m) j 0 ≡ get_or r.part_of.columns j 0 = λ j. ap (λ (l : List ℕ). get_or l j 0) v in
       let t = knows.sound.tree in
       let q : (j : ℕ) → get_or (part 0 7 (get_or body 0 0) ∷ part 7 1 (get_or body 0 0) ∷ r.part_of.columns) j 0 ≡ get_or t.0 j 0 = λ j. ap (λ (t : MultiStream). get_or t.0 j 0) (sym r.is) in
-      tops-known kind knows (λ i. record {
+      tops_known kind knows (λ i. record {
         this_stream_id = (e ∙ q 0) i;
         main = record { present = (h ∙ ap (λ (v : ℕ). eqb v 1) (q 1)) i; part = record { reserved_aux = (c 0 ∙ q 2) i; num_auxiliary_streams = (c 1 ∙ q 3) i; reserved_groups = (c 2 ∙ q 4) i; groups = (c 3 ∙ q 5) i } };
         trailing = g i;

@@ -1,4 +1,4 @@
--- The multi-stream body (kind 4) from its syntax tables: the top record, and the groups behind it.
+-- The multi_stream body (kind 4) from its syntax tables: the top record, and the groups behind it.
 use Rattle.std.specs.Prelude.{[]}
 use Rattle.wire.specs.Layout.{end}
 use Rattle.frame.specs.Kind.{Kind}

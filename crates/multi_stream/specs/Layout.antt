@@ -1,4 +1,4 @@
--- The top record of the multi-stream body as a syntax table (H.222.0 2.6.114, Table 2-125): all of its bytes stand before the groups.
+-- The top record of the multi_stream body as a syntax table (H.222.0 2.6.114, Table 2-125): all of its bytes stand before the groups.
 use Rattle.std.specs.Prelude.{[], ◌∷◌}
 use Rattle.wire.specs.Layout.{Layout, end, one, optional, ◌▹◌, num, reserved, flag}
 

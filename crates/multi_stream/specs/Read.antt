@@ -1,4 +1,4 @@
--- Reading the multi-stream body line by line as the Rust: `MpegH3dAudioMultiStream::parse`. The layouts read the same (proofs/Mirrored).
+-- Reading the multi_stream body line by line as the Rust: `MpegH3dAudioMultiStream::parse`. The layouts read the same (proofs/Mirrored).
 use Rattle.std.specs.Prelude.{ℕ, List, [], ◌∷◌, Bool, true, false, eqb}
 use Rattle.wire.specs.Bits.{part}
 use Rattle.wire.specs.Prog.{Prog, ret, u8, many, ◌>>=◌}

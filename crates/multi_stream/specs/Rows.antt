@@ -1,4 +1,4 @@
--- The top record of the multi-stream body as columns, and what was read of a body: rows as their columns.
+-- The top record of the multi_stream body as columns, and what was read of a body: rows as their columns.
 use Rattle.std.specs.Prelude.{ℕ, List, [], ◌∷◌, ◌++◌, true, false, get_or, eqb}
 use Rattle.wire.specs.Bits.{bit}
 use Rattle.wire.specs.declared.rows.Payload.{Payload}

@@ -1,4 +1,4 @@
--- Writing the multi-stream body as `MpegH3dAudioMultiStream::write` has it: what the functions of both passes promise. The actions of the kind are these (proofs/Mirrored).
+-- Writing the multi_stream body as `MpegH3dAudioMultiStream::write` has it: what the functions of both passes promise. The actions of the kind are these (proofs/Mirrored).
 use Rattle.std.specs.Prelude.{ℕ, List, [], ◌∷◌, ◌++◌, map, Bool, true}
 use Rattle.wire.specs.Bits.{Field, field, bit}
 use Rattle.wire.specs.Act as A

@@ -1,4 +1,4 @@
-// The top record of the multi-stream body (H.222.0 2.6.114, Table 2-125) and its constructors; the rows of table 8 are those of `stream_groups`.
+// The top record of the multi_stream body (H.222.0 2.6.114, Table 2-125) and its constructors; the rows of table 8 are those of `stream_groups`.
 ghost use Rattle.std.specs.Prelude.{◌≡◌};
 ghost use Rattle.wire.specs.Prog.{span};
 ghost use Rattle.multi_stream.specs.Rows.{absent_main, present_main, top_row};

@@ -1,4 +1,4 @@
-// Writing the multi-stream body in two passes, each in the Rust's order: the check pass names the first fault or the length, the fill pass stores the bytes.
+// Writing the multi_stream body in two passes, each in the Rust's order: the check pass names the first fault or the length, the fill pass stores the bytes.
 ghost use Rattle.std.specs.Prelude.{◌≡◌, true, [], ◌∷◌, ◌<◌};
 ghost use Rattle.wire.specs.Pen.{reach, Checked, Ready, Filled};
 ghost use Rattle.wire.specs.Spell.{Spelt};

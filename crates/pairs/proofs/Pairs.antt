@@ -16,8 +16,8 @@ use Rattle.wire.specs.Spell.{fit_all, Spells, none, more, ReadyAll, FillsAll}
 use Rattle.wire.specs.declared.pen.Fault.TheVariants as F
 use Rattle.wire.specs.declared.pen.Pen.TheVariants.{At, Stop}
 use Rattle.wire.proofs.Reading.Loops.{first_done}
-use Rattle.wire.proofs.Layouts.Straight.{flat-so, flat-done, ends-got}
-use Rattle.wire.proofs.Writing.Plain.{line_acts, line_clean, line_plain, line-odd, line-ready, line-filled}
+use Rattle.wire.proofs.Layouts.Straight.{flat_so, flat_done, ends_got}
+use Rattle.wire.proofs.Writing.Plain.{line_acts, line_clean, line_plain, line_odd, line_ready, line_filled}
 use Rattle.pairs.specs.Layout.{pair}
 use Rattle.pairs.specs.Rows.{pair_from}
 use Rattle.pairs.specs.Write.{pair_fields, pair_acts}
@@ -29,43 +29,43 @@ unfolding pair took
 pair_one s at = refl
 
 -- a pair that is there, and the next position
-pub pair-run : (s : List ℕ) (at : ℕ) → at < length s → done (pair_from (get_or s at 0)) (at + 1) ≡ run (flat 2 pair) s at
+pub pair_run : (s : List ℕ) (at : ℕ) → at < length s → done (pair_from (get_or s at 0)) (at + 1) ≡ run (flat 2 pair) s at
 unfolding pair took puts_at put split total each ends
-pair-run s at h = sym (flat-so 2 pair s at ∙ ap (map_out (λ u. pair_from (get_or s at 0))) (ends-got 1 [] s at (omega arith)))
+pair_run s at h = sym (flat_so 2 pair s at ∙ ap (map_out (λ u. pair_from (get_or s at 0))) (ends_got 1 [] s at (omega arith)))
 
-pub pair-there : (s : List ℕ) (left pos : ℕ) → pos ≤ length s → 0 < left → is_done (run (many left (flat 2 pair)) s pos) ≡ true → pos < length s
+pub pair_there : (s : List ℕ) (left pos : ℕ) → pos ≤ length s → 0 < left → is_done (run (many left (flat 2 pair)) s pos) ≡ true → pos < length s
 unfolding pair took total
-pair-there s left pos h l q = let w = (flat-done 2 pair s pos h (first_done (flat 2 pair) s left pos l q)).there in omega (arith, w)
+pair_there s left pos h l q = let w = (flat_done 2 pair s pos h (first_done (flat 2 pair) s left pos l q)).there in omega (arith, w)
 
-pub pair-tally : (b : ℕ) → tally (pair ∷ []) (of (pair_from b)) ≡ zeros 1 (part 7 1 b)
+pub pair_tally : (b : ℕ) → tally (pair ∷ []) (of (pair_from b)) ≡ zeros 1 (part 7 1 b)
 unfolding tally cells shown pair sum flatten
-pair-tally b = omega arith
+pair_tally b = omega arith
 
 -- ---- written
 
-pair-acts : (u : List ℕ) (j : ℕ) → pair_acts u j ≡ line_acts (pair_fields u j ∷ [])
+pair_acts_lem : (u : List ℕ) (j : ℕ) → pair_acts u j ≡ line_acts (pair_fields u j ∷ [])
 unfolding pair writes shown cells matches matched every flatten
-pair-acts u j = refl
+pair_acts_lem u j = refl
 
 -- `b` is the test of its fields
 module _ (u : List ℕ) (j : ℕ) {b : Bool} (f : b ≡ fit (pair_fields u j)) where
-  pub pair-plain : b ≡ true → Quick (pair_acts u j) 1 1
+  pub pair_plain : b ≡ true → Quick (pair_acts u j) 1 1
   unfolding fit_all
-  pair-plain e = line_plain (pair_acts u j) (pair_fields u j ∷ []) (pair-acts u j) (ap (λ (x : Bool). x && true) (sym f ∙ e)) (omega arith)
+  pair_plain e = line_plain (pair_acts u j) (pair_fields u j ∷ []) (pair_acts_lem u j) (ap (λ (x : Bool). x && true) (sym f ∙ e)) (omega arith)
 
-  pub pair-odd : b ≡ false → Quick (pair_acts u j) 1 0
+  pub pair_odd : b ≡ false → Quick (pair_acts u j) 1 0
   unfolding fit_all
-  pair-odd e = line-odd (pair_acts u j) (pair_fields u j ∷ []) (pair-acts u j) (ap (λ (x : Bool). x && true) (sym f ∙ e))
+  pair_odd e = line_odd (pair_acts u j) (pair_fields u j ∷ []) (pair_acts_lem u j) (ap (λ (x : Bool). x && true) (sym f ∙ e))
 
 module _ (u : List ℕ) (j : ℕ) {v : ℕ} (w : Spells (pair_fields u j) v) where
-  pub pair-ready : {n : ℕ} {l : List ℕ} → Ready (pair_acts u j) n l → ReadyAll true (v ∷ []) n l
-  pair-ready r = line-ready (pair_acts u j) (pair_fields u j ∷ []) (pair-acts u j) (more w none) r
+  pub pair_ready : {n : ℕ} {l : List ℕ} → Ready (pair_acts u j) n l → ReadyAll true (v ∷ []) n l
+  pair_ready r = line_ready (pair_acts u j) (pair_fields u j ∷ []) (pair_acts_lem u j) (more w none) r
 
-  pub pair-filled : {n r : ℕ} {l o : List ℕ} → Ready (pair_acts u j) n l → FillsAll true (v ∷ []) n l r o → Filled (pair_acts u j) n l r o
-  pair-filled r x = line-filled (pair_acts u j) (pair_fields u j ∷ []) (pair-acts u j) (more w none) r x
+  pub pair_filled : {n r : ℕ} {l o : List ℕ} → Ready (pair_acts u j) n l → FillsAll true (v ∷ []) n l r o → Filled (pair_acts u j) n l r o
+  pair_filled r x = line_filled (pair_acts u j) (pair_fields u j ∷ []) (pair_acts_lem u j) (more w none) r x
 
-pub pair-stopped : (u : List ℕ) (j n : ℕ) → clean (pair_acts u j) ≡ false → Checked (pair_acts u j) 1 (At n) (Stop F.Field n)
+pub pair_stopped : (u : List ℕ) (j n : ℕ) → clean (pair_acts u j) ≡ false → Checked (pair_acts u j) 1 (At n) (Stop F.Field n)
 unfolding fit_all looks glance look
-pair-stopped u j n e =
-    let c : fit (pair_fields u j) ≡ false = sym (and-true (fit (pair_fields u j))) ∙ sym (line_clean (pair_acts u j) (pair_fields u j ∷ []) (pair-acts u j)) ∙ e in
-    rw (pair-acts u j) (record { pens = rw c; near = omega arith })
+pair_stopped u j n e =
+    let c : fit (pair_fields u j) ≡ false = sym (and-true (fit (pair_fields u j))) ∙ sym (line_clean (pair_acts u j) (pair_fields u j ∷ []) (pair_acts_lem u j)) ∙ e in
+    rw (pair_acts_lem u j) (record { pens = rw c; near = omega arith })

@@ -18,8 +18,8 @@ use Rattle.wire.specs.declared.reads.Short.{Short}
 use Rattle.wire.specs.declared.reads.Sum.TheVariants as S
 use Rattle.wire.proofs.Layouts.Cells.{all}
 use Rattle.wire.proofs.Layouts.Rowed.{weight}
-use Rattle.wire.proofs.Layouts.Straight.{ends_at, ends-within}
-use Rattle.wire.proofs.Layouts.Families.{head_sizes, kids_of, behind_head, head-got, head-lacks, kids-got, kids-lack, broken-got, broken-lacks, kids-ask, family-filled, family_test, tally-ask, family-tallied}
+use Rattle.wire.proofs.Layouts.Straight.{ends_at, ends_within}
+use Rattle.wire.proofs.Layouts.Families.{head_sizes, kids_of, behind_head, head_got, head_lacks, kids_got, kids_lack, broken_got, broken_lacks, kids_ask, family_filled, family_test, tally_ask, family_tallied}
 use Rattle.conditions.specs.Layout.{condition}
 use Rattle.presets.specs.Layout.{preset, presets}
 use Rattle.presets.specs.Rows.{preset_row, preset_cols, preset_from}
@@ -27,17 +27,17 @@ use Rattle.presets.specs.declared.rows.GroupPreset.{GroupPreset}
 
 -- ---- the head
 
-head-sizes : (s : List ℕ) (at : ℕ) → head_sizes preset s at ≡ ones 3
+head_sizes_lem : (s : List ℕ) (at : ℕ) → head_sizes preset s at ≡ ones 3
 unfolding took ones
-head-sizes s at = refl
+head_sizes_lem s at = refl
 
 -- how many conditions
 abbrev count_at : List ℕ → ℕ → ℕ
 count_at s at = part 0 4 (get_or s (at + 2) 0) + 1
 
-count-so : (s : List ℕ) (at : ℕ) → kids_of preset s at ≡ count_at s at
+count_so : (s : List ℕ) (at : ℕ) → kids_of preset s at ≡ count_at s at
 unfolding took puts_at put split total
-count-so s at = refl
+count_so s at = refl
 
 -- ---- measured
 
@@ -52,25 +52,25 @@ module _ (s : List ℕ) (at : ℕ) (h : at ≤ length s) {o : Out (Unit {0})} wh
     pub three : {n : ℕ} → o ≡ done tt n → Three s at n
     unfolding ones total
     three d =
-        let i = ends-within (ones 3) s at h (sym e ∙ d) in
+        let i = ends_within (ones 3) s at h (sym e ∙ d) in
         let q = ends_at (ones 3) s at (sym e ∙ d) in
-        record { there = omega arith; inside = i; goes = head-got preset (flat 13 condition) s at (e ∙ ap (λ (l : List ℕ). ends l s at) (sym (head-sizes s at))) d }
+        record { there = omega arith; inside = i; goes = head_got preset (flat 13 condition) s at (e ∙ ap (λ (l : List ℕ). ends l s at) (sym (head_sizes_lem s at))) d }
 
-    pub three-lack : {x y : Short} → o ≡ short x → y ≡ short_of o → Summed presets (λ x. length x.1) 16 s at (S.Short y)
-    three-lack d q =
-        broken-lacks preset (flat 13 condition) s at 16 h (head-lacks preset (flat 13 condition) s at (e ∙ ap (λ (l : List ℕ). ends l s at) (sym (head-sizes s at))) d) d q
+    pub three_lack : {x y : Short} → o ≡ short x → y ≡ short_of o → Summed presets (λ x. length x.1) 16 s at (S.Short y)
+    three_lack d q =
+        broken_lacks preset (flat 13 condition) s at 16 h (head_lacks preset (flat 13 condition) s at (e ∙ ap (λ (l : List ℕ). ends l s at) (sym (head_sizes_lem s at))) d) d q
 
   -- behind its conditions
   module _ {n k : ℕ} (w : Three s at n) (c : k ≡ count_at s at) (e : o ≡ end_of (run (many k (flat 13 condition)) s n)) where
-    kids-end : o ≡ end_of (run (many (kids_of preset s at) (flat 13 condition)) s n)
-    kids-end = e ∙ ap (λ (k : ℕ). end_of (run (many k (flat 13 condition)) s n)) (c ∙ sym (count-so s at))
+    kids_end : o ≡ end_of (run (many (kids_of preset s at) (flat 13 condition)) s n)
+    kids_end = e ∙ ap (λ (k : ℕ). end_of (run (many k (flat 13 condition)) s n)) (c ∙ sym (count_so s at))
 
-    pub preset-lacks : {x y : Short} → o ≡ short x → y ≡ short_of o → Summed presets (λ x. length x.1) 16 s at (S.Short y)
-    preset-lacks d q = broken-lacks preset (flat 13 condition) s at 16 h (kids-lack preset (flat 13 condition) s at n w.goes kids-end d) d q
+    pub preset_lacks : {x y : Short} → o ≡ short x → y ≡ short_of o → Summed presets (λ x. length x.1) 16 s at (S.Short y)
+    preset_lacks d q = broken_lacks preset (flat 13 condition) s at 16 h (kids_lack preset (flat 13 condition) s at n w.goes kids_end d) d q
 
-    pub preset-got : {m : ℕ} → o ≡ done tt m → k ≤ 16 → Summed presets (λ x. length x.1) 16 s at (S.Got k m)
+    pub preset_got : {m : ℕ} → o ≡ done tt m → k ≤ 16 → Summed presets (λ x. length x.1) 16 s at (S.Got k m)
     unfolding took ends
-    preset-got d l = broken-got preset (flat 13 condition) s at 16 h (d ∙ sym (kids-got preset (flat 13 condition) s at n w.goes kids-end d)) d (c ∙ sym (count-so s at)) l
+    preset_got d l = broken_got preset (flat 13 condition) s at 16 h (d ∙ sym (kids_got preset (flat 13 condition) s at n w.goes kids_end d)) d (c ∙ sym (count_so s at)) l
 
 -- ---- filled
 
@@ -84,44 +84,44 @@ module _ (s : List ℕ) (at first : ℕ) (u : List ℕ) (f : Fillable presets 13
   pub asked : {k : ℕ} → k ≡ count_at s at → Asked k
   unfolding took total
   asked c =
-      let a = kids-ask preset 13 condition s at first u f in
-      record { begun = a.begun; sound = rw (c ∙ sym (count-so s at)) a.sound; room = rw (c ∙ sym (count-so s at)) a.room }
+      let a = kids_ask preset 13 condition s at first u f in
+      record { begun = a.begun; sound = rw (c ∙ sym (count_so s at)) a.sound; room = rw (c ∙ sym (count_so s at)) a.room }
 
-  pub preset-filled : {p : GroupPreset} {k m : ℕ} {after : List ℕ} → p ≡ preset_from s at first → k ≡ count_at s at → m ≡ pos_of (run (many k (flat 13 condition)) s (at + 3))
+  pub preset_filled : {p : GroupPreset} {k m : ℕ} {after : List ℕ} → p ≡ preset_from s at first → k ≡ count_at s at → m ≡ pos_of (run (many k (flat 13 condition)) s (at + 3))
       → after ≡ sets u (first * 13) (flat_map (λ r. r) (rows_of (run (many k (flat 13 condition)) s (at + 3))))
       → Nested presets 13 (λ n x. broken_row preset (n, x)) (λ x. flatten x.1) s at first u (preset_row p) m after
   unfolding took puts_at put split total each
-  preset-filled {m = m} e c q z =
-      family-filled preset 13 condition s at first u f
-      (rw (c ∙ sym (count-so s at)) at q)
+  preset_filled {m = m} e c q z =
+      family_filled preset 13 condition s at first u f
+      (rw (c ∙ sym (count_so s at)) at q)
       (ap preset_row e)
       (sym (add-zero m))
-      (rw (c ∙ sym (count-so s at)) at z)
+      (rw (c ∙ sym (count_so s at)) at z)
 
-pub test-so : family_test preset condition ≡ true
+pub test_so : family_test preset condition ≡ true
 unfolding family_test has all weight condition
-test-so = refl
+test_so = refl
 
 -- ---- tallied
 
-pub preset-tally : (g : Columns) → tally (layouts preset) g ≡ zeros 3 (g 0) + (zeros 3 (g 2) + zeros 4 (g 4))
+pub preset_tally : (g : Columns) → tally (layouts preset) g ≡ zeros 3 (g 0) + (zeros 3 (g 2) + zeros 4 (g 4))
 unfolding tally cells shown sum flatten
-preset-tally g = simp (zero-add, add-zero)
+preset_tally g = simp (zero-add, add-zero)
 
 module _ (s : List ℕ) (at : ℕ) (h : at ≤ length s) (q : is_done (run presets s at) ≡ true) where
   -- what is asked by the function that tallies the conditions
-  pub tally-asked : {k : ℕ} → k ≡ count_at s at → (at + 3 ≤ length s) × (is_done (run (many k (flat 13 condition)) s (at + 3)) ≡ true)
+  pub tally_asked : {k : ℕ} → k ≡ count_at s at → (at + 3 ≤ length s) × (is_done (run (many k (flat 13 condition)) s (at + 3)) ≡ true)
   unfolding took total
-  tally-asked c = let a = tally-ask preset 13 condition s at h q in (a.begun, rw (c ∙ sym (count-so s at)) a.sound)
+  tally_asked c = let a = tally_ask preset 13 condition s at h q in (a.begun, rw (c ∙ sym (count_so s at)) a.sound)
 
-  pub preset-tallied : {p : GroupPreset} {k own below m : ℕ} → p ≡ preset_from s at 0 → k ≡ count_at s at → own ≡ tally (layouts preset) (preset_cols p)
+  pub preset_tallied : {p : GroupPreset} {k own below m : ℕ} → p ≡ preset_from s at 0 → k ≡ count_at s at → own ≡ tally (layouts preset) (preset_cols p)
       → below ≡ sum (λ r. tally (condition ∷ []) (of r)) (rows_of (run (many k (flat 13 condition)) s (at + 3))) → m ≡ pos_of (run (many k (flat 13 condition)) s (at + 3))
       → done (own + below) m ≡ map_out (family_tally preset condition) (run presets s at)
   unfolding took puts_at put split total each
-  preset-tallied {m = m} e c o b p =
-      family-tallied preset 13 condition s at h q
-      (rw (c ∙ sym (count-so s at)) at p)
+  preset_tallied {m = m} e c o b p =
+      family_tallied preset 13 condition s at h q
+      (rw (c ∙ sym (count_so s at)) at p)
       (o ∙ ap (λ (p : GroupPreset). tally (layouts preset) (preset_cols p)) e)
-      (rw (c ∙ sym (count-so s at)) at b)
+      (rw (c ∙ sym (count_so s at)) at b)
       refl
       (sym (add-zero m))

@@ -14,14 +14,14 @@ use Rattle.wire.specs.Pen.{Checked, Quick, Ready, clean, bytes}
 use Rattle.wire.specs.Layout.{num, reserved, Columns, at, field_of, writes, shown, cells, matches, matched, every, has, family_acts, broken_acts}
 use Rattle.wire.specs.Spell.{PlainRows, PlainRun, fields_of, fit_all}
 use Rattle.wire.specs.declared.pen.Fault.TheVariants as F
-use Rattle.wire.proofs.Fields.{less-one-fits}
+use Rattle.wire.proofs.Fields.{less_one_fits}
 use Rattle.wire.proofs.Writing.Acts.{and_both}
 use Rattle.wire.proofs.Writing.Plain.{clean_all}
 use Rattle.wire.proofs.Writing.Passes.{here, nothing, Filling}
 use Rattle.wire.proofs.Layouts.Cells.{all, distinct, free, eights, proper}
 use Rattle.wire.proofs.Layouts.Forms.{sure, below}
 use Rattle.wire.proofs.Layouts.Rowed.{nest_test, weight}
-use Rattle.wire.proofs.Layouts.Families.{Front, front_acts, front-passed, row_is_plain, kids-passed, kids-odd, broken-stopped, broken-checked, broken-quick, broken-odd, broken-odd-kid, broken-ready, broken-filling}
+use Rattle.wire.proofs.Layouts.Families.{Front, front_acts, front_passed, row_is_plain, kids_passed, kids_odd, broken_stopped, broken_checked, broken_quick, broken_odd, broken_odd_kid, broken_ready, broken_filling}
 use Rattle.wire.specs.declared.pen.Fault.{Fault}
 use Rattle.wire.specs.declared.pen.Pen.{Pen}
 use Rattle.wire.specs.declared.pen.Pen.TheVariants.{At, Stop}
@@ -34,47 +34,47 @@ use Rattle.presets.specs.Write.{head_fields, preset_acts}
 
 -- ---- a preset
 
-pub preset-passes : nest_test preset ≡ true
+pub preset_passes : nest_test preset ≡ true
 unfolding nest_test weight below proper all has distinct free eights total sure flatten
-preset-passes = refl
+preset_passes = refl
 
 abbrev pub plain_acts : ℕ → (ℕ → List Act) → Columns → List Act
 plain_acts room kid g =
     demand F.Range (leb (g 5 + g 6) room) ∷ demand F.Field true ∷ demand F.Empty (leb 1 (g 6)) ∷ (map byte (fields_of g head_cells) ++ (rows kid (g 5) (g 6) ++ []))
 
-pub preset-acts : (room : ℕ) (kid : ℕ → List Act) (g : Columns) → broken_acts preset room kid g ≡ plain_acts room kid g
+pub preset_acts_lem : (room : ℕ) (kid : ℕ → List Act) (g : Columns) → broken_acts preset room kid g ≡ plain_acts room kid g
 unfolding writes shown cells matches matched every flatten
-preset-acts room kid g = rw (and-true (leb 1 (g 6)))
+preset_acts_lem room kid g = rw (and-true (leb 1 (g 6)))
 
 -- what stands before its conditions
-pub front-acts : (room : ℕ) (g : Columns)
+pub front_acts_lem : (room : ℕ) (g : Columns)
     → front_acts preset room g ≡ demand F.Range (leb (g 5 + g 6) room) ∷ demand F.Field true ∷ demand F.Empty (leb 1 (g 6)) ∷ map byte (fields_of g head_cells)
 unfolding writes shown cells matches matched every flatten
-front-acts room g = rw (and-true (leb 1 (g 6)))
+front_acts_lem room g = rw (and-true (leb 1 (g 6)))
 
 -- a row of the table
-pub row-acts : (t u : List ℕ) (i : ℕ) → preset_acts (preset_of t (i * 7)) u ≡ family_acts preset 13 condition t u i
-row-acts t u i = preset-acts _ _ (preset_cols (preset_of t (i * 7))) ∙ same ∙ sym (preset-acts _ _ (at 7 t i))
+pub row_acts_lem : (t u : List ℕ) (i : ℕ) → preset_acts (preset_of t (i * 7)) u ≡ family_acts preset 13 condition t u i
+row_acts_lem t u i = preset_acts_lem _ _ (preset_cols (preset_of t (i * 7))) ∙ same ∙ sym (preset_acts_lem _ _ (at 7 t i))
   where
     same : plain_acts (length u / 13) (row_acts u) (preset_cols (preset_of t (i * 7))) ≡ plain_acts (length u / 13) (row_acts u) (at 7 t i)
     same = rw add-zero
 
 pub row_at : (t u : List ℕ) (b i : ℕ) → b ≡ i * 7 → preset_acts (preset_of t b) u ≡ family_acts preset 13 condition t u i
-row_at t u b i e = ap (λ (b : ℕ). preset_acts (preset_of t b) u) e ∙ row-acts t u i
+row_at t u b i e = ap (λ (b : ℕ). preset_acts (preset_of t b) u) e ∙ row_acts_lem t u i
 
 -- ---- its conditions stand in their table, and are at most 16 if the third byte fits
 
 in_rows : (k l : ℕ) → k ≤ l / 13 → k * 13 ≤ l
 in_rows k l h = let z : 0 < 13 = omega arith in (le-div_iff_mul-le {y = l} z).0 h
 
-third-fits : (a b c : List Field) → fit_all (a ∷ b ∷ c ∷ []) ≡ true → fit c ≡ true
+third_fits : (a b c : List Field) → fit_all (a ∷ b ∷ c ∷ []) ≡ true → fit c ≡ true
 unfolding fit_all
-third-fits a b c e = (and_both (fit c) true (and_both (fit b) (fit c && true) (and_both (fit a) (fit b && (fit c && true)) e).1).1).0
+third_fits a b c e = (and_both (fit c) true (and_both (fit b) (fit c && true) (and_both (fit a) (fit b && (fit c && true)) e).1).1).0
 
-most-16 : (g : Columns) → fit_all (fields_of g head_cells) ≡ true → g 6 ≤ 16
+most_16 : (g : Columns) → fit_all (fields_of g head_cells) ≡ true → g 6 ≤ 16
 unfolding fit
-most-16 g e =
-    let f = third-fits (map (field_of g) (reserved 3 0 ∷ num 5 1 ∷ [])) (map (field_of g) (reserved 3 2 ∷ num 5 3 ∷ [])) (field 4 (g 4) ∷ field 4 (g 6 - 1) ∷ []) e in
+most_16 g e =
+    let f = third_fits (map (field_of g) (reserved 3 0 ∷ num 5 1 ∷ [])) (map (field_of g) (reserved 3 2 ∷ num 5 3 ∷ [])) (field 4 (g 4) ∷ field 4 (g 6 - 1) ∷ []) e in
     let (_, l) = and_both (ltb (g 4) (2 ^ 4)) (ltb (g 6 - 1) (2 ^ 4) && true) f in
     let (m, _) = and_both (ltb (g 6 - 1) (2 ^ 4)) true l in
     omega (arith, ltb-true (g 6 - 1) (2 ^ 4) m)
@@ -84,7 +84,7 @@ pub front_fits : (p : GroupPreset) {x y : Bool} → x ≡ fit (field 3 p.reserve
     → y ≡ ltb p.reserved_conditions (2 ^ 4) → x && ((leb 1 p.conditions.count && leb p.conditions.count 16) && y) ≡ leb 1 p.conditions.count && fit_all (head_fields p)
 unfolding fit fit_all
 front_fits p e f =
-    (λ i. e i && ((leb 1 p.conditions.count && less-one-fits p.conditions.count 4 i) && f i))
+    (λ i. e i && ((leb 1 p.conditions.count && less_one_fits p.conditions.count 4 i) && f i))
     ∙ go (ltb p.reserved_id (2 ^ 3)) (ltb p.preset_id.0 (2 ^ 5)) (ltb p.reserved_kind (2 ^ 3)) (ltb p.preset_kind (2 ^ 5)) (leb 1 p.conditions.count)
     (ltb (p.conditions.count - 1) (2 ^ 4)) (ltb p.reserved_conditions (2 ^ 4))
   where
@@ -109,23 +109,23 @@ module _ (u : List ℕ) (g : Columns) where
 
   -- ---- the check pass
 
-  pub front-few : Front preset room (row_acts u) g → Few g u
+  pub front_few : Front preset room (row_acts u) g → Few g u
   unfolding writes
-  front-few f = record { inside = in_rows (g 5 + g 6) (length u) f.inside; few = most-16 g (sym (clean_all (fields_of g head_cells)) ∙ f.fits) }
+  front_few f = record { inside = in_rows (g 5 + g 6) (length u) f.inside; few = most_16 g (sym (clean_all (fields_of g head_cells)) ∙ f.fits) }
 
   module _ {n : ℕ} {p : Pen} (w : Checked (front_acts preset room g) 3 (At n) p) where
-    pub preset-passed : {m : ℕ} → p ≡ At m → Few g u
-    preset-passed e = front-few (front-passed preset room (row_acts u) g w e)
+    pub preset_passed : {m : ℕ} → p ≡ At m → Few g u
+    preset_passed e = front_few (front_passed preset room (row_acts u) g w e)
 
-    pub preset-near : {m : ℕ} → p ≡ At m → m ≤ n + 3
-    preset-near e = rw e at w.near
+    pub preset_near : {m : ℕ} → p ≡ At m → m ≤ n + 3
+    preset_near e = rw e at w.near
 
-    pub preset-stopped : {f : Fault} {m : ℕ} → p ≡ Stop f m → Checked (broken_acts preset room (row_acts u) g) 99 (At n) p
-    preset-stopped e = broken-stopped preset room (row_acts u) g w 99 (omega arith) e
+    pub preset_stopped : {f : Fault} {m : ℕ} → p ≡ Stop f m → Checked (broken_acts preset room (row_acts u) g) 99 (At n) p
+    preset_stopped e = broken_stopped preset room (row_acts u) g w 99 (omega arith) e
 
-    pub preset-checked : {m : ℕ} {r : Pen} → p ≡ At m → Checked (rows (row_acts u) (g 5) (g 6)) (6 * g 6) (At m) r → Checked (broken_acts preset room (row_acts u) g) 99 (At n) r
+    pub preset_checked : {m : ℕ} {r : Pen} → p ≡ At m → Checked (rows (row_acts u) (g 5) (g 6)) (6 * g 6) (At m) r → Checked (broken_acts preset room (row_acts u) g) 99 (At n) r
     unfolding writes
-    preset-checked {r = r} e x = broken-checked preset room (row_acts u) g w 99 (here e x) (nothing 0 r) (omega (arith, (preset-passed e).few))
+    preset_checked {r = r} e x = broken_checked preset room (row_acts u) g w 99 (here e x) (nothing 0 r) (omega (arith, (preset_passed e).few))
 
   -- ---- the quick test
 
@@ -136,51 +136,51 @@ module _ (u : List ℕ) (g : Columns) where
   unfolding writes shown cells every flatten clean
   plain_row = λ i. leb (g 5 + g 6) room && (and-true (leb 1 (g 6)) i && (and-true (clean (map byte (fields_of g head_cells))) ∙ clean_all (fields_of g head_cells)) i)
 
-  pub test-few : test ≡ true → Few g u
-  test-few e =
+  pub test_few : test ≡ true → Few g u
+  test_few e =
       let (r, e₁) = and_both (leb (g 5 + g 6) room) _ e in
       let (_, f) = and_both (leb 1 (g 6)) (fit_all (fields_of g head_cells)) e₁ in
-      record { inside = in_rows (g 5 + g 6) (length u) (leb-true _ _ r); few = most-16 g f }
+      record { inside = in_rows (g 5 + g 6) (length u) (leb-true _ _ r); few = most_16 g f }
 
-  test-odd : test ≡ false → Quick (broken_acts preset room (row_acts u) g) 99 0
-  test-odd e = broken-odd preset room (row_acts u) g 99 (plain_row ∙ e)
+  test_odd : test ≡ false → Quick (broken_acts preset room (row_acts u) g) 99 0
+  test_odd e = broken_odd preset room (row_acts u) g 99 (plain_row ∙ e)
 
-  pub outside-odd : leb (g 5 + g 6) room ≡ false → Quick (broken_acts preset room (row_acts u) g) 99 0
-  outside-odd e = test-odd (ap (λ (b : Bool). b && (leb 1 (g 6) && fit_all (fields_of g head_cells))) e)
+  pub outside_odd : leb (g 5 + g 6) room ≡ false → Quick (broken_acts preset room (row_acts u) g) 99 0
+  outside_odd e = test_odd (ap (λ (b : Bool). b && (leb 1 (g 6) && fit_all (fields_of g head_cells))) e)
 
-  pub front-odd : leb 1 (g 6) && fit_all (fields_of g head_cells) ≡ false → Quick (broken_acts preset room (row_acts u) g) 99 0
-  front-odd e = test-odd (ap (λ (b : Bool). leb (g 5 + g 6) room && b) e ∙ and-false (leb (g 5 + g 6) room))
+  pub front_odd : leb 1 (g 6) && fit_all (fields_of g head_cells) ≡ false → Quick (broken_acts preset room (row_acts u) g) 99 0
+  front_odd e = test_odd (ap (λ (b : Bool). leb (g 5 + g 6) room && b) e ∙ and-false (leb (g 5 + g 6) room))
 
   module _ {i long : ℕ} (v : PlainRows (λ j. row_acts u (g 5 + j)) 6 (g 6) i long) where
-    kids-plain : test ≡ true → g 6 ≤ i → Quick (broken_acts preset room (row_acts u) g) 99 (3 + long)
+    kids_plain : test ≡ true → g 6 ≤ i → Quick (broken_acts preset room (row_acts u) g) 99 (3 + long)
     unfolding writes bytes
-    kids-plain e h =
-        let (c, l) = kids-passed (row_acts u) (g 5) (g 6) v h in
-        let f = (test-few e).few in
-        broken-quick preset room (row_acts u) g 99 preset-passes (plain_row ∙ e) (unfold matches matched clean in refl) c (omega (arith, l)) (omega arith)
+    kids_plain e h =
+        let (c, l) = kids_passed (row_acts u) (g 5) (g 6) v h in
+        let f = (test_few e).few in
+        broken_quick preset room (row_acts u) g 99 preset_passes (plain_row ∙ e) (unfold matches matched clean in refl) c (omega (arith, l)) (omega arith)
         (omega (arith, v.few, v.within, f))
 
-    kid-odd : i < g 6 → Quick (broken_acts preset room (row_acts u) g) 99 0
-    kid-odd h = broken-odd-kid preset room (row_acts u) g 99 (kids-odd (row_acts u) (g 5) (g 6) v h)
+    kid_odd : i < g 6 → Quick (broken_acts preset room (row_acts u) g) 99 0
+    kid_odd h = broken_odd_kid preset room (row_acts u) g 99 (kids_odd (row_acts u) (g 5) (g 6) v h)
 
   -- the conditions, by one number
   module _ {long : ℕ} (v : PlainRun (λ j. row_acts u (g 5 + j)) 6 (g 6) long) where
-    pub run-plain : test ≡ true → 0 < long → Quick (broken_acts preset room (row_acts u) g) 99 (3 + long)
-    run-plain e h = kids-plain (v.all h) e (omega arith)
+    pub run_plain : test ≡ true → 0 < long → Quick (broken_acts preset room (row_acts u) g) 99 (3 + long)
+    run_plain e h = kids_plain (v.all h) e (omega arith)
 
-    pub run-odd : long ≡ 0 → Quick (broken_acts preset room (row_acts u) g) 99 0
-    run-odd z = let (i, n, h, w) = v.odd z in kid-odd w h
+    pub run_odd : long ≡ 0 → Quick (broken_acts preset room (row_acts u) g) 99 0
+    run_odd z = let (i, n, h, w) = v.odd z in kid_odd w h
 
   -- ---- the fill pass
 
   module _ {n : ℕ} {l : List ℕ} (w : Ready (broken_acts preset room (row_acts u) g) n l) where
-    pub ready-few : Few g u
-    ready-few = front-few (broken-ready preset room (row_acts u) g w)
+    pub ready_few : Few g u
+    ready_few = front_few (broken_ready preset room (row_acts u) g w)
 
-    pub ready-counted : 1 ≤ g 6
+    pub ready_counted : 1 ≤ g 6
     unfolding shown cells every flatten
-    ready-counted = leb-true 1 (g 6) (and_both (leb 1 (g 6)) true (broken-ready preset room (row_acts u) g w).counts).0
+    ready_counted = leb-true 1 (g 6) (and_both (leb 1 (g 6)) true (broken_ready preset room (row_acts u) g w).counts).0
 
     pub filling : Filling (broken_acts preset room (row_acts u) g) (map byte (fields_of g head_cells) ++ (rows (row_acts u) (g 5) (g 6) ++ [])) n l n l
     unfolding writes
-    filling = broken-filling preset room (row_acts u) g w
+    filling = broken_filling preset room (row_acts u) g w

@@ -18,9 +18,9 @@ use Rattle.wire.specs.Act.{pick}
 use Rattle.wire.specs.Straight.{ends, ones}
 use Rattle.wire.specs.declared.reads.Short.{Short}
 use Rattle.wire.proofs.Reading.Runs.{out_and_then, run_bind}
-use Rattle.wire.proofs.Reading.Walk.{byte_next, as-done}
-use Rattle.wire.proofs.Fields.{part-below, wider}
-use Rattle.wire.proofs.Layouts.Straight.{ends_at, ends-within, ones-lacks, size-there}
+use Rattle.wire.proofs.Reading.Walk.{byte_next, as_done}
+use Rattle.wire.proofs.Fields.{part_below, wider}
+use Rattle.wire.proofs.Layouts.Straight.{ends_at, ends_within, ones_lacks, size_there}
 use Rattle.scene_kind.specs.Read.{Section, section}
 use Rattle.scene.specs.Walk.{rows_at, count_at, reserved_at, reserved_zeros}
 
@@ -33,36 +33,36 @@ size_small flag e = rw e (go (eqb flag 1))
     go true = omega arith
     go false = omega arith
 
-pub rows-at-so : (flag at : ℕ) {k : ℕ} → k ≡ pick (eqb flag 1) 1 0 → at + k ≡ rows_at flag at
+pub rows_at_so : (flag at : ℕ) {k : ℕ} → k ≡ pick (eqb flag 1) 1 0 → at + k ≡ rows_at flag at
 unfolding rows_at
-rows-at-so flag at e = ap (λ (k : ℕ). at + k) e
+rows_at_so flag at e = ap (λ (k : ℕ). at + k) e
 
-pub byte-there : (flag at n : ℕ) → flag ≡ 1 → rows_at flag at ≤ n → at < n
+pub byte_there : (flag at n : ℕ) → flag ≡ 1 → rows_at flag at ≤ n → at < n
 unfolding rows_at
-byte-there flag at n e h = let l = size-there 1 flag at n e h in omega arith
+byte_there flag at n e h = let l = size_there 1 flag at n e h in omega arith
 
 module _ (s : List ℕ) (flag at : ℕ) where
-  pub count-there : (w : ℕ) {v r : ℕ} → flag ≡ 1 → v ≡ get_or s at 0 → r ≡ part 0 w v → (r ≡ count_at w s flag at) × (r < 2 ^ w)
+  pub count_there : (w : ℕ) {v r : ℕ} → flag ≡ 1 → v ≡ get_or s at 0 → r ≡ part 0 w v → (r ≡ count_at w s flag at) × (r < 2 ^ w)
   unfolding count_at
-  count-there w {v} e q d = (d ∙ ap (part 0 w) q ∙ ap (λ (x : Bool). pick x (part 0 w (get_or s at 0)) 0) (sym (eq-eqb flag 1 e)), rw d (part-below 0 w v))
+  count_there w {v} e q d = (d ∙ ap (part 0 w) q ∙ ap (λ (x : Bool). pick x (part 0 w (get_or s at 0)) 0) (sym (eq-eqb flag 1 e)), rw d (part_below 0 w v))
 
-  pub count-absent : (w : ℕ) → (flag ≡ 1 → ⊥) → (0 ≡ count_at w s flag at) × (0 < 2 ^ w)
+  pub count_absent : (w : ℕ) → (flag ≡ 1 → ⊥) → (0 ≡ count_at w s flag at) × (0 < 2 ^ w)
   unfolding count_at
-  count-absent w e = (ap (λ (x : Bool). pick x (part 0 w (get_or s at 0)) 0) (sym (ne_eqb flag 1 e)), pow_pos w)
+  count_absent w e = (ap (λ (x : Bool). pick x (part 0 w (get_or s at 0)) 0) (sym (ne_eqb flag 1 e)), pow_pos w)
 
-  pub reserved-there : (r w none : ℕ) {v x : ℕ} → flag ≡ 1 → v ≡ get_or s at 0 → x ≡ part w r v → r ≤ 8 → (x ≡ reserved_at r w none s flag at) × (x < 256)
+  pub reserved_there : (r w none : ℕ) {v x : ℕ} → flag ≡ 1 → v ≡ get_or s at 0 → x ≡ part w r v → r ≤ 8 → (x ≡ reserved_at r w none s flag at) × (x < 256)
   unfolding reserved_at
-  reserved-there r w none {v} e q d l =
-      (d ∙ ap (part w r) q ∙ ap (λ (x : Bool). pick x (part w r (get_or s at 0)) none) (sym (eq-eqb flag 1 e)), rw d (wider r 8 l (part-below w r v)))
+  reserved_there r w none {v} e q d l =
+      (d ∙ ap (part w r) q ∙ ap (λ (x : Bool). pick x (part w r (get_or s at 0)) none) (sym (eq-eqb flag 1 e)), rw d (wider r 8 l (part_below w r v)))
 
-  pub reserved-absent : (r w none : ℕ) → (flag ≡ 1 → ⊥) → none < 256 → (none ≡ reserved_at r w none s flag at) × (none < 256)
+  pub reserved_absent : (r w none : ℕ) → (flag ≡ 1 → ⊥) → none < 256 → (none ≡ reserved_at r w none s flag at) × (none < 256)
   unfolding reserved_at
-  reserved-absent r w none e l = (ap (λ (x : Bool). pick x (part w r (get_or s at 0)) none) (sym (ne_eqb flag 1 e)), l)
+  reserved_absent r w none e l = (ap (λ (x : Bool). pick x (part w r (get_or s at 0)) none) (sym (ne_eqb flag 1 e)), l)
 
   -- where code stands after that byte
   pub record Begun (n : ℕ) : Type 0 where
     pub at_rows : n ≡ rows_at flag at
-    pub there-is : rows_at flag at ≤ length s
+    pub there_is : rows_at flag at ≤ length s
     pub inside : n ≤ length s
 
   pub begins : {o : Out (Unit {0})} {n k : ℕ} → at ≤ length s → k ≡ pick (eqb flag 1) 1 0 → o ≡ ends (ones k) s at → o ≡ done tt n → Begun n
@@ -70,20 +70,20 @@ module _ (s : List ℕ) (flag at : ℕ) where
   begins {n = n} {k} h q e d =
       let e' : ends (ones (pick (eqb flag 1) 1 0)) s at ≡ done tt n = ap (λ (k : ℕ). ends (ones k) s at) (sym q) ∙ sym e ∙ d in
       let m : n ≡ rows_at flag at = ends_at (ones (pick (eqb flag 1) 1 0)) s at e' ∙ go (eqb flag 1) in
-      let i = ends-within (ones (pick (eqb flag 1) 1 0)) s at h e' in
-      record { at_rows = m; there-is = rw (← m) i; inside = i }
+      let i = ends_within (ones (pick (eqb flag 1) 1 0)) s at h e' in
+      record { at_rows = m; there_is = rw (← m) i; inside = i }
     where
       go : (x : Bool) → at + total (ones (pick x 1 0)) ≡ at + pick x 1 0
       go true = refl
       go false = refl
 
-  pub zeros-there : (r w : ℕ) {v x y : ℕ} → flag ≡ 1 → v ≡ get_or s at 0 → x ≡ part w r v → y ≡ zeros r x → y ≡ reserved_zeros r w s flag at
+  pub zeros_there : (r w : ℕ) {v x y : ℕ} → flag ≡ 1 → v ≡ get_or s at 0 → x ≡ part w r v → y ≡ zeros r x → y ≡ reserved_zeros r w s flag at
   unfolding reserved_zeros
-  zeros-there r w e q d z = z ∙ ap (zeros r) (d ∙ ap (part w r) q) ∙ ap (λ (x : Bool). pick x (zeros r (part w r (get_or s at 0))) 0) (sym (eq-eqb flag 1 e))
+  zeros_there r w e q d z = z ∙ ap (zeros r) (d ∙ ap (part w r) q) ∙ ap (λ (x : Bool). pick x (zeros r (part w r (get_or s at 0))) 0) (sym (eq-eqb flag 1 e))
 
-  pub zeros-absent : (r w : ℕ) → (flag ≡ 1 → ⊥) → 0 ≡ reserved_zeros r w s flag at
+  pub zeros_absent : (r w : ℕ) → (flag ≡ 1 → ⊥) → 0 ≡ reserved_zeros r w s flag at
   unfolding reserved_zeros
-  zeros-absent r w e = ap (λ (x : Bool). pick x (zeros r (part w r (get_or s at 0))) 0) (sym (ne_eqb flag 1 e))
+  zeros_absent r w e = ap (λ (x : Bool). pick x (zeros r (part w r (get_or s at 0))) 0) (sym (ne_eqb flag 1 e))
 
 -- ---- its rows
 
@@ -107,9 +107,9 @@ module _ {A : Type 0} (p : Prog A) (r w none : ℕ) (s : List ℕ) (flag at : �
   absent = record { reserved = none; count = 0; rows = [] }
 
   -- its byte is there: the rows are read behind it
-  pub section-so : rows_at flag at ≤ length s → run (section flag r w none p) s at ≡ map_out section_of (run (many (count_at w s flag at) p) s (rows_at flag at))
+  pub section_so : rows_at flag at ≤ length s → run (section flag r w none p) s at ≡ map_out section_of (run (many (count_at w s flag at) p) s (rows_at flag at))
   unfolding section run many rows_at count_at reserved_at
-  section-so h = go (eqb flag 1) h
+  section_so h = go (eqb flag 1) h
     where
       go : (x : Bool) → at + pick x 1 0 ≤ length s
           → ◌≡◌ {A = Out (Section A)} (run (pick x there (ret absent)) s at)
@@ -118,9 +118,9 @@ module _ {A : Type 0} (p : Prog A) (r w none : ℕ) (s : List ℕ) (flag at : �
       go false h = ap (done absent) (sym (add-zero at))
 
   -- it is not: nor is the section
-  pub section-cut : {x : Short} → ends (ones (pick (eqb flag 1) 1 0)) s at ≡ short x → run (section flag r w none p) s at ≡ short x
+  pub section_cut : {x : Short} → ends (ones (pick (eqb flag 1) 1 0)) s at ≡ short x → run (section flag r w none p) s at ≡ short x
   unfolding section run ones ends u8 ◌>>=◌
-  section-cut {x} e = go (eqb flag 1) e
+  section_cut {x} e = go (eqb flag 1) e
     where
       cut : (b : Bool) (q : Out (Section A)) → ◌≡◌ {A = Out (Unit {0})} (elim b [ true ↦ done tt (at + 1) | false ↦ short (needing (at + 1)) ]) (short x)
           → ◌≡◌ {A = Out (Section A)} (elim b [ true ↦ q | false ↦ short (needing (at + 1)) ]) (short x)
@@ -131,29 +131,29 @@ module _ {A : Type 0} (p : Prog A) (r w none : ℕ) (s : List ℕ) (flag at : �
       go true e = cut (leb (at + 1) (length s)) _ e
       go false e = absurd (let z : ◌≡◌ {A = ℕ} 0 1 = cc e in omega arith)
 
-  pub section-cut-off : {o : Out (Unit {0})} {k : ℕ} {x : Short} → k ≡ pick (eqb flag 1) 1 0 → o ≡ ends (ones k) s at → o ≡ short x → o ≡ end_of (run (section flag r w none p) s at)
-  section-cut-off q e d = d ∙ sym (ap end_of (section-cut (ap (λ (k : ℕ). ends (ones k) s at) (sym q) ∙ sym e ∙ d)))
+  pub section_cut_off : {o : Out (Unit {0})} {k : ℕ} {x : Short} → k ≡ pick (eqb flag 1) 1 0 → o ≡ ends (ones k) s at → o ≡ short x → o ≡ end_of (run (section flag r w none p) s at)
+  section_cut_off q e d = d ∙ sym (ap end_of (section_cut (ap (λ (k : ℕ). ends (ones k) s at) (sym q) ∙ sym e ∙ d)))
 
-  pub section-cut-sum : (f : List A → ℕ) {o : Out (Unit {0})} {k all : ℕ} {x y : Short} → k ≡ pick (eqb flag 1) 1 0 → o ≡ ends (ones k) s at → o ≡ short x → y ≡ short_of o
+  pub section_cut_sum : (f : List A → ℕ) {o : Out (Unit {0})} {k all : ℕ} {x y : Short} → k ≡ pick (eqb flag 1) 1 0 → o ≡ ends (ones k) s at → o ≡ short x → y ≡ short_of o
       → Summed (section flag r w none p) (λ z. f z.rows) all s at (N.Short y)
-  section-cut-sum f {all = all} {x} {y} q e d h = record {
-    is = ap short (h ∙ ap short_of d) ∙ sym (ap (map_out (λ (z : Section A). f z.rows)) (section-cut (ap (λ (k : ℕ). ends (ones k) s at) (sym q) ∙ sym e ∙ d)));
+  section_cut_sum f {all = all} {x} {y} q e d h = record {
+    is = ap short (h ∙ ap short_of d) ∙ sym (ap (map_out (λ (z : Section A). f z.rows)) (section_cut (ap (λ (k : ℕ). ends (ones k) s at) (sym q) ∙ sym e ∙ d)));
     small = omega arith;
   }
 
   -- the rows decide the end of the section, and what is known of them
-  pub section-ends : {n k : ℕ} {o : Out (Unit {0})} → Begun s flag at n → k ≡ count_at w s flag at → o ≡ end_of (run (many k p) s n) → o ≡ end_of (run (section flag r w none p) s at)
-  section-ends {n} {k} b q e =
-      e ∙ (λ i. end_of (run (many (q i) p) s (b.at_rows i))) ∙ sym (ap end_of (section-so b.there-is) ∙ go (run (many (count_at w s flag at) p) s (rows_at flag at)))
+  pub section_ends : {n k : ℕ} {o : Out (Unit {0})} → Begun s flag at n → k ≡ count_at w s flag at → o ≡ end_of (run (many k p) s n) → o ≡ end_of (run (section flag r w none p) s at)
+  section_ends {n} {k} b q e =
+      e ∙ (λ i. end_of (run (many (q i) p) s (b.at_rows i))) ∙ sym (ap end_of (section_so b.there_is) ∙ go (run (many (count_at w s flag at) p) s (rows_at flag at)))
     where
       go : (o : Out (List A)) → end_of (map_out section_of o) ≡ end_of o
       go (done l m) = refl
       go (short x) = refl
 
-  pub section-sum : (f : List A → ℕ) {n k most all : ℕ} {x : Sum} → Begun s flag at n → k ≡ count_at w s flag at → most ≤ all → Summed (many k p) f most s n x
+  pub section_sum : (f : List A → ℕ) {n k most all : ℕ} {x : Sum} → Begun s flag at n → k ≡ count_at w s flag at → most ≤ all → Summed (many k p) f most s n x
       → Summed (section flag r w none p) (λ y. f y.rows) all s at x
-  section-sum f {n} {k} b q l v = record {
-    is = v.is ∙ (λ i. map_out f (run (many (q i) p) s (b.at_rows i))) ∙ sym (ap (map_out (λ (y : Section A). f y.rows)) (section-so b.there-is) ∙ go (run (many (count_at w s flag at) p) s (rows_at flag at)));
+  section_sum f {n} {k} b q l v = record {
+    is = v.is ∙ (λ i. map_out f (run (many (q i) p) s (b.at_rows i))) ∙ sym (ap (map_out (λ (y : Section A). f y.rows)) (section_so b.there_is) ∙ go (run (many (count_at w s flag at) p) s (rows_at flag at)));
     small = omega (arith, v.small, l);
   }
     where
@@ -163,7 +163,7 @@ module _ {A : Type 0} (p : Prog A) (r w none : ℕ) (s : List ℕ) (flag at : �
 
   -- a section that was read: its byte is there, and its rows are those behind it
   pub record Stands (x : Section A) (end : ℕ) : Type 0 where
-    pub there-is : rows_at flag at ≤ length s
+    pub there_is : rows_at flag at ≤ length s
     pub reads : run (many (count_at w s flag at) p) s (rows_at flag at) ≡ done x.rows end
     pub is : x ≡ section_of x.rows
 
@@ -172,10 +172,10 @@ module _ {A : Type 0} (p : Prog A) (r w none : ℕ) (s : List ℕ) (flag at : �
   stands {x} {end} h e = go (leb (rows_at flag at) (length s)) refl
     where
       of : (l : List A) → section_of l ≡ x → run (many (count_at w s flag at) p) s (rows_at flag at) ≡ done l end → rows_at flag at ≤ length s → Stands x end
-      of l q d t = subst (λ (y : Section A). Stands y end) q (record { there-is = t; reads = d; is = refl })
+      of l q d t = subst (λ (y : Section A). Stands y end) q (record { there_is = t; reads = d; is = refl })
 
-      lacks-byte : length s < rows_at flag at → ends (ones (pick (eqb flag 1) 1 0)) s at ≡ short (needing (length s + 1))
-      lacks-byte l = ones-lacks (pick (eqb flag 1) 1 0) s at h l
+      lacks_byte : length s < rows_at flag at → ends (ones (pick (eqb flag 1) 1 0)) s at ≡ short (needing (length s + 1))
+      lacks_byte l = ones_lacks (pick (eqb flag 1) 1 0) s at h l
 
       never : short (needing (length s + 1)) ≡ done x end → ⊥
       never e = let z : ◌≡◌ {A = ℕ} 0 1 = cc e in omega arith
@@ -183,6 +183,6 @@ module _ {A : Type 0} (p : Prog A) (r w none : ℕ) (s : List ℕ) (flag at : �
       go : (b : Bool) → leb (rows_at flag at) (length s) ≡ b → Stands x end
       go true q =
           let t = leb-true (rows_at flag at) (length s) q in
-          let (l, d, z) = as-done section_of (run (many (count_at w s flag at) p) s (rows_at flag at)) (sym (section-so t) ∙ e) in
+          let (l, d, z) = as_done section_of (run (many (count_at w s flag at) p) s (rows_at flag at)) (sym (section_so t) ∙ e) in
           of l z d t
-      go false q = absurd (never (sym (section-cut (lacks-byte (leb-false (rows_at flag at) (length s) q))) ∙ e))
+      go false q = absurd (never (sym (section_cut (lacks_byte (leb-false (rows_at flag at) (length s) q))) ∙ e))

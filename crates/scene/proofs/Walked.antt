@@ -11,9 +11,9 @@ use Rattle.wire.specs.Layout.{flat, Family, kids}
 use Rattle.wire.specs.declared.reads.Short.{Short}
 use Rattle.wire.specs.declared.reads.Sum.{Sum}
 use Rattle.wire.specs.declared.reads.Sum.TheVariants as S
-use Rattle.wire.proofs.Reading.Walk.{From, byte_next, onward, Passed, end-onward, end-cut-off, finished}
-use Rattle.wire.proofs.Reading.Loops.{WentOn, sum-onward, sum-cut-off, sum-small}
-use Rattle.wire.proofs.Layouts.Straight.{Past, singly, singly-cut}
+use Rattle.wire.proofs.Reading.Walk.{From, byte_next, onward, Passed, end_onward, end_cut_off, finished}
+use Rattle.wire.proofs.Reading.Loops.{WentOn, sum_onward, sum_cut_off, sum_small}
+use Rattle.wire.proofs.Layouts.Straight.{Past, singly, singly_cut}
 use Rattle.scene_groups.specs.Layout.{group}
 use Rattle.switch_groups.specs.Layout.{switch_group_list}
 use Rattle.presets.specs.Layout.{presets}
@@ -22,34 +22,34 @@ use Rattle.scene_kind.specs.Rows.{Scene}
 use Rattle.scene_kind.specs.Read.{Section, section, scene_over}
 use Rattle.scene_kind.specs.Kind.{kind}
 use Rattle.scene.specs.Walk.{groups_flag, switches_flag, presets_flag, Found, tree_of, tree}
-use Rattle.scene_kind.proofs.Mirrored.{parse-over}
+use Rattle.scene_kind.proofs.Mirrored.{parse_over}
 
 -- ---- the program from section to section
 
 abbrev pub behind_presets : List ℕ → Section (List ℕ) → Section Family → Section Family → Prog Scene
 behind_presets s g x p = ret (tree_of s g x p)
 
-abbrev pub behind-switches : List ℕ → Section (List ℕ) → Section Family → Prog Scene
-behind-switches s g x = section (presets_flag s) 3 5 7 presets >>= behind_presets s g x
+abbrev pub behind_switches : List ℕ → Section (List ℕ) → Section Family → Prog Scene
+behind_switches s g x = section (presets_flag s) 3 5 7 presets >>= behind_presets s g x
 
-abbrev pub behind-groups : List ℕ → Section (List ℕ) → Prog Scene
-behind-groups s g = section (switches_flag s) 3 5 7 switch_group_list >>= behind-switches s g
+abbrev pub behind_groups : List ℕ → Section (List ℕ) → Prog Scene
+behind_groups s g = section (switches_flag s) 3 5 7 switch_group_list >>= behind_switches s g
 
-abbrev pub behind-head : List ℕ → Prog Scene
-behind-head s = section (groups_flag s) 1 7 1 (flat 27 group) >>= behind-groups s
+abbrev pub behind_head_lem : List ℕ → Prog Scene
+behind_head_lem s = section (groups_flag s) 1 7 1 (flat 27 group) >>= behind_groups s
 
 -- ---- the first two bytes
 
-pub head-there : (s : List ℕ) → 2 ≤ length s → From kind.program s 0 (behind-head s) 2
+pub head_there : (s : List ℕ) → 2 ≤ length s → From kind.program s 0 (behind_head_lem s) 2
 unfolding scene_over
-head-there s h = record {
-  same = ap (λ (p : Prog Scene). run p s 0) parse-over ∙ byte_next _ s 0 (omega arith) refl ∙ byte_next _ s 1 (omega arith) refl;
+head_there s h = record {
+  same = ap (λ (p : Prog Scene). run p s 0) parse_over ∙ byte_next _ s 0 (omega arith) refl ∙ byte_next _ s 1 (omega arith) refl;
   inside = h;
 }
 
-pub head-cut : (s : List ℕ) {x : Short} → ends (ones 2) s 0 ≡ short x → run kind.program s 0 ≡ short x
+pub head_cut : (s : List ℕ) {x : Short} → ends (ones 2) s 0 ≡ short x → run kind.program s 0 ≡ short x
 unfolding scene_over singly
-head-cut s e = ap (λ (p : Prog Scene). run p s 0) parse-over ∙ singly-cut 2 behind-head s 0 e
+head_cut s e = ap (λ (p : Prog Scene). run p s 0) parse_over ∙ singly_cut 2 behind_head_lem s 0 e
 
 -- ---- section after section, each with the flag as code has it
 
@@ -57,63 +57,63 @@ abbrev members : Section Family → ℕ
 members x = length (kids x.rows)
 
 abbrev pub InGroups : List ℕ → ℕ → Type 0
-InGroups s m = Passed (section (groups_flag s) 1 7 1 (flat 27 group)) (behind-groups s) kind.program s 0 2 m
+InGroups s m = Passed (section (groups_flag s) 1 7 1 (flat 27 group)) (behind_groups s) kind.program s 0 2 m
 
 module _ {s : List ℕ} {n g : ℕ} (h : Past s 0 2 n) (q : g ≡ groups_flag s) {o : Out (Unit {0})} (e : o ≡ end_of (run (section g 1 7 1 (flat 27 group)) s n)) where
   same : o ≡ end_of (run (section (groups_flag s) 1 7 1 (flat 27 group)) s 2)
   same = e ∙ (λ i. end_of (run (section (q i) 1 7 1 (flat 27 group)) s (h.is i)))
 
-  pub groups-found : {m : ℕ} → o ≡ done tt m → InGroups s m
-  groups-found d = end-onward (section (groups_flag s) 1 7 1 (flat 27 group)) (behind-groups s) (head-there s h.inside) same d
+  pub groups_found : {m : ℕ} → o ≡ done tt m → InGroups s m
+  groups_found d = end_onward (section (groups_flag s) 1 7 1 (flat 27 group)) (behind_groups s) (head_there s h.inside) same d
 
-  pub groups-cut : {x y : Short} → o ≡ short x → y ≡ short_of o → run kind.program s 0 ≡ short y
-  groups-cut d z = sym (end-cut-off (section (groups_flag s) 1 7 1 (flat 27 group)) (behind-groups s) (head-there s h.inside) same d z)
+  pub groups_cut : {x y : Short} → o ≡ short x → y ≡ short_of o → run kind.program s 0 ≡ short y
+  groups_cut d z = sym (end_cut_off (section (groups_flag s) 1 7 1 (flat 27 group)) (behind_groups s) (head_there s h.inside) same d z)
 
 pub record InSwitches (s : List ℕ) (m v n : ℕ) : Type 0 where
   pub before : InGroups s m
   pub small : v ≤ 992
-  pub on : WentOn (section (switches_flag s) 3 5 7 switch_group_list) members (behind-switches s before.value) kind.program s 0 m v n
+  pub on : WentOn (section (switches_flag s) 3 5 7 switch_group_list) members (behind_switches s before.value) kind.program s 0 m v n
 
 module _ {s : List ℕ} {t m : ℕ} (w : InGroups s m) (q : t ≡ switches_flag s) {r : Sum} (x : Summed (section t 3 5 7 switch_group_list) members 992 s m r) where
   summed : Summed (section (switches_flag s) 3 5 7 switch_group_list) members 992 s m r
   summed = subst (λ (t : ℕ). Summed (section t 3 5 7 switch_group_list) members 992 s m r) q x
 
-  pub switches-found : {v n : ℕ} → r ≡ S.Got v n → InSwitches s m v n
-  switches-found e = record { before = w; small = sum-small summed e; on = sum-onward (section (switches_flag s) 3 5 7 switch_group_list) (behind-switches s w.value) w.place summed e }
+  pub switches_found : {v n : ℕ} → r ≡ S.Got v n → InSwitches s m v n
+  switches_found e = record { before = w; small = sum_small summed e; on = sum_onward (section (switches_flag s) 3 5 7 switch_group_list) (behind_switches s w.value) w.place summed e }
 
-  pub switches-cut : {y : Short} → r ≡ S.Short y → run kind.program s 0 ≡ short y
-  switches-cut e = sym (sum-cut-off (section (switches_flag s) 3 5 7 switch_group_list) (behind-switches s w.value) w.place summed e)
+  pub switches_cut : {y : Short} → r ≡ S.Short y → run kind.program s 0 ≡ short y
+  switches_cut e = sym (sum_cut_off (section (switches_flag s) 3 5 7 switch_group_list) (behind_switches s w.value) w.place summed e)
 
 module _ {s : List ℕ} {u m v n : ℕ} (w : InSwitches s m v n) (q : u ≡ presets_flag s) {r : Sum} (x : Summed (section u 3 5 7 presets) members 496 s n r) where
-  summed-presets : Summed (section (presets_flag s) 3 5 7 presets) members 496 s n r
-  summed-presets = subst (λ (u : ℕ). Summed (section u 3 5 7 presets) members 496 s n r) q x
+  summed_presets : Summed (section (presets_flag s) 3 5 7 presets) members 496 s n r
+  summed_presets = subst (λ (u : ℕ). Summed (section u 3 5 7 presets) members 496 s n r) q x
 
   pub all_found : 2 ≤ length s → {c k : ℕ} → r ≡ S.Got c k → Found s (record { switch_groups = m; presets = n; members = v; conditions = c; k = k })
   all_found h e =
-      let y = sum-onward (section (presets_flag s) 3 5 7 presets) (behind_presets s w.before.value w.on.value) w.on.place summed-presets e in
+      let y = sum_onward (section (presets_flag s) 3 5 7 presets) (behind_presets s w.before.value w.on.value) w.on.place summed_presets e in
       record {
-        in-groups = w.before.value;
-        in-switches = w.on.value;
-        in-presets = y.value;
+        in_groups = w.before.value;
+        in_switches = w.on.value;
+        in_presets = y.value;
         head = h;
-        groups-read = w.before.reads;
-        switches-read = w.on.reads;
-        presets-read = y.reads;
-        members-are = sym w.on.is;
-        conditions-are = sym y.is;
-        members-few = w.small;
-        conditions-few = sum-small summed-presets e;
+        groups_read = w.before.reads;
+        switches_read = w.on.reads;
+        presets_read = y.reads;
+        members_are = sym w.on.is;
+        conditions_are = sym y.is;
+        members_few = w.small;
+        conditions_few = sum_small summed_presets e;
       }
 
-  pub presets-cut : {y : Short} → r ≡ S.Short y → run kind.program s 0 ≡ short y
-  presets-cut e = sym (sum-cut-off (section (presets_flag s) 3 5 7 presets) (behind_presets s w.before.value w.on.value) w.on.place summed-presets e)
+  pub presets_cut : {y : Short} → r ≡ S.Short y → run kind.program s 0 ≡ short y
+  presets_cut e = sym (sum_cut_off (section (presets_flag s) 3 5 7 presets) (behind_presets s w.before.value w.on.value) w.on.place summed_presets e)
 
 -- ---- what was found
 
-pub found-reads : (s : List ℕ) (p : Places) (f : Found s p) → run kind.program s 0 ≡ done (tree f) p.k
-found-reads s p f =
-    let w₀ = head-there s f.head in
-    let w₁ = onward (section (groups_flag s) 1 7 1 (flat 27 group)) (behind-groups s) w₀ refl f.groups-read in
-    let w₂ = onward (section (switches_flag s) 3 5 7 switch_group_list) (behind-switches s f.in-groups) w₁ refl f.switches-read in
-    let w₃ = onward (section (presets_flag s) 3 5 7 presets) (behind_presets s f.in-groups f.in-switches) w₂ refl f.presets-read in
+pub found_reads : (s : List ℕ) (p : Places) (f : Found s p) → run kind.program s 0 ≡ done (tree f) p.k
+found_reads s p f =
+    let w₀ = head_there s f.head in
+    let w₁ = onward (section (groups_flag s) 1 7 1 (flat 27 group)) (behind_groups s) w₀ refl f.groups_read in
+    let w₂ = onward (section (switches_flag s) 3 5 7 switch_group_list) (behind_switches s f.in_groups) w₁ refl f.switches_read in
+    let w₃ = onward (section (presets_flag s) 3 5 7 presets) (behind_presets s f.in_groups f.in_switches) w₂ refl f.presets_read in
     sym (finished w₃ refl)

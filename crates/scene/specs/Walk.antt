@@ -47,23 +47,23 @@ presets_flag s = part 5 1 (get_or s 0 0)
 
 -- the flags as code has them
 pub record Flags (s : List ℕ) (g t q : ℕ) : Type 0 where
-  pub of-groups : g ≡ groups_flag s
-  pub of-switches : t ≡ switches_flag s
-  pub of-presets : q ≡ presets_flag s
+  pub of_groups : g ≡ groups_flag s
+  pub of_switches : t ≡ switches_flag s
+  pub of_presets : q ≡ presets_flag s
 
 -- each section is read where the one before it ends
 pub record Found (s : List ℕ) (p : Places) : Type 0 where
-  pub in-groups : Section (List ℕ)
-  pub in-switches : Section Family
-  pub in-presets : Section Family
+  pub in_groups : Section (List ℕ)
+  pub in_switches : Section Family
+  pub in_presets : Section Family
   pub head : 2 ≤ length s
-  pub groups-read : run (section (groups_flag s) 1 7 1 (flat 27 group)) s 2 ≡ done in-groups p.switch_groups
-  pub switches-read : run (section (switches_flag s) 3 5 7 switch_group_list) s p.switch_groups ≡ done in-switches p.presets
-  pub presets-read : run (section (presets_flag s) 3 5 7 presets) s p.presets ≡ done in-presets p.k
-  pub members-are : p.members ≡ length (kids in-switches.rows)
-  pub conditions-are : p.conditions ≡ length (kids in-presets.rows)
-  pub members-few : p.members ≤ 992
-  pub conditions-few : p.conditions ≤ 496
+  pub groups_read : run (section (groups_flag s) 1 7 1 (flat 27 group)) s 2 ≡ done in_groups p.switch_groups
+  pub switches_read : run (section (switches_flag s) 3 5 7 switch_group_list) s p.switch_groups ≡ done in_switches p.presets
+  pub presets_read : run (section (presets_flag s) 3 5 7 presets) s p.presets ≡ done in_presets p.k
+  pub members_are : p.members ≡ length (kids in_switches.rows)
+  pub conditions_are : p.conditions ≡ length (kids in_presets.rows)
+  pub members_few : p.members ≤ 992
+  pub conditions_few : p.conditions ≤ 496
 
 -- the tree of what was found: its columns, and the rows of the sections
 abbrev pub top_of : List ℕ → Section (List ℕ) → Section Family → Section Family → List ℕ
@@ -74,7 +74,7 @@ abbrev pub tree_of : List ℕ → Section (List ℕ) → Section Family → Sect
 tree_of s g x p = scene_is (top_of s g x p) g.rows x.rows p.rows
 
 abbrev pub tree : {s : List ℕ} {p : Places} → Found s p → Scene
-tree {s} f = tree_of s f.in-groups f.in-switches f.in-presets
+tree {s} f = tree_of s f.in_groups f.in_switches f.in_presets
 
 abbrev pub walks : List ℕ → Walk → Type 0
 walks s (W.Done p) = Found s p
@@ -86,9 +86,9 @@ pub record Walks (s : List ℕ) (r : Walk) : Type 0 where
 -- sections that have no rows
 pub record Bare (s : List ℕ) (p : Places) : Type 0 where
   pub found : Found s p
-  pub no-groups : found.in-groups.rows ≡ []
-  pub no-switches : found.in-switches.rows ≡ []
-  pub no-presets : found.in-presets.rows ≡ []
+  pub no_groups : found.in_groups.rows ≡ []
+  pub no_switches : found.in_switches.rows ≡ []
+  pub no_presets : found.in_presets.rows ≡ []
 
 abbrev pub looks : List ℕ → Look → Type 0
 looks s (L.Bare p) = Bare s p

@@ -13,9 +13,9 @@ use Rattle.wire.specs.declared.pen.Fault.TheVariants as F
 use Rattle.wire.specs.Pen.{Checked, Ready}
 use Rattle.wire.specs.declared.pen.Pen.{Pen}
 use Rattle.wire.specs.declared.pen.Pen.TheVariants.{At}
-use Rattle.wire.proofs.Fields.{fits-cons}
+use Rattle.wire.proofs.Fields.{fits_cons}
 use Rattle.wire.proofs.Writing.Acts.{and_both}
-use Rattle.wire.proofs.Writing.Parts.{part-begins, within-absent}
+use Rattle.wire.proofs.Writing.Parts.{part_begins, within_absent}
 use Rattle.wire.proofs.Writing.Passes.{byte_fits, Filling}
 use Rattle.wire.specs.Layout.{cells, matches, matched, shown, writes, every, has}
 use Rattle.frame.specs.Kind.{Lent}
@@ -29,9 +29,9 @@ use Rattle.scene_kind.specs.Kind.{kind}
 use Rattle.scene_writing.specs.Write.{head_bytes, count_byte, group_acts, switch_acts, preset_acts, groups_acts, switch_groups_acts, presets_acts, section_acts, within, all_within, scene_acts}
 
 -- the actions of the kind, section after section
-pub scene-acts : (m : MpegH3dAudioScene) (lent : Lent) (store : List ℕ) → kind.acts m lent store ≡ scene_acts m lent
+pub scene_acts_lem : (m : MpegH3dAudioScene) (lent : Lent) (store : List ℕ) → kind.acts m lent store ≡ scene_acts m lent
 unfolding kind layouts inside pieced beyond scene_acts section_acts A.within T.groups T.switch_group_list T.presets cells matches matched shown writes every has flatten rows each
-scene-acts m lent store = go m m.groups.present m.switch_groups.present m.presets.present
+scene_acts_lem m lent store = go m m.groups.present m.switch_groups.present m.presets.present
   where
     with : MpegH3dAudioScene → Bool → Bool → Bool → MpegH3dAudioScene
     with m a b c = record {
@@ -72,7 +72,7 @@ scene-acts m lent store = go m m.groups.present m.switch_groups.present m.preset
 
 -- a count that fits its byte
 pub count_fits : (r w v : ℕ) (s : Section) {p q : Pen} {n : ℕ} → Checked (byte (count_byte r w v s) ∷ []) 1 p q → q ≡ At n → s.count < 2 ^ w
-count_fits r w v s {p} c e = (fits-cons w s.count [] (fits-cons r v _ (byte_fits p c e)).1).0
+count_fits r w v s {p} c e = (fits_cons w s.count [] (fits_cons r v _ (byte_fits p c e)).1).0
 
 -- the three of them
 pub record Inside (m : MpegH3dAudioScene) (g x p : List ℕ) : Type 0 where
@@ -89,17 +89,17 @@ insides m g x p e =
 -- ---- a section in the fill pass
 
 module _ (s : Section) (fs : List Field) (row : ℕ → List Act) {n : ℕ} {l : List ℕ} where
-  pub section-begins : s.present ≡ true → Ready (section_acts s fs row) n l → Filling (section_acts s fs row) (when true (map byte (fs ∷ [])) ++ rows row 0 s.count) n l n l
+  pub section_begins : s.present ≡ true → Ready (section_acts s fs row) n l → Filling (section_acts s fs row) (when true (map byte (fs ∷ [])) ++ rows row 0 s.count) n l n l
   unfolding section_acts
-  section-begins t r = part-begins s.present (byte fs ∷ []) (rows row 0 s.count) t r
+  section_begins t r = part_begins s.present (byte fs ∷ []) (rows row 0 s.count) t r
 
 -- without a section the actions are those of the head alone
-pub bare-acts : (m : MpegH3dAudioScene) (lent : Lent) → not (m.groups.present || (m.switch_groups.present || m.presets.present)) ≡ true
+pub bare_acts : (m : MpegH3dAudioScene) (lent : Lent) → not (m.groups.present || (m.switch_groups.present || m.presets.present)) ≡ true
     → scene_acts m lent ≡ head_acts (head_bytes m)
 unfolding scene_acts section_acts
-bare-acts m lent e =
+bare_acts m lent e =
     let (g, s, p) = none_of m.groups.present m.switch_groups.present m.presets.present (not-true _ e) in
-    rw (g, s, p, sym (within-absent false m.groups.count 27 (table 0 lent) refl), sym (within-absent false m.switch_groups.count 9 (table 1 lent) refl), sym (within-absent false m.presets.count 7 (table 3 lent) refl))
+    rw (g, s, p, sym (within_absent false m.groups.count 27 (table 0 lent) refl), sym (within_absent false m.switch_groups.count 9 (table 1 lent) refl), sym (within_absent false m.presets.count 7 (table 3 lent) refl))
   where
     none_of : (a b c : Bool) → a || (b || c) ≡ false → (a ≡ false) × (b ≡ false) × (c ≡ false)
     none_of false false false e = (refl, refl, refl)

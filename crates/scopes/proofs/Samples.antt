@@ -21,60 +21,60 @@ abbrev loudness : List ℕ
 loudness = 1 ∷ 2 ∷ []
 
 -- both layouts pass the test of a layout
-pub instructions-pass : proper [] (scope instructions) ≡ true
+pub instructions_pass : proper [] (scope instructions) ≡ true
 unfolding proper scope all has distinct free eights total flatten suits each
-instructions-pass = refl
+instructions_pass = refl
 
-pub loudness-pass : proper [] (scope loudness) ≡ true
+pub loudness_pass : proper [] (scope loudness) ≡ true
 unfolding proper scope all has distinct free eights total flatten suits each
-loudness-pass = refl
+loudness_pass = refl
 
 -- type 1 is plain in an instruction, and has a group ID in a loudness entry
-pub plain-read : row 5 (taken (scope instructions) blank (253 ∷ 133 ∷ []) 0) ≡ 63 ∷ 0 ∷ 1 ∷ 0 ∷ 0 ∷ []
+pub plain_read : row 5 (taken (scope instructions) blank (253 ∷ 133 ∷ []) 0) ≡ 63 ∷ 0 ∷ 1 ∷ 0 ∷ 0 ∷ []
 unfolding scope took puts_at put split total each has
-plain-read = refl
+plain_read = refl
 
-pub group-read : row 5 (taken (scope loudness) blank (253 ∷ 133 ∷ []) 0) ≡ 63 ∷ 1 ∷ 1 ∷ 1 ∷ 5 ∷ []
+pub group_read : row 5 (taken (scope loudness) blank (253 ∷ 133 ∷ []) 0) ≡ 63 ∷ 1 ∷ 1 ∷ 1 ∷ 5 ∷ []
 unfolding scope took puts_at put split total each has
-group-read = refl
+group_read = refl
 
-pub preset-read : row 5 (taken (scope loudness) blank (255 ∷ 233 ∷ []) 0) ≡ 63 ∷ 2 ∷ 3 ∷ 7 ∷ 9 ∷ []
+pub preset_read : row 5 (taken (scope loudness) blank (255 ∷ 233 ∷ []) 0) ≡ 63 ∷ 2 ∷ 3 ∷ 7 ∷ 9 ∷ []
 unfolding scope took puts_at put split total each has
-preset-read = refl
+preset_read = refl
 
 -- ---- written
 
-pub plain-written : settle (scope_acts instructions 63 (Plain 1)) 0 ≡ image (253 ∷ [])
+pub plain_written : settle (scope_acts instructions 63 (Plain 1)) 0 ≡ image (253 ∷ [])
 unfolding scope writes matches shown settle ahead fit join flatten has each
-plain-written = refl
+plain_written = refl
 
-pub group-written : settle (scope_acts loudness 63 (Group 1 1 (record { 0 = 5 }))) 0 ≡ image (253 ∷ 133 ∷ [])
+pub group_written : settle (scope_acts loudness 63 (Group 1 1 (record { 0 = 5 }))) 0 ≡ image (253 ∷ 133 ∷ [])
 unfolding scope writes matches shown settle ahead fit join flatten has each
-group-written = refl
+group_written = refl
 
 -- a plain scope whose type needs an ID is 8, one whose type is over 3 is 5
-pub plain-needs-id : settle (scope_acts loudness 63 (Plain 1)) 0 ≡ fault F.Scope 0
+pub plain_needs_id : settle (scope_acts loudness 63 (Plain 1)) 0 ≡ fault F.Scope 0
 unfolding scope writes matches shown settle ahead fit join flatten has each
-plain-needs-id = refl
+plain_needs_id = refl
 
-pub plain-over-3 : settle (scope_acts loudness 63 (Plain 4)) 0 ≡ fault F.Field 0
+pub plain_over_3 : settle (scope_acts loudness 63 (Plain 4)) 0 ≡ fault F.Field 0
 unfolding scope writes matches shown settle ahead fit join flatten has each
-plain-over-3 = refl
+plain_over_3 = refl
 
 -- a group whose type carries no group ID here is 8, before its ID; an ID over its width is 5 where the scope begins
-pub group-elsewhere : settle (scope_acts instructions 63 (Group 1 1 (record { 0 = 200 }))) 0 ≡ fault F.Scope 0
+pub group_elsewhere : settle (scope_acts instructions 63 (Group 1 1 (record { 0 = 200 }))) 0 ≡ fault F.Scope 0
 unfolding scope writes matches shown settle ahead fit join flatten has each
-group-elsewhere = refl
+group_elsewhere = refl
 
-pub id-over : settle (scope_acts instructions 63 (Group 2 1 (record { 0 = 128 }))) 0 ≡ fault F.Field 0
+pub id_over : settle (scope_acts instructions 63 (Group 2 1 (record { 0 = 128 }))) 0 ≡ fault F.Field 0
 unfolding scope writes matches shown settle ahead fit join flatten has each
-id-over = refl
+id_over = refl
 
-pub preset-over : settle (scope_acts instructions 64 (Preset 8 (record { 0 = 32 }))) 0 ≡ fault F.Field 0
+pub preset_over : settle (scope_acts instructions 64 (Preset 8 (record { 0 = 32 }))) 0 ≡ fault F.Field 0
 unfolding scope writes matches shown settle ahead fit join flatten has each
-preset-over = refl
+preset_over = refl
 
 -- a case above 2 is 8, before the reserved bits of the type byte
-pub case-over-2 : settle (scope_acts instructions 64 Unknown) 0 ≡ fault F.Scope 0
+pub case_over_2 : settle (scope_acts instructions 64 Unknown) 0 ≡ fault F.Scope 0
 unfolding scope writes matches shown settle ahead fit join flatten has each
-case-over-2 = refl
+case_over_2 = refl

@@ -14,11 +14,11 @@ use Rattle.wire.specs.Layout.{Layout, end, one, optional, follows, ◌▹◌, fl
 use Rattle.wire.specs.Straight.{ends, ones, puts_at, took}
 use Rattle.wire.specs.declared.reads.Short.{Short}
 use Rattle.wire.specs.declared.pen.Fault.TheVariants as F
-use Rattle.wire.proofs.Fields.{part-below}
-use Rattle.wire.proofs.Reading.Runs.{run-u8, u8-done}
-use Rattle.wire.proofs.Reading.Walk.{as-done}
-use Rattle.wire.proofs.Reading.Loops.{Measuring, carry-turn}
-use Rattle.wire.proofs.Layouts.Straight.{Whole, flat-ends, ones-got, Behind, behind-one, one-cut, one_more}
+use Rattle.wire.proofs.Fields.{part_below}
+use Rattle.wire.proofs.Reading.Runs.{run_u8, u8_done}
+use Rattle.wire.proofs.Reading.Walk.{as_done}
+use Rattle.wire.proofs.Reading.Loops.{Measuring, carry_turn}
+use Rattle.wire.proofs.Layouts.Straight.{Whole, flat_ends, ones_got, Behind, behind_one, one_cut, one_more}
 use Rattle.stream_groups.specs.Layout.{group}
 use Rattle.stream_groups.specs.Rows.{located, group_id, in_main, in_auxiliary, group_row, location_cells}
 
@@ -30,26 +30,26 @@ behind = follows (flag 2) 1 (1 ∷ 0 ∷ []) F.Auxiliary ▹ optional 2 (one loc
 abbrev cased : List ℕ → ℕ → ℕ → Columns × List ℕ
 cased s at v = let r = took behind (set 0 (part 1 7 (get_or s at 0)) (set 1 v blank)) s at 1 in (r.0, 1 ∷ r.1)
 
-group-took : (s : List ℕ) (at : ℕ) {v : ℕ} → part 0 1 (get_or s at 0) ≡ v → took group blank s at 0 ≡ cased s at v
+group_took : (s : List ℕ) (at : ℕ) {v : ℕ} → part 0 1 (get_or s at 0) ≡ v → took group blank s at 0 ≡ cased s at v
 unfolding group took puts_at put split total
-group-took s at e = ap (cased s at) e
+group_took s at e = ap (cased s at) e
 
 -- ---- where it ends: a second byte follows exactly outside the main stream
 
-pub group-ends : (s : List ℕ) (at : ℕ) → end_of (run (flat 5 group) s at) ≡ ends (ones (1 + (1 - part 0 1 (get_or s at 0)))) s at
+pub group_ends : (s : List ℕ) (at : ℕ) → end_of (run (flat 5 group) s at) ≡ ends (ones (1 + (1 - part 0 1 (get_or s at 0)))) s at
 unfolding took ones
-group-ends s at =
-    let e = ap (λ (x : Columns × List ℕ). x.1) (group-took s at refl) ∙ sizes (part 0 1 (get_or s at 0)) (part-below 0 1 (get_or s at 0)) in
-    flat-ends 5 group s at ∙ ap (λ (l : List ℕ). ends l s at) e
+group_ends s at =
+    let e = ap (λ (x : Columns × List ℕ). x.1) (group_took s at refl) ∙ sizes (part 0 1 (get_or s at 0)) (part_below 0 1 (get_or s at 0)) in
+    flat_ends 5 group s at ∙ ap (λ (l : List ℕ). ends l s at) e
   where
     sizes : (v : ℕ) → v < 2 → (cased s at v).1 ≡ ones (1 + (1 - v))
     sizes zero h = refl
     sizes (suc zero) h = refl
     sizes (suc (suc v)) h = absurd (omega arith)
 
-byte-ends : (s : List ℕ) (at : ℕ) → end_of (run u8 s at) ≡ ends (ones 1) s at
+byte_ends : (s : List ℕ) (at : ℕ) → end_of (run u8 s at) ≡ ends (ones 1) s at
 unfolding ends ones
-byte-ends s at = ap end_of (run-u8 s at) ∙ go (leb (at + 1) (length s))
+byte_ends s at = ap end_of (run_u8 s at) ∙ go (leb (at + 1) (length s))
   where
     go : (b : Bool) → end_of {A = ℕ} (elim b [ true ↦ done (get_or s at 0) (at + 1) | false ↦ short (needing (at + 1)) ])
         ≡ (elim b [ true ↦ done tt (at + 1) | false ↦ short (needing (at + 1)) ])
@@ -58,27 +58,27 @@ byte-ends s at = ap end_of (run-u8 s at) ∙ go (leb (at + 1) (length s))
 
 -- the first byte is not there, or is there
 module _ (s : List ℕ) (at : ℕ) {o : Out ℕ} (e : o ≡ run u8 s at) where
-  pub group-cut : {x y : Short} → o ≡ short x → y ≡ short_of o → short y ≡ end_of (run (flat 5 group) s at)
-  group-cut d q = ap short (q ∙ ap short_of d) ∙ sym (ap end_of d) ∙ one-cut _ s at (ap end_of e ∙ byte-ends s at) (ap end_of d) ∙ sym (group-ends s at)
+  pub group_cut : {x y : Short} → o ≡ short x → y ≡ short_of o → short y ≡ end_of (run (flat 5 group) s at)
+  group_cut d q = ap short (q ∙ ap short_of d) ∙ sym (ap end_of d) ∙ one_cut _ s at (ap end_of e ∙ byte_ends s at) (ap end_of d) ∙ sym (group_ends s at)
 
   module _ (h : at ≤ length s) {b n : ℕ} (d : o ≡ done b n) where
-    pub group-behind : Behind s at n
-    group-behind = behind-one s at h (ap end_of e ∙ byte-ends s at) (ap end_of d)
+    pub group_behind : Behind s at n
+    group_behind = behind_one s at h (ap end_of e ∙ byte_ends s at) (ap end_of d)
 
-    group-more : {p : ℕ} → p ≡ part 0 1 b → {r : Out (Unit {0})} → r ≡ ends (ones (1 - p)) s n → r ≡ end_of (run (flat 5 group) s at)
-    group-more q w =
-        let i : b ≡ get_or s at 0 = (u8-done s at (sym e ∙ d)).0 in
-        one_more group-behind (ap (λ (k : ℕ). 1 - k) (q ∙ ap (part 0 1) i)) w ∙ sym (group-ends s at)
+    group_more : {p : ℕ} → p ≡ part 0 1 b → {r : Out (Unit {0})} → r ≡ ends (ones (1 - p)) s n → r ≡ end_of (run (flat 5 group) s at)
+    group_more q w =
+        let i : b ≡ get_or s at 0 = (u8_done s at (sym e ∙ d)).0 in
+        one_more group_behind (ap (λ (k : ℕ). 1 - k) (q ∙ ap (part 0 1) i)) w ∙ sym (group_ends s at)
 
     module _ {p : ℕ} (q : p ≡ part 0 1 b) where
-      pub group-outside : p ≡ 0 → {r : Out (Unit {0})} → r ≡ ends (ones 1) s n → r ≡ end_of (run (flat 5 group) s at)
-      group-outside z w = group-more q (w ∙ ap (λ (p : ℕ). ends (ones (1 - p)) s n) (sym z))
+      pub group_outside : p ≡ 0 → {r : Out (Unit {0})} → r ≡ ends (ones 1) s n → r ≡ end_of (run (flat 5 group) s at)
+      group_outside z w = group_more q (w ∙ ap (λ (p : ℕ). ends (ones (1 - p)) s n) (sym z))
 
-      pub group-main : (p ≡ 0 → ⊥) → done tt n ≡ end_of (run (flat 5 group) s at)
+      pub group_main : (p ≡ 0 → ⊥) → done tt n ≡ end_of (run (flat 5 group) s at)
       unfolding ends ones
-      group-main z =
-          let v : p ≡ 1 = omega (arith, z, q, part-below 0 1 b) in
-          group-more q (ap (λ (p : ℕ). ends (ones (1 - p)) s n) (sym v))
+      group_main z =
+          let v : p ≡ 1 = omega (arith, z, q, part_below 0 1 b) in
+          group_more q (ap (λ (p : ℕ). ends (ones (1 - p)) s n) (sym v))
 
 -- ---- a group that was measured, from what stands in its bytes
 
@@ -87,32 +87,32 @@ Ended s at x = (run (flat 5 group) s at ≡ done (row 5 x.0) (at + total x.1)) �
 
 module _ {s : List ℕ} {at : ℕ} (w : Whole 5 group s at) where
   ended : {v : ℕ} → part 0 1 (get_or s at 0) ≡ v → Ended s at (cased s at v)
-  ended z = subst (Ended s at) (group-took s at z) (w.is, w.there)
+  ended z = subst (Ended s at) (group_took s at z) (w.is, w.there)
 
-  pub first-there : at < length s
+  pub first_there : at < length s
   unfolding took total
-  first-there = omega (arith, (ended refl).1)
+  first_there = omega (arith, (ended refl).1)
 
   module _ {b p : ℕ} (e : b ≡ get_or s at 0) (q : p ≡ part 0 1 b) where
-    ended-as : {v : ℕ} → p ≡ v → Ended s at (cased s at v)
-    ended-as z = ended (sym (q ∙ ap (part 0 1) e) ∙ z)
+    ended_as : {v : ℕ} → p ≡ v → Ended s at (cased s at v)
+    ended_as z = ended (sym (q ∙ ap (part 0 1) e) ∙ z)
 
-    pub main-done : p ≡ 1 → done (group_row (in_main (group_id (part 1 7 b)))) (at + 1) ≡ run (flat 5 group) s at
+    pub main_done : p ≡ 1 → done (group_row (in_main (group_id (part 1 7 b)))) (at + 1) ≡ run (flat 5 group) s at
     unfolding took total each
-    main-done z = rw e (sym (ended-as z).0)
+    main_done z = rw e (sym (ended_as z).0)
 
     module _ (n : p ≡ 1 → ⊥) where
       none : p ≡ 0
-      none = omega (arith, n, q, part-below 0 1 b)
+      none = omega (arith, n, q, part_below 0 1 b)
 
-      pub second-there : at + 1 < length s
+      pub second_there : at + 1 < length s
       unfolding took total
-      second-there = omega (arith, (ended-as none).1)
+      second_there = omega (arith, (ended_as none).1)
 
-      pub outside-done : {x : ℕ} → x ≡ get_or s (at + 1) 0
+      pub outside_done : {x : ℕ} → x ≡ get_or s (at + 1) 0
           → done (group_row (in_auxiliary (group_id (part 1 7 b)) (located (part 7 1 x) (part 0 7 x)))) (at + 2) ≡ run (flat 5 group) s at
       unfolding took puts_at put split total each
-      outside-done f = rw (e, f) (sym (ended-as none).0)
+      outside_done f = rw (e, f) (sym (ended_as none).0)
 
 -- ---- groups passed without a test: the body has a byte for each that is left, and some to spare
 
@@ -121,15 +121,15 @@ pub record Sparing (s : List ℕ) (at count spare pos left : ℕ) : Type 0 where
   pub room : pos + left + spare ≡ length s
 
 -- a group whose bytes are there ends behind them
-group-there : (s : List ℕ) (at more : ℕ) → 1 - part 0 1 (get_or s at 0) ≡ more → at + more < length s → end_of (run (flat 5 group) s at) ≡ done tt (at + more + 1)
-group-there s at more z h =
+group_there : (s : List ℕ) (at more : ℕ) → 1 - part 0 1 (get_or s at 0) ≡ more → at + more < length s → end_of (run (flat 5 group) s at) ≡ done tt (at + more + 1)
+group_there s at more z h =
     let n : at + (1 + more) ≡ at + more + 1 = omega arith in
-    group-ends s at ∙ ap (λ (k : ℕ). ends (ones (1 + k)) s at) z ∙ ones-got (1 + more) s at (omega arith) ∙ ap (done tt) n
+    group_ends s at ∙ ap (λ (k : ℕ). ends (ones (1 + k)) s at) z ∙ ones_got (1 + more) s at (omega arith) ∙ ap (done tt) n
 
 -- the next group, whose second byte, if it has one, is of those to spare
-pub spare-turn : {s : List ℕ} {at count spare pos left : ℕ} → Sparing s at count spare pos left → 0 < left → {b p : ℕ} → b ≡ get_or s pos 0 → p ≡ part 0 1 b
+pub spare_turn : {s : List ℕ} {at count spare pos left : ℕ} → Sparing s at count spare pos left → 0 < left → {b p : ℕ} → b ≡ get_or s pos 0 → p ≡ part 0 1 b
     → (more : ℕ) {spare' pos' : ℕ} → 1 - p ≡ more → more ≤ spare → spare' ≡ spare - more → pos' ≡ pos + more → Sparing s at count spare' (pos' + 1) (left - 1)
-spare-turn {s} {pos = pos} i h e q more z l x y =
-    let k = group-there s pos more (ap (λ (b : ℕ). 1 - part 0 1 b) (sym e) ∙ ap (λ (p : ℕ). 1 - p) (sym q) ∙ z) (omega (arith, i.room)) in
-    let (_, r, _) = as-done (λ g. tt) (run (flat 5 group) s pos) (k ∙ ap (λ (n : ℕ). done tt (n + 1)) (sym y)) in
-    record { measures = carry-turn i.measures h r (λ l. refl); room = omega (arith, i.room) }
+spare_turn {s} {pos = pos} i h e q more z l x y =
+    let k = group_there s pos more (ap (λ (b : ℕ). 1 - part 0 1 b) (sym e) ∙ ap (λ (p : ℕ). 1 - p) (sym q) ∙ z) (omega (arith, i.room)) in
+    let (_, r, _) = as_done (λ g. tt) (run (flat 5 group) s pos) (k ∙ ap (λ (n : ℕ). done tt (n + 1)) (sym y)) in
+    record { measures = carry_turn i.measures h r (λ l. refl); room = omega (arith, i.room) }

@@ -14,21 +14,21 @@ use Rattle.wire.specs.Act.{Act, demand, byte, when, pick}
 use Rattle.wire.specs.Pen.{Quick, clean, bytes}
 use Rattle.wire.specs.Layout.{Columns, at, field_of, flat_acts, writes, shown, cells, matches, matched, every, flagged, counted, has}
 use Rattle.wire.specs.declared.pen.Fault.TheVariants as F
-use Rattle.wire.proofs.Writing.Acts.{and_both, both-and}
-use Rattle.wire.proofs.Layouts.Cells.{all, distinct, free, eights, proper, suits, fit-flags}
-use Rattle.wire.proofs.Fields.{fits-cons, cons-fits}
+use Rattle.wire.proofs.Writing.Acts.{and_both, both_and}
+use Rattle.wire.proofs.Layouts.Cells.{all, distinct, free, eights, proper, suits, fit_flags}
+use Rattle.wire.proofs.Fields.{fits_cons, cons_fits}
 use Rattle.wire.proofs.Layouts.Forms.{form_all, form_proper, below}
-use Rattle.wire.proofs.Writing.Passes.{quick-clean, quick-odd}
-use Rattle.wire.proofs.Writing.Plain.{no-quick}
+use Rattle.wire.proofs.Writing.Passes.{quick_clean, quick_odd}
+use Rattle.wire.proofs.Writing.Plain.{no_quick}
 use Rattle.wire.proofs.Layouts.Rowed.{flat_test, weight}
 use Rattle.stream_groups.specs.Layout.{group}
 use Rattle.stream_groups.specs.Rows.{group_cols, group_of, group_cells, location_cells}
 use Rattle.stream_groups.specs.Write.{flags_of, placed_once, group_acts, row_acts}
 
 -- the layout passes its one test
-pub group-passes : flat_test 5 group ≡ true
+pub group_passes : flat_test 5 group ≡ true
 unfolding flat_test weight form_proper form_all below proper all has distinct free eights suits each total flatten group
-group-passes = refl
+group_passes = refl
 
 -- ---- a group
 
@@ -38,9 +38,9 @@ location_acts g = when (eqb (g 2) 1) (byte (map (field_of g) location_cells) ∷
 abbrev pub plain_acts : Columns → List Act
 plain_acts g = demand F.Field (flags_of g) ∷ demand F.Empty true ∷ demand F.Auxiliary (placed_once g) ∷ byte (map (field_of g) group_cells) ∷ location_acts g
 
-pub group-acts : (g : Columns) → flat_acts group g ≡ plain_acts g
+pub group_acts_lem : (g : Columns) → flat_acts group g ≡ plain_acts g
 unfolding group writes shown cells matches matched every flatten
-group-acts g =
+group_acts_lem g =
     let x : Bool = eqb (g 2) 1 in
     λ i. demand F.Field (is_flag (g 1) && (is_flag (g 2) && flags x i)) ∷ demand F.Empty (counts x i) ∷ demand F.Auxiliary (placed_once g)
     ∷ (none x i ++ (byte (map (field_of g) group_cells) ∷ location_acts g))
@@ -63,13 +63,13 @@ group-acts g =
 sound : (g : Columns) → clean (flat_acts group g) ≡ true → (is_flag (g 1) ≡ true) × (g 2 ≡ get_or (1 ∷ 0 ∷ []) (g 1) 0) × (g 0 < 128)
 unfolding clean
 sound g c =
-    let (f, q) = and_both (flags_of g) _ (sym (ap clean (group-acts g)) ∙ c) in
+    let (f, q) = and_both (flags_of g) _ (sym (ap clean (group_acts_lem g)) ∙ c) in
     let (o, r) = and_both (placed_once g) _ q in
     let (b, _) = and_both (fit (map (field_of g) group_cells)) _ r in
-    ((and_both (is_flag (g 1)) _ f).0, eqb-true (g 2) _ o, (fits-cons 7 (g 0) (field 1 (g 1) ∷ []) b).0)
+    ((and_both (is_flag (g 1)) _ f).0, eqb-true (g 2) _ o, (fits_cons 7 (g 0) (field 1 (g 1) ∷ []) b).0)
 
-pub odd-id : (g : Columns) → 128 ≤ g 0 → Quick (flat_acts group g) 2 0
-odd-id g h = quick-odd (flat_acts group g) 2 λ c. omega (arith, h, (sound g c).2)
+pub odd_id : (g : Columns) → 128 ≤ g 0 → Quick (flat_acts group g) 2 0
+odd_id g h = quick_odd (flat_acts group g) 2 λ c. omega (arith, h, (sound g c).2)
 
 -- the actions, with isInMainStream and the location's flag on their own
 abbrev shaped : Columns → ℕ → ℕ → List Act
@@ -79,38 +79,38 @@ shaped g m p =
 
 -- isInMainStream and the location's flag as one number
 module _ (g : Columns) {v : ℕ} (e : v ≡ g 2 * 65536 + g 1) where
-  pub plain-main : g 0 < 128 → v ≡ 1 → Quick (flat_acts group g) 2 1
+  pub plain_main : g 0 < 128 → v ≡ 1 → Quick (flat_acts group g) 2 1
   unfolding clean bytes fit
-  plain-main l z =
+  plain_main l z =
       let m : g 1 ≡ 1 = omega (arith, e, z) in
       let p : g 2 ≡ 0 = omega (arith, e, z) in
-      let s : flat_acts group g ≡ shaped g 1 0 = group-acts g ∙ λ i. shaped g (m i) (p i) in
-      let c = both-and (cons-fits 7 (g 0) (field 1 1 ∷ []) l refl) refl in
-      quick-clean (flat_acts group g) 2 (ap clean s ∙ c) (ap (λ (q : List Act). length (bytes q)) s) (omega arith) (omega arith)
+      let s : flat_acts group g ≡ shaped g 1 0 = group_acts_lem g ∙ λ i. shaped g (m i) (p i) in
+      let c = both_and (cons_fits 7 (g 0) (field 1 1 ∷ []) l refl) refl in
+      quick_clean (flat_acts group g) 2 (ap clean s ∙ c) (ap (λ (q : List Act). length (bytes q)) s) (omega arith) (omega arith)
 
   module _ (h : g 1 < 65536) (z : v ≡ 65536) where
     located : flat_acts group g ≡ shaped g 0 1
     located =
         let m : g 1 ≡ 0 = omega (arith, e, h, z) in
         let p : g 2 ≡ 1 = omega (arith, e, h, z) in
-        group-acts g ∙ λ i. shaped g (m i) (p i)
+        group_acts_lem g ∙ λ i. shaped g (m i) (p i)
 
-    pub plain-located : g 0 < 128 → fit (map (field_of g) location_cells) ≡ true → Quick (flat_acts group g) 2 2
+    pub plain_located : g 0 < 128 → fit (map (field_of g) location_cells) ≡ true → Quick (flat_acts group g) 2 2
     unfolding clean bytes fit every
-    plain-located l f =
-        let t : is_flag (g 3) ≡ true = rw (and-true (is_flag (g 3))) at (fit-flags location_cells g f) in
-        let c = both-and t (both-and (cons-fits 7 (g 0) (field 1 0 ∷ []) l refl) (both-and f refl)) in
-        quick-clean (flat_acts group g) 2 (ap clean located ∙ c) (ap (λ (q : List Act). length (bytes q)) located) (omega arith) (omega arith)
+    plain_located l f =
+        let t : is_flag (g 3) ≡ true = rw (and-true (is_flag (g 3))) at (fit_flags location_cells g f) in
+        let c = both_and t (both_and (cons_fits 7 (g 0) (field 1 0 ∷ []) l refl) (both_and f refl)) in
+        quick_clean (flat_acts group g) 2 (ap clean located ∙ c) (ap (λ (q : List Act). length (bytes q)) located) (omega arith) (omega arith)
 
-    pub odd-location : fit (map (field_of g) location_cells) ≡ false → Quick (flat_acts group g) 2 0
+    pub odd_location : fit (map (field_of g) location_cells) ≡ false → Quick (flat_acts group g) 2 0
     unfolding clean
-    odd-location f = quick-odd (flat_acts group g) 2 λ c.
+    odd_location f = quick_odd (flat_acts group g) 2 λ c.
         let (_, r) = and_both (is_flag (g 3)) _ (sym (ap clean located) ∙ c) in
         let (_, l) = and_both (fit (field 7 (g 0) ∷ field 1 0 ∷ [])) _ r in
-        no-quick f (and_both (fit (map (field_of g) location_cells)) true l).0
+        no_quick f (and_both (fit (map (field_of g) location_cells)) true l).0
 
-  pub odd-flags : (v ≡ 1 → ⊥) → (v ≡ 65536 → ⊥) → Quick (flat_acts group g) 2 0
-  odd-flags a b = quick-odd (flat_acts group g) 2 λ c. let (f, o, _) = sound g c in go (g 1) e f o
+  pub odd_flags : (v ≡ 1 → ⊥) → (v ≡ 65536 → ⊥) → Quick (flat_acts group g) 2 0
+  odd_flags a b = quick_odd (flat_acts group g) 2 λ c. let (f, o, _) = sound g c in go (g 1) e f o
     where
       go : (m : ℕ) → v ≡ g 2 * 65536 + m → is_flag m ≡ true → g 2 ≡ get_or (1 ∷ 0 ∷ []) m 0 → ⊥
       go zero e f o = b (omega (arith, e, o))
@@ -119,8 +119,8 @@ module _ (g : Columns) {v : ℕ} (e : v ≡ g 2 * 65536 + g 1) where
 
 -- ---- a row of the table
 
-pub row-acts : (t : List ℕ) (i : ℕ) → group_acts (group_of t (i * 5)) ≡ row_acts t i
-row-acts t i = group-acts (group_cols (group_of t (i * 5))) ∙ same ∙ sym (group-acts (at 5 t i))
+pub row_acts_lem : (t : List ℕ) (i : ℕ) → group_acts (group_of t (i * 5)) ≡ row_acts t i
+row_acts_lem t i = group_acts_lem (group_cols (group_of t (i * 5))) ∙ same ∙ sym (group_acts_lem (at 5 t i))
   where
     same : plain_acts (group_cols (group_of t (i * 5))) ≡ plain_acts (at 5 t i)
     same = rw add-zero

@@ -1,4 +1,4 @@
--- A group of the multi-stream body, a row of table 8, as a syntax table (H.222.0 2.6.114, Table 2-125).
+-- A group of the multi_stream body, a row of table 8, as a syntax table (H.222.0 2.6.114, Table 2-125).
 use Rattle.std.specs.Prelude.{[], ◌∷◌}
 use Rattle.wire.specs.Layout.{Layout, end, one, optional, follows, ◌▹◌, num, flag}
 use Rattle.wire.specs.declared.pen.Fault.TheVariants as F

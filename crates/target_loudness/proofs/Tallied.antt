@@ -26,9 +26,9 @@ target_in g = record {
   no_independent_use_or_reserved = g 23;
 }
 
-pub target-tally : (g : Columns) → sum (λ (c : Cell). idle c (g (column c))) (shown (optional 15 target ▹ end) g) ≡ target_zeros (target_in g)
+pub target_tally : (g : Columns) → sum (λ (c : Cell). idle c (g (column c))) (shown (optional 15 target ▹ end) g) ≡ target_zeros (target_in g)
 unfolding shown sum flatten
-target-tally g = go (eqb (g 15) 1) (eqb (g 18) 1)
+target_tally g = go (eqb (g 15) 1) (eqb (g 18) 1)
   where
     go : (x y : Bool) → sum (λ (c : Cell). idle c (g (column c))) (part_cells x y)
         ≡ pick x (zeros 1 (g 16) + (pick y (zeros 2 (g 19)) 0 + zeros 1 (g 21))) 0

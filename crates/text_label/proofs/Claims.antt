@@ -12,15 +12,15 @@ use Rattle.wire.specs.Lists.{Every, all_nil, all_cons, each, sum, firsts, Byte}
 use Rattle.wire.specs.Bits.{split, total}
 use Rattle.wire.specs.Prog.{run, u8, pass, many, ◌>>=◌}
 use Rattle.wire.specs.Layout.{reads, put, puts, shown, cells, tally}
-use Rattle.wire.proofs.Lists.{every-each}
+use Rattle.wire.proofs.Lists.{every_each}
 use Rattle.frame.specs.Kind.{Lent}
 use Rattle.frame.specs.Numbers.{accepted, refuses}
 use Rattle.frame.specs.Entry.{leaves, onto, into, Sizes, Need, needs, lacking, room, first_table, other_tables, filled, judging, sizes, placing, reading, measuring, tallying, gives, trail, writing}
 use Rattle.frame.specs.Body.{layouts, parse, with_place, tables, zeros}
 use Rattle.frame.specs.Ranges.{ranged, ranged_row}
 use Rattle.frame.specs.Claims.{Lowest, this, later, Claims, Fixed}
-use Rattle.frame.proofs.Numbers.{refused-back, answer_by, fixes}
-use Rattle.frame.proofs.Judged.{was, ran-well, measured as was-measured}
+use Rattle.frame.proofs.Numbers.{refused_back, answer_by, fixes}
+use Rattle.frame.proofs.Judged.{was, ran_well, measured as was-measured}
 use Rattle.frame.proofs.Lawful.{Samples}
 use Rattle.frame.proofs.Tables.{rows_at}
 use Rattle.frame.proofs.Proofs as P
@@ -36,8 +36,8 @@ use Rattle.text_label.specs.Kind.{lists, entries_of, kind}
 use Rattle.text_label.specs.Contract.{needed, sized, read, measured, language_from}
 use Rattle.text_label.proofs.Bodies.{one_preset, english, preset2, no_languages}
 use Rattle.text_label.proofs.Lawful.{lawful}
-use Rattle.text_label.proofs.Parsed.{entries-long, body_run}
-use Rattle.text_label.proofs.Found.{Counted, all-counted, rows_from, rows-counted, languages-found}
+use Rattle.text_label.proofs.Parsed.{entries_long, body_run}
+use Rattle.text_label.proofs.Found.{Counted, all_counted, rows_from, rows_counted, languages_found}
 
 samples : Samples kind
 unfolding reading into judging placing run measuring onto sizes tallying kind parse reads put puts split total ◌>>=◌ many u8 pass head groups switch_group_list presets tables zeros tally shown sum ones ones_in needs lacking room first_table other_tables filled flatten flat_map firsts each cells with_place layouts ranged
@@ -51,22 +51,22 @@ samples = record {
   after' = (9 ∷ 9 ∷ 9 ∷ 9 ∷ 9 ∷ 9 ∷ 9 ∷ 9 ∷ 9 ∷ 9 ∷ 9 ∷ 9 ∷ 9 ∷ []) ∷ (9 ∷ 9 ∷ 9 ∷ 9 ∷ 9 ∷ []) ∷ [];
   reads = refl;
   reads' = refl;
-  tops-differ = λ e. let z : ◌≡◌ {A = ℕ} 1 0 = ap (λ (t : MpegH3dAudioTextLabel). t.languages) e in omega arith;
+  tops_differ = λ e. let z : ◌≡◌ {A = ℕ} 1 0 = ap (λ (t : MpegH3dAudioTextLabel). t.languages) e in omega arith;
   size = sized 1 1 12;
   size' = sized 0 0 2;
   measures = refl;
   measures' = refl;
-  sizes-differ = λ e. let z : ◌≡◌ {A = ℕ} 12 2 = ap (λ (s : Sizes). s.before) e in omega arith;
+  sizes_differ = λ e. let z : ◌≡◌ {A = ℕ} 12 2 = ap (λ (s : Sizes). s.before) e in omega arith;
   count = 0;
   count' = 4;
   tallies = refl;
   tallies' = refl;
-  counts-differ = λ e. omega arith;
-  bytes = every-each Byte (0x07 ∷ 0xF1 ∷ 0x65 ∷ 0x6E ∷ 0x67 ∷ 0x80 ∷ 0xE0 ∷ 0xE1 ∷ 0xE2 ∷ 0x02 ∷ 0x48 ∷ 0x69 ∷ [])
+  counts_differ = λ e. omega arith;
+  bytes = every_each Byte (0x07 ∷ 0xF1 ∷ 0x65 ∷ 0x6E ∷ 0x67 ∷ 0x80 ∷ 0xE0 ∷ 0xE1 ∷ 0xE2 ∷ 0x02 ∷ 0x48 ∷ 0x69 ∷ [])
       (lit< tt, (lit< tt, (lit< tt, (lit< tt, (lit< tt, (lit< tt, (lit< tt, (lit< tt, (lit< tt, (lit< tt, (lit< tt, (lit< tt, tt))))))))))));
   blank = 0 ∷ 0 ∷ 0 ∷ 0 ∷ 0 ∷ 0 ∷ 0 ∷ 0 ∷ 0 ∷ 0 ∷ 0 ∷ 0 ∷ [];
   as_long = refl;
-  not-blank = λ e. let z : ◌≡◌ {A = ℕ} 7 0 = ap (λ (l : List ℕ). get_or l 0 0) e in omega arith;
+  not_blank = λ e. let z : ◌≡◌ {A = ℕ} 7 0 = ap (λ (l : List ℕ). get_or l 0 0) e in omega arith;
 }
 
 pub claims : Claims kind
@@ -78,20 +78,20 @@ claims = P.claims kind lawful samples
 pub same_bytes : (body languages entries languages' entries' out : List ℕ) (m : MpegH3dAudioTextLabel) → Every Byte body
     → reading kind body (languages ∷ entries ∷ []) ≡ leaves (accepted m) (languages' ∷ entries' ∷ []) → length body ≤ length out
     → writing kind m (languages' ∷ entries' ∷ []) body out ≡ gives (accepted (length body)) (body ++ drop (length body) out)
-same_bytes body languages entries languages' entries' out m b e l = claims.round.writes-what-is-read body (languages ∷ entries ∷ []) m (languages' ∷ entries' ∷ []) out b e l
+same_bytes body languages entries languages' entries' out m b e l = claims.round.writes_what_is_read body (languages ∷ entries ∷ []) m (languages' ∷ entries' ∷ []) out b e l
 
 -- two bodies that agree in the Rust's structs, labels by their bytes, and in the trailing bytes are one body
-pub one-body : (body body' : List ℕ) (lent lent' after after' : Lent) (m m' : MpegH3dAudioTextLabel) → Every Byte body → Every Byte body'
+pub one_body : (body body' : List ℕ) (lent lent' after after' : Lent) (m m' : MpegH3dAudioTextLabel) → Every Byte body → Every Byte body'
     → reading kind body lent ≡ leaves (accepted m) after → reading kind body' lent' ≡ leaves (accepted m') after'
     → kind.value m after body ≡ kind.value m' after' body' → trail kind m body ≡ trail kind m' body' → body ≡ body'
 unfolding kind
-one-body body body' lent lent' after after' m m' b b' e e' v t =
+one_body body body' lent lent' after after' m m' b b' e e' v t =
     claims.round.apart body body' lent lent' m m' after after' b b' e e' (λ i. record { value = v i; trailing = t i })
 
 -- 3 is given exactly if the body is otherwise accepted and a table has fewer rows than it needs; it names table 6 if that is short, else table 7, and the rows
 pub data Lacks (languages entries : List ℕ) (l n : ℕ) : ℕ → ℕ → Type 0 where
-  in-languages : length languages / 12 < l → Lacks languages entries l n 6 l
-  in-entries : l ≤ length languages / 12 → length entries / 4 < n → Lacks languages entries l n 7 n
+  in_languages : length languages / 12 < l → Lacks languages entries l n 6 l
+  in_entries : l ≤ length languages / 12 → length entries / 4 < n → Lacks languages entries l n 7 n
 
 nothing : {ns : List Need} {lent : Lent} {t r : ℕ} → Lowest ns lent t r → ns ≡ [] → ⊥
 nothing (this h) e = let z : ◌≡◌ {A = ℕ} 0 1 = cc e in omega arith
@@ -100,40 +100,40 @@ nothing (later h d) e = let z : ◌≡◌ {A = ℕ} 0 1 = cc e in omega arith
 abbrev need7 : ℕ → Need
 need7 n = record { number = 7; columns = 4; rows = n }
 
-low-entries : (languages entries : List ℕ) (l n : ℕ) {t r : ℕ} → l ≤ length languages / 12 → Lowest (need7 n ∷ []) (entries ∷ []) t r → Lacks languages entries l n t r
+low_entries : (languages entries : List ℕ) (l n : ℕ) {t r : ℕ} → l ≤ length languages / 12 → Lowest (need7 n ∷ []) (entries ∷ []) t r → Lacks languages entries l n t r
 unfolding room first_table
-low-entries languages entries l n h (this k) = in-entries h k
-low-entries languages entries l n h (later k d) = absurd (nothing d refl)
+low_entries languages entries l n h (this k) = in_entries h k
+low_entries languages entries l n h (later k d) = absurd (nothing d refl)
 
 low : (languages entries : List ℕ) (l n : ℕ) {t r : ℕ} → Lowest (needed l n) (languages ∷ entries ∷ []) t r → Lacks languages entries l n t r
 unfolding room first_table other_tables
-low languages entries l n (this h) = in-languages h
-low languages entries l n (later h d) = low-entries languages entries l n h d
+low languages entries l n (this h) = in_languages h
+low languages entries l n (later h d) = low_entries languages entries l n h d
 
 lowest : (languages entries : List ℕ) (l n : ℕ) {t r : ℕ} → Lacks languages entries l n t r → Lowest (needed l n) (languages ∷ entries ∷ []) t r
 unfolding room first_table other_tables
-lowest languages entries l n (in-languages h) = this h
-lowest languages entries l n (in-entries h k) = later h (this k)
+lowest languages entries l n (in_languages h) = this h
+lowest languages entries l n (in_entries h k) = later h (this k)
 
-sized-so : (body : List ℕ) (z : Sizes) → measuring kind body ≡ accepted z → (l : ℕ) × (n : ℕ) × (z ≡ sized l n z.before)
+sized_so : (body : List ℕ) (z : Sizes) → measuring kind body ≡ accepted z → (l : ℕ) × (n : ℕ) × (z ≡ sized l n z.before)
 unfolding sizes kind tables needs
-sized-so body z e =
+sized_so body z e =
     let (s, j, q) = was-measured kind body z e in
     let ls = s.tree.1.0 in
     let l = length (map (ranged_row 12 lists) (firsts (λ (l : Language). length (entries_of l)) 0 ls)) in
     let n = length (flat_map entries_of ls) in
     (l, n, sym (subst (λ (z : Sizes). sized l n z.before ≡ z) q refl))
 
-pub lacks-room : (body languages entries : List ℕ) (t r : ℕ)
+pub lacks_room : (body languages entries : List ℕ) (t r : ℕ)
     → (reading kind body (languages ∷ entries ∷ []) ≡ leaves (refuses 3 (t ∷ r ∷ [])) (languages ∷ entries ∷ [])) ↔
     ((l : ℕ) × (n : ℕ) × (k : ℕ) × (measuring kind body ≡ accepted (sized l n k)) × Lacks languages entries l n t r)
-lacks-room body languages entries t r = (forth, back)
+lacks_room body languages entries t r = (forth, back)
   where
     forth : reading kind body (languages ∷ entries ∷ []) ≡ leaves (refuses 3 (t ∷ r ∷ [])) (languages ∷ entries ∷ [])
         → (l : ℕ) × (n : ℕ) × (k : ℕ) × (measuring kind body ≡ accepted (sized l n k)) × Lacks languages entries l n t r
     forth h =
         let (z, e, d) = (claims.more_room.no_room body (languages ∷ entries ∷ []) t r).0 h in
-        let (l, n, q) = sized-so body z e in
+        let (l, n, q) = sized_so body z e in
         (l, n, z.before, e ∙ ap accepted q, low languages entries l n (subst (λ (z : Sizes). Lowest z.tables (languages ∷ entries ∷ []) t r) q d))
 
     back : (l : ℕ) × (n : ℕ) × (k : ℕ) × (measuring kind body ≡ accepted (sized l n k)) × Lacks languages entries l n t r
@@ -155,30 +155,30 @@ runs_on : (n : ℕ) (ls : List Language) → Every Counted ls → RunsOn n (lang
 unfolding firsts flat_map ranged each
 runs_on n [] all_nil = rw add-zero ended
 runs_on n (l ∷ ls) (all_cons c h) =
-    let e : n + length (entries_of l) ≡ n + get_or l.0 5 0 + get_or l.0 8 0 + get_or l.0 11 0 = omega (arith, entries-long l, c.groups, c.switch-groups, c.presets) in
+    let e : n + length (entries_of l) ≡ n + get_or l.0 5 0 + get_or l.0 8 0 + get_or l.0 11 0 = omega (arith, entries_long l, c.groups, c.switch_groups, c.presets) in
     let k : n + length (entries_of l) + length (flat_map entries_of ls) ≡ n + length (entries_of l ++ flat_map entries_of ls) =
     omega (arith, length-append (entries_of l) (flat_map entries_of ls)) in
     let r = subst (RunsOn (n + length (entries_of l)) (languages_from (n + length (entries_of l)) ls)) k (runs_on (n + length (entries_of l)) ls h) in
-    one_more {l = language_from n l} refl (omega (arith, c.groups)) (omega (arith, c.groups, c.switch-groups))
+    one_more {l = language_from n l} refl (omega (arith, c.groups)) (omega (arith, c.groups, c.switch_groups))
     (subst (λ (i : ℕ). RunsOn i (languages_from (n + length (entries_of l)) ls) (n + length (entries_of l ++ flat_map entries_of ls))) e r)
 
 -- of tables that were read: the rows of table 6 have their entries in table 7 from its front on, and none between; as many rows as measuring counts
-pub read-tables : (body languages entries languages' entries' : List ℕ) (m : MpegH3dAudioTextLabel)
+pub read_tables : (body languages entries languages' entries' : List ℕ) (m : MpegH3dAudioTextLabel)
     → reading kind body (languages ∷ entries ∷ []) ≡ leaves (accepted m) (languages' ∷ entries' ∷ [])
     → (rows : ℕ) × (k : ℕ) × (measuring kind body ≡ accepted (sized m.languages rows k)) × RunsOn 0 (each (λ i. language_of languages' (i * 12)) 0 m.languages) rows
 unfolding kind filled tables first_table other_tables measuring onto sizes needs with_place each
-read-tables body languages entries languages' entries' m e =
+read_tables body languages entries languages' entries' m e =
     let w = was kind body (languages ∷ entries ∷ []) m (languages' ∷ entries' ∷ []) e in
     let ls = w.sound.tree.1.0 in
-    let b = body_run body (ran-well kind body w.sound w.judges).reads in
+    let b = body_run body (ran_well kind body w.sound w.judges).reads in
     let count = length (flat_map entries_of ls) in
     let x = flatten (rows_from ls) in
-    let n : length ls ≡ m.languages = b.counted ∙ sym (ap (λ (r : List ℕ). get_or r 2 0) b.is) ∙ ap (λ (m : MpegH3dAudioTextLabel). m.languages) w.top-is in
+    let n : length ls ≡ m.languages = b.counted ∙ sym (ap (λ (r : List ℕ). get_or r 2 0) b.is) ∙ ap (λ (m : MpegH3dAudioTextLabel). m.languages) w.top_is in
     let a : x ++ drop (length x) languages ≡ languages' = ap (λ (l : Lent). first_table l) w.after_is in
-    let r : RunsOn 0 (languages_from 0 ls) count = subst (RunsOn 0 (languages_from 0 ls)) (zero-add count) (runs_on 0 ls (all-counted body b)) in
+    let r : RunsOn 0 (languages_from 0 ls) count = subst (RunsOn 0 (languages_from 0 ls)) (zero-add count) (runs_on 0 ls (all_counted body b)) in
     let q : languages_from 0 ls ≡ each (λ i. language_of languages' (i * 12)) 0 (length ls) =
-    sym (languages-found ls (drop (length x) languages)) ∙ ap (λ (t : List ℕ). each (λ i. language_of t (i * 12)) 0 (length ls)) a in
-    let z : measuring kind body ≡ accepted (sized (length ls) count w.sound.before) = ap (onto (sizes kind)) w.judges ∙ λ i. accepted (sized (rows-counted ls i) count w.sound.before) in (
+    sym (languages_found ls (drop (length x) languages)) ∙ ap (λ (t : List ℕ). each (λ i. language_of t (i * 12)) 0 (length ls)) a in
+    let z : measuring kind body ≡ accepted (sized (length ls) count w.sound.before) = ap (onto (sizes kind)) w.judges ∙ λ i. accepted (sized (rows_counted ls i) count w.sound.before) in (
       count,
       w.sound.before,
       subst (λ (c : ℕ). measuring kind body ≡ accepted (sized c count w.sound.before)) n z,
@@ -189,15 +189,15 @@ read-tables body languages entries languages' entries' m e =
 
 read_back : (r : Reading) → answer_by R.Done R.Refused (read r) ≡ r
 read_back (R.Done m) = refl
-read_back (R.Refused x) = ap R.Refused (refused-back x)
+read_back (R.Refused x) = ap R.Refused (refused_back x)
 
-measure-of : Sizes → Measured
-measure-of z = M.Done (record { languages = rows_at 0 z.tables; entries = rows_at 1 z.tables; k = z.before })
+measure_of : Sizes → Measured
+measure_of z = M.Done (record { languages = rows_at 0 z.tables; entries = rows_at 1 z.tables; k = z.before })
 
-measured-back : (r : Measured) → answer_by measure-of M.Refused (measured r) ≡ r
-unfolding measure-of
-measured-back (M.Done s) = refl
-measured-back (M.Refused x) = ap M.Refused (refused-back x)
+measured_back : (r : Measured) → answer_by measure_of M.Refused (measured r) ≡ r
+unfolding measure_of
+measured_back (M.Done s) = refl
+measured_back (M.Refused x) = ap M.Refused (refused_back x)
 
 pub fixed : Fixed kind read measured
-fixed = fixes claims read R.Done R.Refused read_back measured measure-of M.Refused measured-back
+fixed = fixes claims read R.Done R.Refused read_back measured measure_of M.Refused measured_back

@@ -9,11 +9,11 @@ use Rattle.wire.specs.Lists.{each}
 use Rattle.wire.specs.Prog.{done, run, many}
 use Rattle.wire.specs.Layout.{of, Borne, borne, borne_row}
 use Rattle.wire.specs.Nest.{Fillable, Nested, Nests}
-use Rattle.wire.proofs.Reading.Steps.{sets-append}
-use Rattle.wire.proofs.Tables.{flat-map}
-use Rattle.wire.proofs.Reading.Nest.{Stored, nested-as, Nesting, nest-start, nest-ready, nest-turn, nest-end}
-use Rattle.wire.proofs.Layouts.Rowed.{each-wide, rows_long}
-use Rattle.wire.proofs.Lists.{flatten-append}
+use Rattle.wire.proofs.Reading.Steps.{sets_append}
+use Rattle.wire.proofs.Tables.{flat_map_lem}
+use Rattle.wire.proofs.Reading.Nest.{Stored, nested_as, Nesting, nest_start, nest_ready, nest_turn, nest_end}
+use Rattle.wire.proofs.Layouts.Rowed.{each_wide, rows_long}
+use Rattle.wire.proofs.Lists.{flatten_append}
 use Rattle.frame.specs.Body.{tables}
 use Rattle.frame.specs.Ranges.{ranged}
 use Rattle.labels.specs.Layout.{label}
@@ -27,7 +27,7 @@ use Rattle.text_label.specs.Read.{letters_at, language_is, language}
 use Rattle.text_label.specs.Kind.{entries_of}
 use Rattle.text_label.specs.Contract.{row_from, language_from}
 use Rattle.text_label.proofs.Found.{counted}
-use Rattle.text_label.proofs.Parsed.{entry_count, size_of, entries-long, list-run, LanguageRun, letters-so, language-run, language-weighs, entries-summed}
+use Rattle.text_label.proofs.Parsed.{entry_count, size_of, entries_long, list_run, LanguageRun, letters_so, language_run, language_weighs, entries_summed}
 
 -- ---- a language: its three lists one after the other
 
@@ -37,133 +37,133 @@ columns_of w d = flat_map (borne_row (label w)) d.entries
 abbrev pub cells : Language → List ℕ
 cells l = flatten (entries_of l)
 
-columns-long : (w : ℕ) (d : Labels) → length (columns_of w d) ≡ length d.entries * 4
-columns-long w d =
-    let wide = each-wide 4 (λ (v : Borne). borne (label w) v.1.offset v.1.length (of v.0)) d.entries in
-    ap length (flat-map (borne_row (label w)) d.entries) ∙ rows_long 4 (map (borne_row (label w)) d.entries) wide
+columns_long : (w : ℕ) (d : Labels) → length (columns_of w d) ≡ length d.entries * 4
+columns_long w d =
+    let wide = each_wide 4 (λ (v : Borne). borne (label w) v.1.offset v.1.length (of v.0)) d.entries in
+    ap length (flat_map_lem (borne_row (label w)) d.entries) ∙ rows_long 4 (map (borne_row (label w)) d.entries) wide
     ∙ ap (λ (n : ℕ). n * 4) (length-map d.entries (borne_row (label w)))
 
 -- the columns of the three lists, one after the other
-cells-so : (l : List ℕ) (g s p : Labels) → cells (language_is l g s p) ≡ columns_of 7 g ++ (columns_of 5 s ++ columns_of 5 p)
+cells_so : (l : List ℕ) (g s p : Labels) → cells (language_is l g s p) ≡ columns_of 7 g ++ (columns_of 5 s ++ columns_of 5 p)
 unfolding tables flat_map
-cells-so l g s p =
+cells_so l g s p =
     let rows : ℕ → Labels → List (List ℕ) = λ w d. map (borne_row (label w)) d.entries in
-    flatten-append (rows 7 g) (rows 5 s ++ (rows 5 p ++ []))
-    ∙ (λ i. sym (flat-map (borne_row (label 7)) g.entries) i ++ flatten-append (rows 5 s) (append-nil (rows 5 p) i) i)
-    ∙ (λ i. columns_of 7 g ++ (sym (flat-map (borne_row (label 5)) s.entries) i ++ sym (flat-map (borne_row (label 5)) p.entries) i))
+    flatten_append (rows 7 g) (rows 5 s ++ (rows 5 p ++ []))
+    ∙ (λ i. sym (flat_map_lem (borne_row (label 7)) g.entries) i ++ flatten_append (rows 5 s) (append-nil (rows 5 p) i) i)
+    ∙ (λ i. columns_of 7 g ++ (sym (flat_map_lem (borne_row (label 5)) s.entries) i ++ sym (flat_map_lem (borne_row (label 5)) p.entries) i))
 
-cells-long : (s : List ℕ) (at : ℕ) {l : Language} {m : ℕ} → run language s at ≡ done l m → length (cells l) ≡ size_of l * 4
-cells-long s at {l} e =
-    let r = language-run s at e in
+cells_long : (s : List ℕ) (at : ℕ) {l : Language} {m : ℕ} → run language s at ≡ done l m → length (cells l) ≡ size_of l * 4
+cells_long s at {l} e =
+    let r = language_run s at e in
     let g = r.groups in
-    let sw = r.switch-groups in
+    let sw = r.switch_groups in
     let p = r.presets in
     let three = language_is (slice at (at + 3) s) g sw p in
-    let n = ap length (cells-so (slice at (at + 3) s) g sw p) ∙ length-append (columns_of 7 g) (columns_of 5 sw ++ columns_of 5 p) in
+    let n = ap length (cells_so (slice at (at + 3) s) g sw p) ∙ length-append (columns_of 7 g) (columns_of 5 sw ++ columns_of 5 p) in
     let k : length (cells three) ≡ size_of three * 4 =
-    omega (arith, n, length-append (columns_of 5 sw) (columns_of 5 p), columns-long 7 g, columns-long 5 sw, columns-long 5 p, entries-long three) in
+    omega (arith, n, length-append (columns_of 5 sw) (columns_of 5 p), columns_long 7 g, columns_long 5 sw, columns_long 5 p, entries_long three) in
     subst (λ (l : Language). length (cells l) ≡ size_of l * 4) (sym r.is) k
 
 module _ (s : List ℕ) (at first : ℕ) (t : List ℕ) (f : Fillable language 4 size_of s at first t) where
-  the-language : LanguageRun s at f.value f.end
-  the-language = language-run s at f.reads
+  the_language : LanguageRun s at f.value f.end
+  the_language = language_run s at f.reads
 
   abbrev g₀ : Labels
-  g₀ = the-language.groups
+  g₀ = the_language.groups
 
   abbrev s₀ : Labels
-  s₀ = the-language.switch-groups
+  s₀ = the_language.switch_groups
 
   abbrev p₀ : Labels
-  p₀ = the-language.presets
+  p₀ = the_language.presets
 
-  rows-three : size_of f.value ≡ length g₀.entries + (length s₀.entries + length p₀.entries)
-  rows-three = ap size_of the-language.is ∙ entries-long (language_is (slice at (at + 3) s) g₀ s₀ p₀)
+  rows_three : size_of f.value ≡ length g₀.entries + (length s₀.entries + length p₀.entries)
+  rows_three = ap size_of the_language.is ∙ entries_long (language_is (slice at (at + 3) s) g₀ s₀ p₀)
 
-  pub letters-there : at + 3 ≤ length s
-  letters-there = the-language.letters-there
+  pub letters_there : at + 3 ≤ length s
+  letters_there = the_language.letters_there
 
-  pub groups-ask : Fillable (labels 7) 4 entry_count s (at + 3) first t
-  groups-ask = record { value = g₀; end = the-language.groups-end; reads = the-language.groups-read; begun = letters-there; all = f.all; before = omega (arith, f.before); room = omega (arith, f.room, rows-three) }
+  pub groups_ask : Fillable (labels 7) 4 entry_count s (at + 3) first t
+  groups_ask = record { value = g₀; end = the_language.groups_end_lem; reads = the_language.groups_read; begun = letters_there; all = f.all; before = omega (arith, f.before); room = omega (arith, f.room, rows_three) }
 
   module _ {g : Descriptions} {n : ℕ} {t₁ : List ℕ} (a : Nested (labels 7) 4 list_from (columns_of 7) s (at + 3) first t g n t₁) {first₂ : ℕ} (x : first₂ ≡ g.entries.first + g.entries.count) where
-    groups-so : Stored list_from 4 (columns_of 7) first t g₀ the-language.groups-end g n t₁
-    groups-so = nested-as a the-language.groups-read
+    groups_so : Stored list_from 4 (columns_of 7) first t g₀ the_language.groups_end_lem g n t₁
+    groups_so = nested_as a the_language.groups_read
 
     second : first₂ ≡ first + length g₀.entries
     second =
-        x ∙ ap (λ (d : Descriptions). d.entries.first + d.entries.count) groups-so.is
-        ∙ ap (λ (k : ℕ). first + k) (list-run 7 s (at + 3) the-language.groups-read).counted
+        x ∙ ap (λ (d : Descriptions). d.entries.first + d.entries.count) groups_so.is
+        ∙ ap (λ (k : ℕ). first + k) (list_run 7 s (at + 3) the_language.groups_read).counted
 
-    pub switch-groups-ask : Fillable (labels 5) 4 entry_count s n first₂ t₁
-    switch-groups-ask =
-        let w = (list-run 7 s (at + 3) the-language.groups-read).weighs in
-        let k = (list-run 5 s the-language.groups-end the-language.switch-groups-read).inside in
+    pub switch_groups_ask : Fillable (labels 5) 4 entry_count s n first₂ t₁
+    switch_groups_ask =
+        let w = (list_run 7 s (at + 3) the_language.groups_read).weighs in
+        let k = (list_run 5 s the_language.groups_end_lem the_language.switch_groups_read).inside in
         record {
           value = s₀;
-          end = the-language.switch-groups-end;
-          reads = ap (run (labels 5) s) groups-so.on ∙ the-language.switch-groups-read;
-          begun = omega (arith, k, groups-so.on);
+          end = the_language.switch_groups_end;
+          reads = ap (run (labels 5) s) groups_so.on ∙ the_language.switch_groups_read;
+          begun = omega (arith, k, groups_so.on);
           all = f.all;
-          before = omega (arith, second, w, f.before, groups-so.on);
-          room = omega (arith, f.room, rows-three, second, groups-so.long);
+          before = omega (arith, second, w, f.before, groups_so.on);
+          room = omega (arith, f.room, rows_three, second, groups_so.long);
         }
 
     module _ {sw : Descriptions} {m : ℕ} {t₂ : List ℕ} (b : Nested (labels 5) 4 list_from (columns_of 5) s n first₂ t₁ sw m t₂) {first₃ : ℕ} (y : first₃ ≡ sw.entries.first + sw.entries.count) where
-      switch-groups-so : Stored list_from 4 (columns_of 5) first₂ t₁ s₀ the-language.switch-groups-end sw m t₂
-      switch-groups-so = nested-as b (ap (run (labels 5) s) groups-so.on ∙ the-language.switch-groups-read)
+      switch_groups_so : Stored list_from 4 (columns_of 5) first₂ t₁ s₀ the_language.switch_groups_end sw m t₂
+      switch_groups_so = nested_as b (ap (run (labels 5) s) groups_so.on ∙ the_language.switch_groups_read)
 
       third : first₃ ≡ first + length g₀.entries + length s₀.entries
       third =
-          y ∙ ap (λ (d : Descriptions). d.entries.first + d.entries.count) switch-groups-so.is
-          ∙ (λ i. second i + (list-run 5 s the-language.groups-end the-language.switch-groups-read).counted i)
+          y ∙ ap (λ (d : Descriptions). d.entries.first + d.entries.count) switch_groups_so.is
+          ∙ (λ i. second i + (list_run 5 s the_language.groups_end_lem the_language.switch_groups_read).counted i)
 
-      pub presets-ask : Fillable (labels 5) 4 entry_count s m first₃ t₂
-      presets-ask =
-          let w = (list-run 7 s (at + 3) the-language.groups-read).weighs in
-          let v = (list-run 5 s the-language.groups-end the-language.switch-groups-read).weighs in
-          let k = (list-run 5 s the-language.switch-groups-end the-language.presets-read).inside in
+      pub presets_ask : Fillable (labels 5) 4 entry_count s m first₃ t₂
+      presets_ask =
+          let w = (list_run 7 s (at + 3) the_language.groups_read).weighs in
+          let v = (list_run 5 s the_language.groups_end_lem the_language.switch_groups_read).weighs in
+          let k = (list_run 5 s the_language.switch_groups_end the_language.presets_read).inside in
           record {
             value = p₀;
             end = f.end;
-            reads = ap (run (labels 5) s) switch-groups-so.on ∙ the-language.presets-read;
-            begun = omega (arith, k, switch-groups-so.on);
+            reads = ap (run (labels 5) s) switch_groups_so.on ∙ the_language.presets_read;
+            begun = omega (arith, k, switch_groups_so.on);
             all = f.all;
-            before = omega (arith, third, w, v, f.before, switch-groups-so.on);
-            room = omega (arith, f.room, rows-three, third, groups-so.long, switch-groups-so.long);
+            before = omega (arith, third, w, v, f.before, switch_groups_so.on);
+            room = omega (arith, f.room, rows_three, third, groups_so.long, switch_groups_so.long);
           }
 
       module _ {p : Descriptions} {k : ℕ} {t₃ : List ℕ} (c : Nested (labels 5) 4 list_from (columns_of 5) s m first₃ t₂ p k t₃) where
-        presets-so : Stored list_from 4 (columns_of 5) first₃ t₂ p₀ f.end p k t₃
-        presets-so = nested-as c (ap (run (labels 5) s) switch-groups-so.on ∙ the-language.presets-read)
+        presets_so : Stored list_from 4 (columns_of 5) first₃ t₂ p₀ f.end p k t₃
+        presets_so = nested_as c (ap (run (labels 5) s) switch_groups_so.on ∙ the_language.presets_read)
 
-        all-stored : t₃ ≡ sets t (first * 4) (cells f.value)
-        all-stored =
+        all_stored : t₃ ≡ sets t (first * 4) (cells f.value)
+        all_stored =
             let ga = columns_of 7 g₀ in
             let sa = columns_of 5 s₀ in
             let pa = columns_of 5 p₀ in
-            let i : first₂ * 4 ≡ first * 4 + length ga = omega (arith, second, columns-long 7 g₀) in
-            let j : first₃ * 4 ≡ first₂ * 4 + length sa = omega (arith, second, third, columns-long 5 s₀) in
-            presets-so.stored
-            ∙ (λ h. sets (switch-groups-so.stored h) (j h) pa)
-            ∙ sym (sets-append t₁ (first₂ * 4) sa pa)
-            ∙ (λ h. sets (groups-so.stored h) (i h) (sa ++ pa))
-            ∙ sym (sets-append t (first * 4) ga (sa ++ pa))
-            ∙ ap (sets t (first * 4)) (sym (ap cells the-language.is ∙ cells-so (slice at (at + 3) s) g₀ s₀ p₀))
+            let i : first₂ * 4 ≡ first * 4 + length ga = omega (arith, second, columns_long 7 g₀) in
+            let j : first₃ * 4 ≡ first₂ * 4 + length sa = omega (arith, second, third, columns_long 5 s₀) in
+            presets_so.stored
+            ∙ (λ h. sets (switch_groups_so.stored h) (j h) pa)
+            ∙ sym (sets_append t₁ (first₂ * 4) sa pa)
+            ∙ (λ h. sets (groups_so.stored h) (i h) (sa ++ pa))
+            ∙ sym (sets_append t (first * 4) ga (sa ++ pa))
+            ∙ ap (sets t (first * 4)) (sym (ap cells the_language.is ∙ cells_so (slice at (at + 3) s) g₀ s₀ p₀))
 
-        pub language-filled : {l : DescriptionLanguage} → l ≡ letters_at s at
+        pub language_filled : {l : DescriptionLanguage} → l ≡ letters_at s at
             → Nested language 4 language_from cells s at first t (record { language = l; groups = g; switch_groups = sw; presets = p }) k t₃
         unfolding ranged each
-        language-filled u = record {
+        language_filled u = record {
           value = f.value;
           end = f.end;
           reads = f.reads;
           is =
-              let z : sw ≡ list_from (first + length g₀.entries) s₀ = switch-groups-so.is ∙ ap (λ (n : ℕ). list_from n s₀) second in
-              let v : p ≡ list_from (first + length g₀.entries + length s₀.entries) p₀ = presets-so.is ∙ ap (λ (n : ℕ). list_from n p₀) third in
-              (λ i. record { language = (u ∙ letters-so s at) i; groups = groups-so.is i; switch_groups = z i; presets = v i }) ∙ ap (language_from first) (sym the-language.is);
-          on = presets-so.on;
-          stored = all-stored;
+              let z : sw ≡ list_from (first + length g₀.entries) s₀ = switch_groups_so.is ∙ ap (λ (n : ℕ). list_from n s₀) second in
+              let v : p ≡ list_from (first + length g₀.entries + length s₀.entries) p₀ = presets_so.is ∙ ap (λ (n : ℕ). list_from n p₀) third in
+              (λ i. record { language = (u ∙ letters_so s at) i; groups = groups_so.is i; switch_groups = z i; presets = v i }) ∙ ap (language_from first) (sym the_language.is);
+          on = presets_so.on;
+          stored = all_stored;
         }
 
 -- ---- the languages
@@ -171,27 +171,27 @@ module _ (s : List ℕ) (at first : ℕ) (t : List ℕ) (f : Fillable language 4
 abbrev pub NestingLanguages : List ℕ → ℕ → ℕ → List ℕ → List ℕ → List ℕ → List ℕ → ℕ → ℕ → ℕ → ℕ → Type 0
 NestingLanguages s at count t₀ u₀ t u pos left to first = Nesting language size_of row_from 12 cells 4 s at count t₀ u₀ t u pos left to first
 
-pub languages-start : (s : List ℕ) (at count : ℕ) (t₀ u₀ : List ℕ) → Fillable (many count language) 4 (λ l. length (flat_map entries_of l)) s at 0 u₀
+pub languages_start : (s : List ℕ) (at count : ℕ) (t₀ u₀ : List ℕ) → Fillable (many count language) 4 (λ l. length (flat_map entries_of l)) s at 0 u₀
     → NestingLanguages s at count t₀ u₀ t₀ u₀ at count 0 0
-languages-start s at count t₀ u₀ f = nest-start language size_of row_from 12 cells 4 s at count t₀ u₀ (rw entries-summed f)
+languages_start s at count t₀ u₀ f = nest_start language size_of row_from 12 cells 4 s at count t₀ u₀ (rw entries_summed f)
 
 module _ {s : List ℕ} {at count : ℕ} {t₀ u₀ t u : List ℕ} {pos left to first : ℕ} (i : NestingLanguages s at count t₀ u₀ t u pos left to first) (h : 0 < left) where
-  pub language-ask : Fillable language 4 size_of s pos first u
-  language-ask = nest-ready language size_of row_from 12 cells 4 s at count t₀ u₀ i h
+  pub language_ask : Fillable language 4 size_of s pos first u
+  language_ask = nest_ready language size_of row_from 12 cells 4 s at count t₀ u₀ i h
 
-  pub languages-turn : {r : TextLabelLanguage} {next first' : ℕ} {t' u' row : List ℕ} → Nested language 4 language_from cells s pos first u r next u'
+  pub languages_turn : {r : TextLabelLanguage} {next first' : ℕ} {t' u' row : List ℕ} → Nested language 4 language_from cells s pos first u r next u'
       → first' ≡ r.presets.entries.first + r.presets.entries.count
       → row ≡ language_row r → t' ≡ sets t to row → NestingLanguages s at count t₀ u₀ t' u' next (left - 1) (to + 12) first'
   unfolding ranged each
-  languages-turn {r} {next} {first'} n x y z =
+  languages_turn {r} {next} {first'} n x y z =
       let l = n.value in
       let d : run language s pos ≡ done l next = n.reads ∙ ap (done l) (sym n.on) in
       let c = counted s pos d in
       let e : first' ≡ first + length l.1.0 + length l.1.1.0 + get_or l.0 11 0 =
       x ∙ ap (λ (r : TextLabelLanguage). r.presets.entries.first + r.presets.entries.count) n.is in
-      nest-turn language size_of row_from 12 cells 4 s at count t₀ u₀ i h d (language-weighs s pos l next d) refl (cells-long s pos d) (omega (arith, e, c.presets, entries-long l))
+      nest_turn language size_of row_from 12 cells 4 s at count t₀ u₀ i h d (language_weighs s pos l next d) refl (cells_long s pos d) (omega (arith, e, c.presets, entries_long l))
       (z ∙ ap (sets t to) (y ∙ ap language_row n.is)) n.stored
 
-pub languages-end : {s : List ℕ} {at count : ℕ} {t₀ u₀ t u : List ℕ} {pos left to first : ℕ} → NestingLanguages s at count t₀ u₀ t u pos left to first → left ≤ 0
+pub languages_end : {s : List ℕ} {at count : ℕ} {t₀ u₀ t u : List ℕ} {pos left to first : ℕ} → NestingLanguages s at count t₀ u₀ t u pos left to first → left ≤ 0
     → Nests language size_of row_from cells s at count t₀ u₀ t u
-languages-end {s} {at} {count} {t₀} {u₀} i h = nest-end language size_of row_from 12 cells 4 s at count t₀ u₀ i h
+languages_end {s} {at} {count} {t₀} {u₀} i h = nest_end language size_of row_from 12 cells 4 s at count t₀ u₀ i h

@@ -15,9 +15,9 @@ use Rattle.frame.specs.Kind.{Heeded}
 use Rattle.frame.specs.Body.{heeding, plainly, layouts, heeds, heeds_of}
 use Rattle.frame.specs.Ranges.{firsts_of}
 use Rattle.frame.proofs.Lawful.{Lawful}
-use Rattle.frame.proofs.RowTypes.{LawfulRows, Leaf, bearer-leaf}
+use Rattle.frame.proofs.RowTypes.{LawfulRows, Leaf, bearer_leaf}
 use Rattle.frame.proofs.Pieces.{form, weights}
-use Rattle.frame.proofs.Ranges.{LawfulRanges, counts_test, sure_columns, range_test, range-lawful}
+use Rattle.frame.proofs.Ranges.{LawfulRanges, counts_test, sure_columns, range_test, range_lawful}
 use Rattle.frame.proofs.Body as B
 use Rattle.frame.proofs.Body.{places, places_test, tests, LawfulBody}
 use Rattle.labels.specs.Layout.{label}
@@ -38,17 +38,17 @@ unfolding cells shown flatten has each
 all_read w = refl
 
 leaf : (w : ℕ) → w < 8 → Leaf (label_rows w) kid
-leaf w h = subst (Leaf (label_rows w)) (all_read w) (bearer-leaf 7 (label_bear w h) plainly (λ s x f g o. refl))
+leaf w h = subst (Leaf (label_rows w)) (all_read w) (bearer_leaf 7 (label_bear w h) plainly (λ s x f g o. refl))
 
 abbrev lists_lawful : LawfulRanges kid lists
 lists_lawful = (leaf 7 (lit< tt), (leaf 5 (lit< tt), (leaf 5 (lit< tt), tt)))
 
-languages-pass : range_test 12 lists kid lists_lawful ≡ true
+languages_pass : range_test 12 lists kid lists_lawful ≡ true
 unfolding range_test form form_proper form_all proper all has distinct free eights total sure sure_columns flatten below counts_test firsts_of weights weight groups switch_group_list presets
-languages-pass = refl
+languages_pass = refl
 
-languages-lawful : LawfulRows language_rows
-languages-lawful = range-lawful 6 7 12 lists kid lists_lawful languages-pass
+languages_lawful : LawfulRows language_rows
+languages_lawful = range_lawful 6 7 12 lists kid lists_lawful languages_pass
 
 -- ---- the record
 
@@ -60,18 +60,18 @@ kept : (m : MpegH3dAudioTextLabel) → fields (text_label_of (heeds_of body (of 
 unfolding layouts heeds cells shown head flatten has each
 kept m = refl
 
-pub body-lawful : LawfulBody body
+pub body_lawful : LawfulBody body
 unfolding tests form form_proper form_all form_in_bytes proper all has distinct free eights total sure flatten below bytewide in_bytes head places places_test bounds each
-body-lawful = record {
-  rows = (languages-lawful, tt);
+body_lawful = record {
+  rows = (languages_lawful, tt);
   passes = refl;
   again = again;
   kept = kept;
   run_of = λ c r. refl;
-  run-set = λ c r q. refl;
+  run_set = λ c r q. refl;
   held = λ g w c k n a b. all_cons (c 0 refl) (all_cons (c 1 refl) (all_cons (w 2) (all_cons a (all_cons b all_nil))));
 }
 
 pub lawful : Lawful kind
 unfolding kind
-lawful = B.lawful body body-lawful
+lawful = B.lawful body body_lawful

@@ -19,34 +19,34 @@ use Rattle.wire.specs.declared.reads.Ends.{Ends}
 use Rattle.wire.specs.declared.reads.Ends.TheVariants as E
 use Rattle.wire.specs.declared.reads.Sum.{Sum}
 use Rattle.wire.specs.declared.reads.Sum.TheVariants as S
-use Rattle.wire.proofs.Reading.Runs.{run-split, run_ret}
-use Rattle.wire.proofs.Reading.Walk.{From, begun, onward, finished, as-done, cut-off-as, bytes-end, byte-taken, bytes-taken}
-use Rattle.wire.proofs.Reading.Loops.{many-long, many-weighs, WentOn, sum-onward, sum-cut-off, summed-done, summed-short, summed-cut, sum-small}
-use Rattle.wire.proofs.Reading.Nest.{flat-length, sum-suc}
-use Rattle.wire.proofs.Layouts.Straight.{singly, singly-there, singly-cut, ends_at, ends-within, ends-few, total-append}
-use Rattle.wire.proofs.Layouts.Bearers.{head_sizes, size_found, bear-ends}
-use Rattle.wire.proofs.Fields.{part-below}
+use Rattle.wire.proofs.Reading.Runs.{run_split, run_ret}
+use Rattle.wire.proofs.Reading.Walk.{From, begun, onward, finished, as_done, cut_off_as, bytes_end_lem, byte_taken, bytes_taken}
+use Rattle.wire.proofs.Reading.Loops.{many_long, many_weighs, WentOn, sum_onward, sum_cut_off, summed_done, summed_short, summed_cut, sum_small}
+use Rattle.wire.proofs.Reading.Nest.{flat_length, sum_suc}
+use Rattle.wire.proofs.Layouts.Straight.{singly, singly_there, singly_cut, ends_at, ends_within, ends_few, total_append}
+use Rattle.wire.proofs.Layouts.Bearers.{head_sizes, size_found, bear_ends}
+use Rattle.wire.proofs.Fields.{part_below}
 use Rattle.frame.specs.Entry.{too_short, Measures}
 use Rattle.frame.specs.Body.{tables}
-use Rattle.frame.proofs.Entries.{measures-short}
+use Rattle.frame.proofs.Entries.{measures_short}
 use Rattle.labels.specs.Layout.{label}
 use Rattle.labels.specs.Read.{Labels, labels_over, labels}
 use Rattle.text_label.specs.Rows.{letters, Language, TextLabel}
 use Rattle.text_label.specs.Read.{letters_at, language_is, language_over, text_label_over, language}
 use Rattle.text_label.specs.Kind.{entries_of, kind}
-use Rattle.text_label.proofs.Mirrored.{parse-over}
+use Rattle.text_label.proofs.Mirrored.{parse_over}
 
 -- ---- a list of labels
 
 abbrev labels_of : ℕ → ℕ → List Borne → Labels
 labels_of w b l = record { reserved = part w (8 - w) b; count = part 0 w b; entries = l }
 
-entry-weighs : (w : ℕ) (s : List ℕ) (at : ℕ) (x : Borne) (m : ℕ) → run (bearing (label w)) s at ≡ done x m → at + 1 ≤ m
+entry_weighs : (w : ℕ) (s : List ℕ) (at : ℕ) (x : Borne) (m : ℕ) → run (bearing (label w)) s at ≡ done x m → at + 1 ≤ m
 unfolding total
-entry-weighs w s at x m e =
+entry_weighs w s at x m e =
     let b = label w in
     let behind : List ℕ = 1 ∷ size_found b s at ∷ [] in
-    omega (arith, ends_at (head_sizes b s at ++ behind) s at (sym (bear-ends b s at) ∙ ap end_of e), total-append (head_sizes b s at) behind)
+    omega (arith, ends_at (head_sizes b s at ++ behind) s at (sym (bear_ends b s at) ∙ ap end_of e), total_append (head_sizes b s at) behind)
 
 -- its count stands in its first byte, and each of its entries has at least one
 pub record ListRun (w : ℕ) (s : List ℕ) (at : ℕ) (d : Labels) (m : ℕ) : Type 0 where
@@ -54,17 +54,17 @@ pub record ListRun (w : ℕ) (s : List ℕ) (at : ℕ) (d : Labels) (m : ℕ) : 
   pub counted : d.count ≡ length d.entries
   pub weighs : at + 1 + length d.entries ≤ m
 
-pub list-run : (w : ℕ) (s : List ℕ) (at : ℕ) {d : Labels} {m : ℕ} → run (labels w) s at ≡ done d m → ListRun w s at d m
+pub list_run : (w : ℕ) (s : List ℕ) (at : ℕ) {d : Labels} {m : ℕ} → run (labels w) s at ≡ done d m → ListRun w s at d m
 unfolding labels_over
-list-run w s at {d} {m} e =
+list_run w s at {d} {m} e =
     let p = bearing (label w) in
     let b = get_or s at 0 in
-    let (h, e₁) = byte-taken s at (λ b. many (part 0 w b) p >>= λ l. ret (labels_of w b l)) e in
-    let x = run-split (many (part 0 w b) p) (λ l. ret (labels_of w b l)) s (at + 1) d m e₁ in
+    let (h, e₁) = byte_taken s at (λ b. many (part 0 w b) p >>= λ l. ret (labels_of w b l)) e in
+    let x = run_split (many (part 0 w b) p) (λ l. ret (labels_of w b l)) s (at + 1) d m e₁ in
     let (q, n) = run_ret _ s x.middle x.second in
-    let c = many-long p s (part 0 w b) (at + 1) x.value x.middle x.first in
+    let c = many_long p s (part 0 w b) (at + 1) x.value x.middle x.first in
     subst (λ (d : Labels). ListRun w s at d m) q
-    (record { inside = h; counted = sym c; weighs = omega (arith, many-weighs p s (λ x. 1) (entry-weighs w s) _ (at + 1) x.value x.middle x.first, sum-suc (λ (x : Borne). 0) x.value, n) })
+    (record { inside = h; counted = sym c; weighs = omega (arith, many_weighs p s (λ x. 1) (entry_weighs w s) _ (at + 1) x.value x.middle x.first, sum_suc (λ (x : Borne). 0) x.value, n) })
 
 -- ---- a language
 
@@ -84,9 +84,9 @@ entry_count d = length d.entries
 abbrev pub size_of : Language → ℕ
 size_of l = length (entries_of l)
 
-pub entries-long : (l : Language) → size_of l ≡ length l.1.0 + (length l.1.1.0 + length l.1.1.1.0)
+pub entries_long : (l : Language) → size_of l ≡ length l.1.0 + (length l.1.1.0 + length l.1.1.1.0)
 unfolding tables flat_map
-entries-long l =
+entries_long l =
     let a = map (borne_row (label 7)) l.1.0 in
     let b = map (borne_row (label 5)) l.1.1.0 in
     let c = map (borne_row (label 5)) l.1.1.1.0 in
@@ -100,119 +100,119 @@ entries-long l =
       length-map l.1.1.1.0 (borne_row (label 5)),
     )
 
-ends-three : (s : List ℕ) (at : ℕ) {o : Out ℕ} → o ≡ run (pass 3) s at → end_of o ≡ end_of (run (u8s 3) s at)
-ends-three s at e = ap end_of e ∙ sym (bytes-end 3 s at)
+ends_three : (s : List ℕ) (at : ℕ) {o : Out ℕ} → o ≡ run (pass 3) s at → end_of o ≡ end_of (run (u8s 3) s at)
+ends_three s at e = ap end_of e ∙ sym (bytes_end_lem 3 s at)
 
 -- measured: its three bytes, then list after list
 module _ (s : List ℕ) (at : ℕ) (h : at ≤ length s) {o : Run} (e : run_out o ≡ run (pass 3) s at) where
-  pub letters-lack : {x y : Short} → o ≡ R.Short x → y ≡ short_of (run_out o) → Summed language size_of 381 s at (S.Short y)
+  pub letters_lack : {x y : Short} → o ≡ R.Short x → y ≡ short_of (run_out o) → Summed language size_of 381 s at (S.Short y)
   unfolding language_over
-  letters-lack d q =
+  letters_lack d q =
       let z : short_of (end_of (run_out o)) ≡ short_of (run_out o) = ap (λ (o : Run). short_of (end_of (run_out o))) d ∙ sym (ap (λ (o : Run). short_of (run_out o)) d) in
-      summed-short (cut-off-as (u8s 3) (λ l. tt) after_letters (begun language s at h) (ends-three s at e) (ap (λ (o : Run). end_of (run_out o)) d) (q ∙ sym z))
+      summed_short (cut_off_as (u8s 3) (λ l. tt) after_letters (begun language s at h) (ends_three s at e) (ap (λ (o : Run). end_of (run_out o)) d) (q ∙ sym z))
 
   module _ {p n : ℕ} (d : o ≡ R.Got p n) where
     three : (l : List ℕ) × From language s at (after_letters l) n
     unfolding language_over
-    three = let (l, r, _) = as-done (λ (l : List ℕ). tt) (run (u8s 3) s at) (sym (ends-three s at e) ∙ ap (λ (o : Run). end_of (run_out o)) d) in (l, onward (u8s 3) after_letters (begun language s at h) refl r)
+    three = let (l, r, _) = as_done (λ (l : List ℕ). tt) (run (u8s 3) s at) (sym (ends_three s at e) ∙ ap (λ (o : Run). end_of (run_out o)) d) in (l, onward (u8s 3) after_letters (begun language s at h) refl r)
 
-    pub letters-got : n ≤ length s
-    letters-got = three.1.inside
+    pub letters_got : n ≤ length s
+    letters_got = three.1.inside
 
     module _ {g : Sum} (x : Summed (labels 7) entry_count 127 s n g) where
-      pub groups-lack : {y : Short} → g ≡ S.Short y → Summed language size_of 381 s at g
-      groups-lack c = summed-cut c (sum-cut-off (labels 7) (after_groups three.0) three.1 x c)
+      pub groups_lack : {y : Short} → g ≡ S.Short y → Summed language size_of 381 s at g
+      groups_lack c = summed_cut c (sum_cut_off (labels 7) (after_groups three.0) three.1 x c)
 
       module _ {a n₂ : ℕ} (c : g ≡ S.Got a n₂) where
-        after-groups : WentOn (labels 7) entry_count (after_groups three.0) language s at n a n₂
-        after-groups = sum-onward (labels 7) (after_groups three.0) three.1 x c
+        went_after_groups : WentOn (labels 7) entry_count (after_groups three.0) language s at n a n₂
+        went_after_groups = sum_onward (labels 7) (after_groups three.0) three.1 x c
 
-        pub groups-got : n₂ ≤ length s
-        groups-got = after-groups.place.inside
+        pub groups_got : n₂ ≤ length s
+        groups_got = went_after_groups.place.inside
 
         module _ {sw : Sum} (y : Summed (labels 5) entry_count 127 s n₂ sw) where
-          pub switch-groups-lack : {z : Short} → sw ≡ S.Short z → Summed language size_of 381 s at sw
-          switch-groups-lack f = summed-cut f (sum-cut-off (labels 5) (after_lists three.0 after-groups.value) after-groups.place y f)
+          pub switch_groups_lack : {z : Short} → sw ≡ S.Short z → Summed language size_of 381 s at sw
+          switch_groups_lack f = summed_cut f (sum_cut_off (labels 5) (after_lists three.0 went_after_groups.value) went_after_groups.place y f)
 
           module _ {b n₃ : ℕ} (f : sw ≡ S.Got b n₃) where
-            after-switch-groups : WentOn (labels 5) entry_count (after_lists three.0 after-groups.value) language s at n₂ b n₃
-            after-switch-groups = sum-onward (labels 5) (after_lists three.0 after-groups.value) after-groups.place y f
+            went_after_switch_groups : WentOn (labels 5) entry_count (after_lists three.0 went_after_groups.value) language s at n₂ b n₃
+            went_after_switch_groups = sum_onward (labels 5) (after_lists three.0 went_after_groups.value) went_after_groups.place y f
 
-            pub switch-groups-got : n₃ ≤ length s
-            switch-groups-got = after-switch-groups.place.inside
+            pub switch_groups_got : n₃ ≤ length s
+            switch_groups_got = went_after_switch_groups.place.inside
 
             module _ {q : Sum} (z : Summed (labels 5) entry_count 127 s n₃ q) where
               with_presets : Labels → Language
-              with_presets d = language_is three.0 after-groups.value after-switch-groups.value d
+              with_presets d = language_is three.0 went_after_groups.value went_after_switch_groups.value d
 
-              pub presets-lack : {r : Short} → q ≡ S.Short r → Summed language size_of 381 s at q
+              pub presets_lack : {r : Short} → q ≡ S.Short r → Summed language size_of 381 s at q
               unfolding with_presets
-              presets-lack k = summed-cut k (sum-cut-off (labels 5) (λ d. ret (with_presets d)) after-switch-groups.place z k)
+              presets_lack k = summed_cut k (sum_cut_off (labels 5) (λ d. ret (with_presets d)) went_after_switch_groups.place z k)
 
-              pub language-counted : {v m : ℕ} → q ≡ S.Got v m → Summed language size_of 381 s at (S.Got (a + (b + v)) m)
+              pub language_counted : {v m : ℕ} → q ≡ S.Got v m → Summed language size_of 381 s at (S.Got (a + (b + v)) m)
               unfolding with_presets
-              language-counted k =
-                  let w = sum-onward (labels 5) (λ d. ret (with_presets d)) after-switch-groups.place z k in
-                  summed-done (finished w.place refl) (omega (arith, after-groups.is, after-switch-groups.is, w.is, entries-long (with_presets w.value)))
-                  (omega (arith, sum-small x c, sum-small y f, sum-small z k))
+              language_counted k =
+                  let w = sum_onward (labels 5) (λ d. ret (with_presets d)) went_after_switch_groups.place z k in
+                  summed_done (finished w.place refl) (omega (arith, went_after_groups.is, went_after_switch_groups.is, w.is, entries_long (with_presets w.value)))
+                  (omega (arith, sum_small x c, sum_small y f, sum_small z k))
 
 -- ---- a language that was read
 
 pub record LanguageRun (s : List ℕ) (at : ℕ) (l : Language) (m : ℕ) : Type 0 where
-  pub letters-there : at + 3 ≤ length s
+  pub letters_there : at + 3 ≤ length s
   pub groups : Labels
-  pub switch-groups : Labels
+  pub switch_groups : Labels
   pub presets : Labels
-  pub groups-end : ℕ
-  pub switch-groups-end : ℕ
-  pub groups-read : run (labels 7) s (at + 3) ≡ done groups groups-end
-  pub switch-groups-read : run (labels 5) s groups-end ≡ done switch-groups switch-groups-end
-  pub presets-read : run (labels 5) s switch-groups-end ≡ done presets m
-  pub is : l ≡ language_is (slice at (at + 3) s) groups switch-groups presets
+  pub groups_end_lem : ℕ
+  pub switch_groups_end : ℕ
+  pub groups_read : run (labels 7) s (at + 3) ≡ done groups groups_end_lem
+  pub switch_groups_read : run (labels 5) s groups_end_lem ≡ done switch_groups switch_groups_end
+  pub presets_read : run (labels 5) s switch_groups_end ≡ done presets m
+  pub is : l ≡ language_is (slice at (at + 3) s) groups switch_groups presets
 
 letter_at : (s : List ℕ) (at i : ℕ) → i < 3 → get_or (slice at (at + 3) s) i 0 ≡ get_or s (at + i) 0
 letter_at s at i h = get_or-drop at (take (at + 3) s) i 0 ∙ get_or-take (at + 3) s (at + i) 0 (omega arith)
 
-pub letters-so : (s : List ℕ) (at : ℕ) → let l = slice at (at + 3) s in letters_at s at ≡ letters (part 0 8 (get_or l 0 0)) (part 0 8 (get_or l 1 0)) (part 0 8 (get_or l 2 0))
-letters-so s at =
+pub letters_so : (s : List ℕ) (at : ℕ) → let l = slice at (at + 3) s in letters_at s at ≡ letters (part 0 8 (get_or l 0 0)) (part 0 8 (get_or l 1 0)) (part 0 8 (get_or l 2 0))
+letters_so s at =
     let a = letter_at s at 0 (omega arith) ∙ ap (λ (n : ℕ). get_or s n 0) (add-zero at) in
     λ i. letters (part 0 8 (sym a i)) (part 0 8 (sym (letter_at s at 1 (omega arith)) i)) (part 0 8 (sym (letter_at s at 2 (omega arith)) i))
 
-pub letters-are : (s : List ℕ) (at : ℕ) {a b c x y z : ℕ} → x ≡ get_or s at 0 → a ≡ part 0 8 x → y ≡ get_or s (at + 1) 0 → b ≡ part 0 8 y → z ≡ get_or s (at + 2) 0
+pub letters_are : (s : List ℕ) (at : ℕ) {a b c x y z : ℕ} → x ≡ get_or s at 0 → a ≡ part 0 8 x → y ≡ get_or s (at + 1) 0 → b ≡ part 0 8 y → z ≡ get_or s (at + 2) 0
     → c ≡ part 0 8 z → letters a b c ≡ letters_at s at
-letters-are s at d e f g h k = λ i. letters ((e ∙ ap (part 0 8) d) i) ((g ∙ ap (part 0 8) f) i) ((k ∙ ap (part 0 8) h) i)
+letters_are s at d e f g h k = λ i. letters ((e ∙ ap (part 0 8) d) i) ((g ∙ ap (part 0 8) f) i) ((k ∙ ap (part 0 8) h) i)
 
-pub language-run : (s : List ℕ) (at : ℕ) {l : Language} {m : ℕ} → run language s at ≡ done l m → LanguageRun s at l m
+pub language_run : (s : List ℕ) (at : ℕ) {l : Language} {m : ℕ} → run language s at ≡ done l m → LanguageRun s at l m
 unfolding language_over
-language-run s at {l} {m} e =
-    let (h, e₁) = bytes-taken s at 3 after_letters e in
+language_run s at {l} {m} e =
+    let (h, e₁) = bytes_taken s at 3 after_letters e in
     let b = slice at (at + 3) s in
-    let x = run-split (labels 7) (after_groups b) s (at + 3) l m e₁ in
-    let y = run-split (labels 5) (after_lists b x.value) s x.middle l m x.second in
-    let z = run-split (labels 5) (λ p. ret (language_is b x.value y.value p)) s y.middle l m y.second in
+    let x = run_split (labels 7) (after_groups b) s (at + 3) l m e₁ in
+    let y = run_split (labels 5) (after_lists b x.value) s x.middle l m x.second in
+    let z = run_split (labels 5) (λ p. ret (language_is b x.value y.value p)) s y.middle l m y.second in
     let (q, n) = run_ret _ s z.middle z.second in
     record {
-      letters-there = h;
+      letters_there = h;
       groups = x.value;
-      switch-groups = y.value;
+      switch_groups = y.value;
       presets = z.value;
-      groups-end = x.middle;
-      switch-groups-end = y.middle;
-      groups-read = x.first;
-      switch-groups-read = y.first;
-      presets-read = z.first ∙ ap (done z.value) n;
+      groups_end_lem = x.middle;
+      switch_groups_end = y.middle;
+      groups_read = x.first;
+      switch_groups_read = y.first;
+      presets_read = z.first ∙ ap (done z.value) n;
       is = sym q;
     }
 
-pub language-weighs : (s : List ℕ) (at : ℕ) (l : Language) (m : ℕ) → run language s at ≡ done l m → at + size_of l ≤ m
-language-weighs s at l m e =
-    let r = language-run s at e in
-    let n = ap size_of r.is ∙ entries-long (language_is (slice at (at + 3) s) r.groups r.switch-groups r.presets) in
-    omega (arith, n, (list-run 7 s _ r.groups-read).weighs, (list-run 5 s _ r.switch-groups-read).weighs, (list-run 5 s _ r.presets-read).weighs)
+pub language_weighs : (s : List ℕ) (at : ℕ) (l : Language) (m : ℕ) → run language s at ≡ done l m → at + size_of l ≤ m
+language_weighs s at l m e =
+    let r = language_run s at e in
+    let n = ap size_of r.is ∙ entries_long (language_is (slice at (at + 3) s) r.groups r.switch_groups r.presets) in
+    omega (arith, n, (list_run 7 s _ r.groups_read).weighs, (list_run 5 s _ r.switch_groups_read).weighs, (list_run 5 s _ r.presets_read).weighs)
 
 -- the entries of all languages are those of each, summed
-pub entries-summed : sum size_of ≡ λ ls. length (flat_map entries_of ls)
-entries-summed = λ i ls. sym (flat-length entries_of ls) i
+pub entries_summed : sum size_of ≡ λ ls. length (flat_map entries_of ls)
+entries_summed = λ i ls. sym (flat_length entries_of ls) i
 
 -- ---- the body
 
@@ -225,58 +225,58 @@ after_head id b = many (part 0 4 b) language >>= λ l. ret (body_is id b l)
 abbrev pub program : Prog TextLabel
 program = text_label_over language
 
-as-program : (s : List ℕ) {o : Out TextLabel} → run program s 0 ≡ o → run kind.program s 0 ≡ o
-as-program s e = ap (λ (p : Prog TextLabel). run p s 0) parse-over ∙ e
+as_program : (s : List ℕ) {o : Out TextLabel} → run program s 0 ≡ o → run kind.program s 0 ≡ o
+as_program s e = ap (λ (p : Prog TextLabel). run p s 0) parse_over ∙ e
 
-pub head-there : (s : List ℕ) → 2 ≤ length s → From kind.program s 0 (after_head (get_or s 0 0) (get_or s 1 0)) 2
+pub head_there : (s : List ℕ) → 2 ≤ length s → From kind.program s 0 (after_head (get_or s 0 0) (get_or s 1 0)) 2
 unfolding text_label_over singly each
-head-there s h = record { same = as-program s (singly-there 2 (λ l. after_head (get_or l 0 0) (get_or l 1 0)) s 0 h); inside = h }
+head_there s h = record { same = as_program s (singly_there 2 (λ l. after_head (get_or l 0 0) (get_or l 1 0)) s 0 h); inside = h }
 
-pub count-four : (b : ℕ) {count : ℕ} → count ≡ part 0 4 b → count < 16
-count-four b e = omega (arith, e, part-below 0 4 b)
+pub count_four : (b : ℕ) {count : ℕ} → count ≡ part 0 4 b → count < 16
+count_four b e = omega (arith, e, part_below 0 4 b)
 
 -- measured: its first two bytes, then its languages
 abbrev pub rows_in : TextLabel → ℕ
 rows_in t = length (flat_map entries_of t.1.0)
 
 module _ (s : List ℕ) {o : Ends} (q : ends_out o ≡ ends (ones 2) s 0) where
-  pub head-lacks : {x y : Short} → o ≡ E.Short x → y ≡ short_of (ends_out o) → Summed kind.program rows_in 5715 s 0 (S.Short y)
+  pub head_lacks : {x y : Short} → o ≡ E.Short x → y ≡ short_of (ends_out o) → Summed kind.program rows_in 5715 s 0 (S.Short y)
   unfolding text_label_over singly
-  head-lacks {x} {y} d z =
+  head_lacks {x} {y} d z =
       let e : y ≡ x = z ∙ ap (λ (o : Ends). short_of (ends_out o)) d in
-      summed-short (ap short e ∙ sym (as-program s (singly-cut 2 (λ l. after_head (get_or l 0 0) (get_or l 1 0)) s 0 (sym q ∙ ap ends_out d))))
+      summed_short (ap short e ∙ sym (as_program s (singly_cut 2 (λ l. after_head (get_or l 0 0) (get_or l 1 0)) s 0 (sym q ∙ ap ends_out d))))
 
   module _ {n : ℕ} (d : o ≡ E.At n) where
-    two-taken : n ≡ 2
+    two_taken : n ≡ 2
     unfolding ones total
-    two-taken = ends_at (ones 2) s 0 (sym q ∙ ap ends_out d)
+    two_taken = ends_at (ones 2) s 0 (sym q ∙ ap ends_out d)
 
-    pub head-got : n ≤ length s
-    head-got = ends-within (ones 2) s 0 (omega arith) (sym q ∙ ap ends_out d)
+    pub head_got : n ≤ length s
+    head_got = ends_within (ones 2) s 0 (omega arith) (sym q ∙ ap ends_out d)
 
-    pub second-there : 1 < length s
-    second-there = omega (arith, two-taken, head-got)
+    pub second_there : 1 < length s
+    second_there = omega (arith, two_taken, head_got)
 
-    pub body-counted : {b count : ℕ} {r : Sum} → b ≡ get_or s 1 0 → count ≡ part 0 4 b
+    pub body_counted : {b count : ℕ} {r : Sum} → b ≡ get_or s 1 0 → count ≡ part 0 4 b
         → Summed (many count language) (λ l. length (flat_map entries_of l)) (381 * count) s n r → Summed kind.program rows_in 5715 s 0 r
-    body-counted {r = r} u v x =
-        go r refl (subst (λ (c : ℕ). Summed (many c language) (λ l. length (flat_map entries_of l)) (381 * c) s 2 r) (v ∙ ap (part 0 4) u) (rw two-taken at x))
+    body_counted {r = r} u v x =
+        go r refl (subst (λ (c : ℕ). Summed (many c language) (λ l. length (flat_map entries_of l)) (381 * c) s 2 r) (v ∙ ap (part 0 4) u) (rw two_taken at x))
       where
         c : ℕ
         c = part 0 4 (get_or s 1 0)
 
         go : (y : Sum) → r ≡ y → Summed (many c language) (λ l. length (flat_map entries_of l)) (381 * c) s 2 r → Summed kind.program rows_in 5715 s 0 r
         go (S.Got v m) q x =
-            let g = sum-onward (many c language) (λ l. ret (body_is (get_or s 0 0) (get_or s 1 0) l)) (head-there s second-there) x q in
-            rw q (summed-done (finished g.place refl) (sym g.is) (omega (arith, sum-small x q, count-four (get_or s 1 0) {count = c} refl)))
-        go (S.Short y) q x = summed-cut q (sum-cut-off (many c language) (λ l. ret (body_is (get_or s 0 0) (get_or s 1 0) l)) (head-there s second-there) x q)
+            let g = sum_onward (many c language) (λ l. ret (body_is (get_or s 0 0) (get_or s 1 0) l)) (head_there s second_there) x q in
+            rw q (summed_done (finished g.place refl) (sym g.is) (omega (arith, sum_small x q, count_four (get_or s 1 0) {count = c} refl)))
+        go (S.Short y) q x = summed_cut q (sum_cut_off (many c language) (λ l. ret (body_is (get_or s 0 0) (get_or s 1 0) l)) (head_there s second_there) x q)
 
 -- a body that ends before its languages is refused
 pub headless : (s : List ℕ) {o : Out (Unit {0})} → o ≡ ends (ones 2) s 0 → {x : Short} → o ≡ short x → Measures kind s (too_short (short_of o))
 unfolding text_label_over singly ones total
 headless s e d =
-    let q = as-program s (singly-cut 2 (λ l. after_head (get_or l 0 0) (get_or l 1 0)) s 0 (sym e ∙ d)) in
-    subst (λ (y : Short). Measures kind s (too_short y)) (sym (ap short_of d)) (measures-short kind s (omega (arith, ends-few (ones 2) s 0 (sym e ∙ d))) q)
+    let q = as_program s (singly_cut 2 (λ l. after_head (get_or l 0 0) (get_or l 1 0)) s 0 (sym e ∙ d)) in
+    subst (λ (y : Short). Measures kind s (too_short y)) (sym (ap short_of d)) (measures_short kind s (omega (arith, ends_few (ones 2) s 0 (sym e ∙ d))) q)
 
 -- the languages of a body that was read begin behind the second byte
 pub record BodyRun (s : List ℕ) (t : TextLabel) (k : ℕ) : Type 0 where
@@ -288,11 +288,11 @@ pub record BodyRun (s : List ℕ) (t : TextLabel) (k : ℕ) : Type 0 where
 pub body_run : (s : List ℕ) {t : TextLabel} {k : ℕ} → run kind.program s 0 ≡ done t k → BodyRun s t k
 unfolding text_label_over
 body_run s {t} {k} e =
-    let (h, e₁) = byte-taken s 0 (λ id. u8 >>= after_head id) (ap (λ (p : Prog TextLabel). run p s 0) (sym parse-over) ∙ e) in
-    let (h₁, e₂) = byte-taken s 1 (after_head (get_or s 0 0)) e₁ in
+    let (h, e₁) = byte_taken s 0 (λ id. u8 >>= after_head id) (ap (λ (p : Prog TextLabel). run p s 0) (sym parse_over) ∙ e) in
+    let (h₁, e₂) = byte_taken s 1 (after_head (get_or s 0 0)) e₁ in
     let b = get_or s 1 0 in
-    let x = run-split (many (part 0 4 b) language) (λ l. ret (body_is (get_or s 0 0) b l)) s 2 t k e₂ in
+    let x = run_split (many (part 0 4 b) language) (λ l. ret (body_is (get_or s 0 0) b l)) s 2 t k e₂ in
     let (q, n) = run_ret _ s x.middle x.second in
-    let c = many-long language s (part 0 4 b) 2 x.value _ x.first in
+    let c = many_long language s (part 0 4 b) 2 x.value _ x.first in
     subst (λ (t : TextLabel). BodyRun s t k) q
     (record { inside = omega (arith, h₁); is = refl; counted = c; reads = (λ i. run (many (c i) language) s 2) ∙ x.first ∙ ap (done x.value) n })

@@ -2,7 +2,7 @@
 use mathlib.Core.List.{[]}
 use Rattle.frame.specs.Entry.{lacking, filled}
 use Rattle.frame.specs.Body.{tables}
-use Rattle.frame.proofs.Entries.{reads-unmeasured, reads-filled}
+use Rattle.frame.proofs.Entries.{reads_unmeasured, reads_filled}
 use Rattle.base.specs.Kind.{kind}
 use Rattle.base.proofs.read.Goals as goal
 
@@ -13,8 +13,8 @@ record_at-requires c =
 pub returns-in-Done : goal.returns-in-Done
 unfolding kind tables lacking filled
 returns-in-Done c =
-    search (reads-filled, rw c.in-Done.is at c.measure-m.ensures)
+    search (reads_filled, rw c.in-Done.is at c.measure-m.ensures)
 
 pub returns-in-Refused : goal.returns-in-Refused
 returns-in-Refused c =
-    reads-unmeasured kind _ (rw c.in-Refused.is at c.measure-m.ensures) []
+    reads_unmeasured kind _ (rw c.in-Refused.is at c.measure-m.ensures) []

@@ -5,7 +5,7 @@ use native.Mathlib.Nat.{add-zero}
 use Rattle.wire.specs.Lists.{sum, each}
 use Rattle.wire.specs.Layout.{of, shown, cells, tally}
 use Rattle.frame.specs.Body.{layouts, with_place, zeros}
-use Rattle.frame.proofs.Entries.{tallies-unmeasured, tallies-topped}
+use Rattle.frame.proofs.Entries.{tallies_unmeasured, tallies_topped}
 use Rattle.base.specs.Layout.{head}
 use Rattle.base.specs.Rows.{fields}
 use Rattle.base.specs.Kind.{pieces, kind}
@@ -17,8 +17,8 @@ record_at-requires c = rw c.in-Done.is at c.measure-m.ensures
 pub returns-in-Done : goal.returns-in-Done
 unfolding kind with_place each tally cells layouts head shown flatten sum zeros
 returns-in-Done c =
-    rw c.zero_bits.ensures (tallies-topped kind _ (rw c.in-Done.is at c.measure-m.ensures)
+    rw c.zero_bits.ensures (tallies_topped kind _ (rw c.in-Done.is at c.measure-m.ensures)
     (λ m. tally (layouts pieces) (of (fields m))) (λ t p. sym (add-zero (tally (layouts pieces) (of t.0)))) c.record_at.ensures)
 
 pub returns-in-Refused : goal.returns-in-Refused
-returns-in-Refused c = tallies-unmeasured kind _ (rw c.in-Refused.is at c.measure-m.ensures)
+returns-in-Refused c = tallies_unmeasured kind _ (rw c.in-Refused.is at c.measure-m.ensures)

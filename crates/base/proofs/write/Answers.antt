@@ -2,11 +2,11 @@
 use mathlib.Core.List.{[]}
 use mathlib.Core.Path.{◌∙◌}
 use native.Mathlib.Omega.{arith}
-use Rattle.frame.proofs.Bare.{heads, bare-writes}
-use Rattle.frame.proofs.Entries.{writes-refused, fillable, writes-done}
+use Rattle.frame.proofs.Bare.{heads, bare_writes}
+use Rattle.frame.proofs.Entries.{writes_refused, fillable, writes_done}
 use Rattle.base.specs.Write.{head_fields}
 use Rattle.base.specs.Kind.{kind}
-use Rattle.base.proofs.Mirrored.{written-so, bare-acts}
+use Rattle.base.proofs.Mirrored.{written_so, bare_acts}
 use borrow.Enum.Refused.{opened}
 use Rattle.base.proofs.write.Goals as goal
 
@@ -18,14 +18,14 @@ pub returns-then-not-m : goal.returns-then-not-m
 unfolding kind
 returns-then-not-m c =
     let m = c.args.m in
-    bare-writes kind m [] c.args.store.now _ (head_fields m) (written-so m c.args.store.now [] ∙ bare-acts m c.args.store.now c.if-not-m.true)
+    bare_writes kind m [] c.args.store.now _ (head_fields m) (written_so m c.args.store.now [] ∙ bare_acts m c.args.store.now c.if-not-m.true)
     (c.write_bare.ensures.of (head_fields m) c.head_bytes.ensures)
 
 pub returns-in_default : goal.returns-in_default
-returns-in_default c = writes-refused kind _ _ _ c.check.ensures _ c.judge-w.ensures (opened c.in_default.in_default-own.keys2)
+returns-in_default c = writes_refused kind _ _ _ c.check.ensures _ c.judge-w.ensures (opened c.in_default.in_default-own.keys2)
 
 pub fill-requires : goal.fill-requires
 fill-requires c = search fillable
 
 pub returns : goal.returns
-returns c = search writes-done
+returns c = search writes_done

@@ -1,9 +1,9 @@
 -- `drc_loudness::opened` meets its contract: what stands before the lists, and what is behind it.
 use mathlib.Core.Path.{ap}
 use Rattle.wire.specs.Reads.{ends_out}
-use Rattle.frame.proofs.Entries.{reads-unmeasured}
+use Rattle.frame.proofs.Entries.{reads_unmeasured}
 use Rattle.drc_kind.specs.Kind.{kind}
-use Rattle.drc_loudness.proofs.Walked.{begins, cut-head}
+use Rattle.drc_loudness.proofs.Walked.{begins, cut_head}
 use Rattle.drc_loudness.proofs.opened.Goals as goal
 
 pub opened_behind-requires : goal.opened_behind-requires
@@ -16,4 +16,4 @@ returns-in-At c =
 
 pub returns-in-Short : goal.returns-in-Short
 returns-in-Short c =
-    record { gives = reads-unmeasured kind _ (cut-head c.args.body.now c.head_end-h.ensures (ap ends_out c.in-Short.is)) _ }
+    record { gives = reads_unmeasured kind _ (cut_head c.args.body.now c.head_end-h.ensures (ap ends_out c.in-Short.is)) _ }

@@ -1,21 +1,21 @@
 -- `drc_loudness::opened_found` meets its contract: no rows, or the lowest table that is short, else the rows.
-use Rattle.frame.proofs.Tables.{reads-lowest, all-roomy, filled-opens}
+use Rattle.frame.proofs.Tables.{reads_lowest, all_roomy, filled_opens}
 use Rattle.drc_kind.specs.Kind.{kind}
-use Rattle.drc_loudness.proofs.Found.{bare-counted, bare-opens}
+use Rattle.drc_loudness.proofs.Found.{bare_counted, bare_opens}
 use Rattle.drc_loudness.proofs.opened_found.Goals as goal
 
 pub returns-then-s : goal.returns-then-s
 returns-then-s c =
-    bare-opens (bare-counted c.requires.0 c.requires.1 c.sizes_at-s.ensures c.if-s.true) c.requires.1 _ _ _ _
+    bare_opens (bare_counted c.requires.0 c.requires.1 c.sizes_at-s.ensures c.if-s.true) c.requires.1 _ _ _ _
 
 pub fill-requires : goal.fill-requires
 fill-requires c =
-    (c.requires.0, c.requires.1, all-roomy kind _ c.sizes_at-s.ensures _ c.room-r.ensures c.in-Enough.is)
+    (c.requires.0, c.requires.1, all_roomy kind _ c.sizes_at-s.ensures _ c.room-r.ensures c.in-Enough.is)
 
 pub returns-in-Lacks : goal.returns-in-Lacks
 returns-in-Lacks c =
-    record { gives = reads-lowest kind _ c.sizes_at-s.ensures _ c.room-r.ensures c.in-Lacks.is }
+    record { gives = reads_lowest kind _ c.sizes_at-s.ensures _ c.room-r.ensures c.in-Lacks.is }
 
 pub returns-in-Enough : goal.returns-in-Enough
 returns-in-Enough c =
-    record { gives = filled-opens kind _ c.sizes_at-s.ensures _ c.room-r.ensures c.in-Enough.is c.requires.0 c.fill.ensures }
+    record { gives = filled_opens kind _ c.sizes_at-s.ensures _ c.room-r.ensures c.in-Enough.is c.requires.0 c.fill.ensures }

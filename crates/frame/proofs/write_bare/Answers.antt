@@ -1,13 +1,13 @@
 -- `frame::write_bare` meets its contract: what is answered after the check pass, and the fill pass.
 use mathlib.Core.List.{[]}
 use Rattle.frame.specs.Sight.{head_kind}
-use Rattle.frame.proofs.Entries.{writes-refused, fillable, writes-done}
+use Rattle.frame.proofs.Entries.{writes_refused, fillable, writes_done}
 use borrow.Enum.Refused.{opened}
 use Rattle.frame.proofs.write_bare.Goals as goal
 
 pub returns-in_default : goal.returns-in_default
 returns-in_default c =
-    record { of = λ fss s. writes-refused (head_kind fss) c.args.run [] c.args.store.now (c.check_bare.ensures.of fss s) _ c.judge-w.ensures (opened c.in_default.in_default-own.keys2) }
+    record { of = λ fss s. writes_refused (head_kind fss) c.args.run [] c.args.store.now (c.check_bare.ensures.of fss s) _ c.judge-w.ensures (opened c.in_default.in_default-own.keys2) }
 
 pub fill_bare-requires : goal.fill_bare-requires
 fill_bare-requires c =
@@ -24,6 +24,6 @@ returns c =
       of = λ fss s.
           let w = c.check_bare.ensures.of fss s in
           let d = c.in-Done.is in
-          writes-done (head_kind fss) c.args.run [] c.args.store.now w _ c.judge-w.ensures d
+          writes_done (head_kind fss) c.args.run [] c.args.store.now w _ c.judge-w.ensures d
           (c.fill_bare.ensures.of fss s (fillable (head_kind fss) c.args.run [] c.args.store.now w _ c.judge-w.ensures d));
     }

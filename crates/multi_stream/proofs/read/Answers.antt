@@ -1,8 +1,8 @@
 -- `multi_stream::read` meets its contract: the measure, the room, the filled table and the record.
-use Rattle.frame.proofs.Entries.{reads-unmeasured, reads-filled}
-use Rattle.frame.proofs.Tables.{reads-lowest}
+use Rattle.frame.proofs.Entries.{reads_unmeasured, reads_filled}
+use Rattle.frame.proofs.Tables.{reads_lowest}
 use Rattle.multi_stream.specs.Kind.{kind}
-use Rattle.multi_stream.proofs.Sighted.{room-so, has_room}
+use Rattle.multi_stream.proofs.Sighted.{room_so, has_room}
 use Rattle.multi_stream.proofs.read.Goals as goal
 
 pub fill-requires : goal.fill-requires
@@ -15,13 +15,13 @@ record_at-requires c =
 
 pub returns-in-Refused : goal.returns-in-Refused
 returns-in-Refused c =
-    reads-unmeasured kind _ (rw c.in-Refused.is at c.measure-m.ensures) _
+    reads_unmeasured kind _ (rw c.in-Refused.is at c.measure-m.ensures) _
 
 pub returns-in-Lacks : goal.returns-in-Lacks
 returns-in-Lacks c =
-    search (reads-lowest, room-so, rw c.in-Done.is at c.measure-m.ensures)
+    search (reads_lowest, room_so, rw c.in-Done.is at c.measure-m.ensures)
 
 pub returns-in-Enough : goal.returns-in-Enough
 returns-in-Enough c =
-    reads-filled kind _ (rw c.in-Done.is at c.measure-m.ensures) _ _ (has_room _ _ c.and_table-r.ensures
+    reads_filled kind _ (rw c.in-Done.is at c.measure-m.ensures) _ _ (has_room _ _ c.and_table-r.ensures
     c.in-Enough.is).0 c.fill.ensures c.record_at.ensures

@@ -1,8 +1,8 @@
 -- `multi_stream::tally` meets its contract: the reserved bits at 0 of the record.
-use Rattle.frame.proofs.Entries.{tallies-topped, tallies-unmeasured}
+use Rattle.frame.proofs.Entries.{tallies_topped, tallies_unmeasured}
 use Rattle.multi_stream.specs.Kind.{kind}
 use Rattle.multi_stream.specs.Contract.{zeros_of}
-use Rattle.multi_stream.proofs.Sighted.{zeros-are}
+use Rattle.multi_stream.proofs.Sighted.{zeros_are}
 use Rattle.multi_stream.proofs.tally.Goals as goal
 
 pub record_at-requires : goal.record_at-requires
@@ -11,9 +11,9 @@ record_at-requires c =
 
 pub returns-in-Done : goal.returns-in-Done
 returns-in-Done c =
-    rw c.zero_bits.ensures (tallies-topped kind _ (rw c.in-Done.is at c.measure-m.ensures) zeros_of zeros-are
+    rw c.zero_bits.ensures (tallies_topped kind _ (rw c.in-Done.is at c.measure-m.ensures) zeros_of zeros_are
     c.record_at.ensures)
 
 pub returns-in-Refused : goal.returns-in-Refused
 returns-in-Refused c =
-    tallies-unmeasured kind _ (rw c.in-Refused.is at c.measure-m.ensures)
+    tallies_unmeasured kind _ (rw c.in-Refused.is at c.measure-m.ensures)

@@ -2,11 +2,11 @@
 use mathlib.Core.List.{[], ◌∷◌}
 use mathlib.Core.Path.{◌∙◌}
 use native.Mathlib.Omega.{arith}
-use Rattle.frame.proofs.Bare.{heads, bare-writes}
-use Rattle.frame.proofs.Entries.{writes-refused, fillable, writes-done}
+use Rattle.frame.proofs.Bare.{heads, bare_writes}
+use Rattle.frame.proofs.Entries.{writes_refused, fillable, writes_done}
 use Rattle.multi_stream.specs.Write.{head_fields}
 use Rattle.multi_stream.specs.Kind.{kind}
-use Rattle.multi_stream.proofs.Mirrored.{acts-are, bare-acts}
+use Rattle.multi_stream.proofs.Mirrored.{acts_are, bare_acts}
 use borrow.Enum.Refused.{opened}
 use Rattle.multi_stream.proofs.write.Goals as goal
 
@@ -19,14 +19,14 @@ unfolding kind
 returns-then-not-m c =
     let m = c.args.m in
     let t = c.args.groups.now ∷ [] in
-    bare-writes kind m t c.args.store.now _ (head_fields m) (acts-are m c.args.groups.now c.args.store.now ∙ bare-acts m c.args.groups.now c.if-not-m.true)
+    bare_writes kind m t c.args.store.now _ (head_fields m) (acts_are m c.args.groups.now c.args.store.now ∙ bare_acts m c.args.groups.now c.if-not-m.true)
     (c.write_bare.ensures.of (head_fields m) c.head_bytes.ensures)
 
 pub returns-in_default : goal.returns-in_default
-returns-in_default c = writes-refused kind _ _ _ c.check.ensures _ c.judge-w.ensures (opened c.in_default.in_default-own.keys2)
+returns-in_default c = writes_refused kind _ _ _ c.check.ensures _ c.judge-w.ensures (opened c.in_default.in_default-own.keys2)
 
 pub fill-requires : goal.fill-requires
 fill-requires c = search fillable
 
 pub returns : goal.returns
-returns c = search writes-done
+returns c = search writes_done

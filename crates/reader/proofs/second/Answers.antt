@@ -2,7 +2,7 @@
 use Rattle.std.proofs.Common.{ℕ, ◌+◌, ◌^◌, ◌<◌, List, length, get_or, Bool, true, false, leb, ◌≡◌, refl, sym, ap, ◌∙◌, arith}
 use Rattle.wire.specs.Prog as Prog
 use Rattle.wire.specs.Prog.{Out, done, short, needing, run}
-use Rattle.wire.proofs.Reading.Runs.{out_and_then, run_bind, run-u8}
+use Rattle.wire.proofs.Reading.Runs.{out_and_then, run_bind, run_u8}
 use Rattle.reader.specs.Reading.{told, after, second_byte}
 use Rattle.reader.proofs.second.Goals as goal
 
@@ -17,14 +17,14 @@ told_same false s at h = ap (λ n. short (needing n)) (omega arith)
 
 -- whether or not the first byte stands within
 both : (s : List ℕ) (t : Bool) → leb 1 (length s) ≡ t → told (run Prog.u8 s (after 0 (byte_at t s 0))) ≡ out_and_then (byte_at t s 0) (λ a n. run Prog.u8 s n)
-both s true e = ap told (run-u8 s 1) ∙ (told_same (leb 2 (length s)) s 1 (omega arith) ∙ sym (run-u8 s 1))
-both s false e = ap told (run-u8 s 0 ∙ ap (λ t. byte_at t s 0) e) ∙ told_same false s 0 (omega arith)
+both s true e = ap told (run_u8 s 1) ∙ (told_same (leb 2 (length s)) s 1 (omega arith) ∙ sym (run_u8 s 1))
+both s false e = ap told (run_u8 s 0 ∙ ap (λ t. byte_at t s 0) e) ∙ told_same false s 0 (omega arith)
 
 -- a read from where a first one leaves the reader is the second of two
 in_order : (s : List ℕ) → told (run Prog.u8 s (after 0 (run Prog.u8 s 0))) ≡ run second_byte s 0
 in_order s =
-    ap (λ o. told (run Prog.u8 s (after 0 o))) (run-u8 s 0)
-    ∙ (both s (leb 1 (length s)) refl ∙ sym (run_bind Prog.u8 (λ b. Prog.u8) s 0 ∙ ap (λ o. out_and_then o (λ a n. run Prog.u8 s n)) (run-u8 s 0)))
+    ap (λ o. told (run Prog.u8 s (after 0 o))) (run_u8 s 0)
+    ∙ (both s (leb 1 (length s)) refl ∙ sym (run_bind Prog.u8 (λ b. Prog.u8) s 0 ∙ ap (λ o. out_and_then o (λ a n. run Prog.u8 s n)) (run_u8 s 0)))
 
 pub returns : goal.returns
 returns c =

@@ -1,12 +1,12 @@
 -- `scene::measure` meets its contract: the sections, or why there are none.
 use native.Mathlib.Omega.{arith}
-use Rattle.frame.proofs.Entries.{measures-long, measures-short}
+use Rattle.frame.proofs.Entries.{measures_long, measures_short}
 use Rattle.scene_kind.specs.Kind.{kind}
 use Rattle.scene.proofs.measure.Goals as goal
 
 pub returns-then-body-gt65535 : goal.returns-then-body-gt65535
 returns-then-body-gt65535 c =
-    measures-long kind _ c.if-body-gt65535.true
+    measures_long kind _ c.if-body-gt65535.true
 
 pub sizes_at-requires : goal.sizes_at-requires
 sizes_at-requires c =
@@ -18,4 +18,4 @@ returns-in-Done c = c.sizes_at.ensures
 pub returns-in-Short : goal.returns-in-Short
 unfolding kind
 returns-in-Short c =
-    measures-short kind _ (omega (arith, c.if-body-gt65535.false)) (rw c.in-Short.is at c.find_sections-w.ensures).finds
+    measures_short kind _ (omega (arith, c.if-body-gt65535.false)) (rw c.in-Short.is at c.find_sections-w.ensures).finds

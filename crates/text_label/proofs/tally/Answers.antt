@@ -1,5 +1,5 @@
 -- `text_label::tally` meets its contract: the reserved bits at 0 of a body that was measured.
-use Rattle.frame.proofs.Entries.{tallies-unmeasured}
+use Rattle.frame.proofs.Entries.{tallies_unmeasured}
 use Rattle.text_label.specs.Kind.{kind}
 use Rattle.text_label.proofs.tally.Goals as goal
 
@@ -9,4 +9,4 @@ zero_bits-requires c =
 
 pub returns-in-Refused : goal.returns-in-Refused
 returns-in-Refused c =
-    tallies-unmeasured kind _ (rw c.in-Refused.is at c.measure-m.ensures)
+    tallies_unmeasured kind _ (rw c.in-Refused.is at c.measure-m.ensures)

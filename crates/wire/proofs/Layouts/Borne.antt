@@ -16,14 +16,14 @@ use Rattle.wire.specs.Act.{Act, demand, byte, copy, pick}
 use Rattle.wire.specs.Pen.{clean, bytes}
 use Rattle.wire.specs.declared.pen.Fault.TheVariants as F
 use Rattle.wire.specs.Layout.{Cell, end, Columns, of, row, at, reads, writes, shown, cells, matches, matched, every, flagged, counted, has, mix, columns, kept, blank, Bearing, Borne, bearing, borne_bytes, bearing_acts, bearing_means, borne, bearing_heeds, borne_row}
-use Rattle.wire.proofs.Writing.Acts.{and_both, both-and, clean-append, clean-both}
-use Rattle.wire.proofs.Writing.Passes.{slice-long}
-use Rattle.wire.proofs.Tables.{each-length}
-use Rattle.wire.proofs.Reading.Takes.{Takes, takes-split, u8-takes, map-takes}
-use Rattle.wire.proofs.Layouts.Codec.{Codec, Spells, seen_as, AsFits, prefixed, prefixed_read, prefixed-acts, prefixed-fits}
-use Rattle.wire.proofs.Layouts.Cells.{On, sound, clash, every-same, mix-in, both-sound, sound-both}
-use Rattle.wire.proofs.Layouts.Forms.{Form, last, hole, form_go, form_means, form_acts, form_shown, form_matches, form_all, form_proper, form_spans, form-shown-in, below, each-every, rows_codec, rows-goes, woven, Fit, Holes, Cleans, alike, means-again, row-spells, row-ready, row-columns}
-use Rattle.wire.proofs.Layouts.Rowed.{Wide, Good, row_on, on-all, after-demands, each-wide, found, room_for}
+use Rattle.wire.proofs.Writing.Acts.{and_both, both_and, clean_append, clean_both}
+use Rattle.wire.proofs.Writing.Passes.{slice_long}
+use Rattle.wire.proofs.Tables.{each_length}
+use Rattle.wire.proofs.Reading.Takes.{Takes, takes_split, u8_takes, map_takes}
+use Rattle.wire.proofs.Layouts.Codec.{Codec, Spells, seen_as, AsFits, prefixed, prefixed_read, prefixed_acts, prefixed_fits}
+use Rattle.wire.proofs.Layouts.Cells.{On, sound, clash, every_same, mix_in, both_sound, sound_both}
+use Rattle.wire.proofs.Layouts.Forms.{Form, last, hole, form_go, form_means, form_acts, form_shown, form_matches, form_all, form_proper, form_spans, form_shown_in, below, each_every, rows_codec, rows_goes, woven, Fit, Holes, Cleans, alike, means_again, row_spells, row_ready, row_columns}
+use Rattle.wire.proofs.Layouts.Rowed.{Wide, Good, row_on, on_all, after_demands, each_wide, found, room_for}
 
 -- a payload with its length stands behind the head; no column steers it
 abbrev pub bear_form : Bearing → Form (Payload × Unit {0}) (List ℕ × Unit {0})
@@ -48,13 +48,13 @@ module _ (x : Bear) where
   form = bear_form b
 
   pub record BearTests : Type 0 where
-    pub proper-so : form_proper [] form ≡ true
-    pub below-so : below b.width (form_all form) ≡ true
-    pub offset-so : has b.offset (form_all form) ≡ false
-    pub size-so : has b.size (form_all form) ≡ false
-    pub place-so : below b.width (b.offset ∷ b.size ∷ []) ≡ true
-    pub two-so : eqb b.size b.offset ≡ false
-    pub wide-so : 0 < b.width
+    pub proper_so : form_proper [] form ≡ true
+    pub below_so : below b.width (form_all form) ≡ true
+    pub offset_so : has b.offset (form_all form) ≡ false
+    pub size_so : has b.size (form_all form) ≡ false
+    pub place_so : below b.width (b.offset ∷ b.size ∷ []) ≡ true
+    pub two_so : eqb b.size b.offset ≡ false
+    pub wide_so : 0 < b.width
 
   pub t : BearTests
   unfolding bear_test
@@ -65,18 +65,18 @@ module _ (x : Bear) where
       let (f, e₃) = and_both (not (has b.size (form_all form))) _ e₂ in
       let (g, e₄) = and_both (below b.width (b.offset ∷ b.size ∷ [])) _ e₃ in
       let (h, i) = and_both (not (eqb b.size b.offset)) _ e₄ in
-      record { proper-so = a; below-so = c; offset-so = not-true _ d; size-so = not-true _ f; place-so = g; two-so = not-true _ h; wide-so = ltb-true _ _ i }
+      record { proper_so = a; below_so = c; offset_so = not-true _ d; size_so = not-true _ f; place_so = g; two_so = not-true _ h; wide_so = ltb-true _ _ i }
 
   abbrev with_unit : Codec (List ℕ × (Payload × Unit {0})) (List ℕ × (List ℕ × Unit {0}))
-  with_unit = rows_codec b.width form blank t.proper-so t.below-so (λ j h. refl)
+  with_unit = rows_codec b.width form blank t.proper_so t.below_so (λ j h. refl)
 
-  pub bear-same : with_unit.read >>= (λ v. ret (v.0, v.1.0)) ≡ bearing b
+  pub bear_same : with_unit.read >>= (λ v. ret (v.0, v.1.0)) ≡ bearing b
   unfolding rows_codec form_go reads prefixed seen_as prefixed_read u8 pass ◌>>=◌
-  bear-same = rows-goes b.width form blank t.proper-so t.below-so (λ j h. refl) (λ v. ret (v.0, v.1.0))
+  bear_same = rows_goes b.width form blank t.proper_so t.below_so (λ j h. refl) (λ v. ret (v.0, v.1.0))
 
-  pub bear-spans : (v : List ℕ × (Payload × Unit {0})) → with_unit.spans v ≡ v.1.0 ∷ []
+  pub bear_spans : (v : List ℕ × (Payload × Unit {0})) → with_unit.spans v ≡ v.1.0 ∷ []
   unfolding rows_codec form_spans prefixed seen_as
-  bear-spans v = refl
+  bear_spans v = refl
 
   -- what was read means its columns and its bytes
   abbrev pub meant : List ℕ → Borne → List ℕ × List ℕ
@@ -85,44 +85,44 @@ module _ (x : Bear) where
   unfoldable pub bears : Codec Borne (List ℕ × List ℕ)
   unfolding rows_codec form_means prefixed seen_as
   bears =
-      seen_as with_unit (λ v. (v.0, v.1.0)) (bearing b) bear-same (λ v. v.1 ∷ []) bear-spans meant (λ c. (c.0, c.1.0)) (λ d. (d.0, (d.1, tt))) (λ s v. refl)
+      seen_as with_unit (λ v. (v.0, v.1.0)) (bearing b) bear_same (λ v. v.1 ∷ []) bear_spans meant (λ c. (c.0, c.1.0)) (λ d. (d.0, (d.1, tt))) (λ s v. refl)
       (λ c f e. refl)
 
   -- nothing stands behind the payload
-  shown-so : (g : Columns) → form_shown form g ≡ shown b.head g
+  shown_so : (g : Columns) → form_shown form g ≡ shown b.head g
   unfolding form_shown shown
-  shown-so g = append-nil (shown b.head g)
+  shown_so g = append-nil (shown b.head g)
 
-  match-so : (g : Columns) → form_matches form g ≡ matches b.head g
+  match_so : (g : Columns) → form_matches form g ≡ matches b.head g
   unfolding form_matches matches
-  match-so g = append-nil (matches b.head g)
+  match_so g = append-nil (matches b.head g)
 
   -- a length byte and the bytes, as the row's own actions have them
   abbrev run : List ℕ → Columns → List Act
   run store g = byte (field 8 (g b.size) ∷ []) ∷ copy (borne_bytes b store g) ∷ []
 
-  woven-so : (g : Columns) (q : List Act) → woven form g (q, tt) ≡ writes b.head g ++ q
+  woven_so : (g : Columns) (q : List Act) → woven form g (q, tt) ≡ writes b.head g ++ q
   unfolding woven writes
-  woven-so g q = ap (λ (l : List Act). writes b.head g ++ l) (append-nil q)
+  woven_so g q = ap (λ (l : List Act). writes b.head g ++ l) (append-nil q)
 
   -- its actions, if they have no fault, are those of what it means
-  pub bear-spells : (store : List ℕ) (g : Columns) → clean (bearing_acts b store g) ≡ true → Spells bears (bearing_acts b store g) (bearing_means b store g)
+  pub bear_spells : (store : List ℕ) (g : Columns) → clean (bearing_acts b store g) ≡ true → Spells bears (bearing_acts b store g) (bearing_means b store g)
   unfolding bears seen_as AsFits cells matched clean bytes rows_codec Holes
-  bear-spells store g e =
+  bear_spells store g e =
       let (i, e₀) = and_both (leb (g b.offset + g b.size) (length store)) _ e in
       let (d, e₁) = and_both (every flagged g (shown b.head g)) _ e₀ in
       let (f, e₂) = and_both (every counted g (shown b.head g)) _ e₁ in
-      let (m, e₃) = clean-both (matches b.head g) _ e₂ in
-      let (w, e₄) = clean-both (writes b.head g) _ e₃ in
+      let (m, e₃) = clean_both (matches b.head g) _ e₂ in
+      let (w, e₄) = clean_both (writes b.head g) _ e₃ in
       let l = borne_bytes b store g in
-      let long : length l ≡ g b.size = slice-long (g b.offset) (g b.size) store (leb-true _ _ i) in
-      let q : run store g ≡ prefixed.acts l = (λ z. byte (field 8 (sym long z) ∷ []) ∷ copy l ∷ []) ∙ sym (prefixed-acts l) in
-      let y : Spells prefixed (run store g) l = record { fits = prefixed-fits l; sound = ap clean (sym q) ∙ e₄; same = ap bytes q } in
-      let fit-so : Fit form g = (ap (every sound g) (shown-so g) ∙ both-sound (shown b.head g) g d f, ap clean (match-so g) ∙ m) in
-      let s = row-spells b.width form blank t.proper-so t.below-so (λ j h. refl) g (run store g, tt) (l, tt) fit-so (ap clean (woven-so g (run store g)) ∙ e₃) (y, tt) in
+      let long : length l ≡ g b.size = slice_long (g b.offset) (g b.size) store (leb-true _ _ i) in
+      let q : run store g ≡ prefixed.acts l = (λ z. byte (field 8 (sym long z) ∷ []) ∷ copy l ∷ []) ∙ sym (prefixed_acts l) in
+      let y : Spells prefixed (run store g) l = record { fits = prefixed_fits l; sound = ap clean (sym q) ∙ e₄; same = ap bytes q } in
+      let fit-so : Fit form g = (ap (every sound g) (shown_so g) ∙ both_sound (shown b.head g) g d f, ap clean (match_so g) ∙ m) in
+      let s = row_spells b.width form blank t.proper_so t.below_so (λ j h. refl) g (run store g, tt) (l, tt) fit-so (ap clean (woven_so g (run store g)) ∙ e₃) (y, tt) in
       let r : Spells with_unit (woven form g (run store g, tt)) (row b.width (kept (b.head ∷ []) g blank), (l, tt)) =
-      subst (λ (cs : List Cell). Spells with_unit (woven form g (run store g, tt)) (row b.width (mix (columns cs) g blank), (l, tt))) (shown-so g) s in
-      record { fits = (r.fits, refl); sound = r.sound; same = after-demands (b.head ∷ []) g (writes b.head g ++ run store g) ∙ sym (ap bytes (woven-so g (run store g))) ∙ r.same }
+      subst (λ (cs : List Cell). Spells with_unit (woven form g (run store g, tt)) (row b.width (mix (columns cs) g blank), (l, tt))) (shown_so g) s in
+      record { fits = (r.fits, refl); sound = r.sound; same = after_demands (b.head ∷ []) g (writes b.head g ++ run store g) ∙ sym (ap bytes (woven_so g (run store g))) ∙ r.same }
 
   -- ---- in its table
 
@@ -136,55 +136,55 @@ module _ (x : Bear) where
   stands v g e =
       let f : Columns = borne b v.1.offset v.1.length (of v.0) in
       let ks = b.offset ∷ b.size ∷ [] in
-      let o = row_on b.width ks t.place-so (borne_row b v) g e in
-      let p = row_on b.width ks t.place-so (borne_row b v) f refl in
+      let o = row_on b.width ks t.place_so (borne_row b v) g e in
+      let p = row_on b.width ks t.place_so (borne_row b v) f refl in
       let same : eqb b.offset b.offset ≡ true = eq-eqb b.offset b.offset refl in
       let also : eqb b.size b.size ≡ true = eq-eqb b.size b.size refl in
-      let there : has b.size ks ≡ true = rw (also, t.two-so) in
+      let there : has b.size ks ≡ true = rw (also, t.two_so) in
       record {
-        on = λ j h. plain j h ∙ sym (row_on b.width (form_all form) t.below-so (borne_row b v) f refl j h) ∙ row_on b.width (form_all form) t.below-so (borne_row b v) g e j h;
+        on = λ j h. plain j h ∙ sym (row_on b.width (form_all form) t.below_so (borne_row b v) f refl j h) ∙ row_on b.width (form_all form) t.below_so (borne_row b v) g e j h;
         offset = sym (o b.offset (rw same)) ∙ p b.offset (rw same) ∙ rw same;
-        size = sym (o b.size there) ∙ p b.size there ∙ rw (t.two-so, also);
+        size = sym (o b.size there) ∙ p b.size there ∙ rw (t.two_so, also);
       }
     where
       plain : (j : ℕ) → has j (form_all form) ≡ true → of v.0 j ≡ borne b v.1.offset v.1.length (of v.0) j
       plain j h = go (eqb j b.offset) refl (eqb j b.size) refl
         where
           go : (y : Bool) → eqb j b.offset ≡ y → (z : Bool) → eqb j b.size ≡ z → of v.0 j ≡ pick y v.1.offset (pick z v.1.length (of v.0 j))
-          go true q z r = clash (subst (λ (k : ℕ). has k (form_all form) ≡ true) (eqb-true j b.offset q) h) t.offset-so
-          go false q true r = clash (subst (λ (k : ℕ). has k (form_all form) ≡ true) (eqb-true j b.size r) h) t.size-so
+          go true q z r = clash (subst (λ (k : ℕ). has k (form_all form) ≡ true) (eqb-true j b.offset q) h) t.offset_so
+          go false q true r = clash (subst (λ (k : ℕ). has k (form_all form) ≡ true) (eqb-true j b.size r) h) t.size_so
           go false q false r = refl
 
   -- it means what was read
-  pub bear-again : (s : List ℕ) (v : Borne) → bears.Fits (meant s v) → (g : Columns) → row b.width g ≡ borne_row b v → bearing_means b s g ≡ meant s v
+  pub bear_again : (s : List ℕ) (v : Borne) → bears.Fits (meant s v) → (g : Columns) → row b.width g ≡ borne_row b v → bearing_means b s g ≡ meant s v
   unfolding bears seen_as AsFits rows_codec cells
-  bear-again s v f g e =
+  bear_again s v f g e =
       let y = stands v g e in
-      let a = means-again b.width form blank t.proper-so t.below-so (λ j h. refl) (v.0, ((meant s v).1, tt)) f.0 g (on-all form (of v.0) g y.on) in
-      let a' : row b.width (kept (b.head ∷ []) g blank) ≡ v.0 = subst (λ (cs : List Cell). row b.width (mix (columns cs) g blank) ≡ v.0) (shown-so g) a in
+      let a = means_again b.width form blank t.proper_so t.below_so (λ j h. refl) (v.0, ((meant s v).1, tt)) f.0 g (on_all form (of v.0) g y.on) in
+      let a' : row b.width (kept (b.head ∷ []) g blank) ≡ v.0 = subst (λ (cs : List Cell). row b.width (mix (columns cs) g blank) ≡ v.0) (shown_so g) a in
       λ i. (a' i, slice (y.offset i) (y.offset i + y.size i) s)
 
   -- and is written without a fault, if its bytes stand in the body
-  pub bear-ready : (s : List ℕ) (v : Borne) → Good bears (meant s v) → Within s v.1 → (g : Columns) → row b.width g ≡ borne_row b v → clean (bearing_acts b s g) ≡ true
+  pub bear_ready : (s : List ℕ) (v : Borne) → Good bears (meant s v) → Within s v.1 → (g : Columns) → row b.width g ≡ borne_row b v → clean (bearing_acts b s g) ≡ true
   unfolding bears seen_as AsFits rows_codec cells matched clean Cleans form_acts
-  bear-ready s v (f, e) i g q =
+  bear_ready s v (f, e) i g q =
       let y = stands v g q in
       let l = (meant s v).1 in
-      let r = row-ready b.width form blank t.proper-so t.below-so (λ j h. refl) (v.0, (l, tt)) f.0 e g (on-all form (of v.0) g y.on) in
-      let (c, d) = sound-both (shown b.head g) g (ap (every sound g) (sym (shown-so g)) ∙ r.fit.0) in
-      let (_, e₁) = clean-both (writes b.head (of v.0)) _ e in
-      let (e₂, _) = clean-both (prefixed.acts l) _ e₁ in
-      let k : length l ≡ g b.size = slice-long v.1.offset v.1.length s i ∙ sym y.size in
-      let w : clean (run s g) ≡ true = (λ z. clean (byte (field 8 (sym k z) ∷ []) ∷ copy (borne_bytes b s g) ∷ [])) ∙ ap clean (sym (prefixed-acts l)) ∙ e₂ in
+      let r = row_ready b.width form blank t.proper_so t.below_so (λ j h. refl) (v.0, (l, tt)) f.0 e g (on_all form (of v.0) g y.on) in
+      let (c, d) = sound_both (shown b.head g) g (ap (every sound g) (sym (shown_so g)) ∙ r.fit.0) in
+      let (_, e₁) = clean_both (writes b.head (of v.0)) _ e in
+      let (e₂, _) = clean_both (prefixed.acts l) _ e₁ in
+      let k : length l ≡ g b.size = slice_long v.1.offset v.1.length s i ∙ sym y.size in
+      let w : clean (run s g) ≡ true = (λ z. clean (byte (field 8 (sym k z) ∷ []) ∷ copy (borne_bytes b s g) ∷ [])) ∙ ap clean (sym (prefixed_acts l)) ∙ e₂ in
       let n : g b.offset + g b.size ≤ length s = omega (arith, y.offset, y.size, i) in
-      both-and (le-leb _ _ n)
-      (both-and c (both-and d (clean-append (matches b.head g) _ ∙ both-and (ap clean (sym (match-so g)) ∙ r.fit.1) (ap clean (sym (woven-so g (run s g))) ∙ r.sound (run s g, tt) (w, tt)))))
+      both_and (le-leb _ _ n)
+      (both_and c (both_and d (clean_append (matches b.head g) _ ∙ both_and (ap clean (sym (match_so g)) ∙ r.fit.1) (ap clean (sym (woven_so g (run s g))) ∙ r.sound (run s g, tt) (w, tt)))))
 
-  pub bear-columns : (s : List ℕ) (v : Borne) → Good bears (meant s v) → v.1.offset < 65536 → v.1.length < 65536 → Every Column (borne_row b v)
+  pub bear_columns : (s : List ℕ) (v : Borne) → Good bears (meant s v) → v.1.offset < 65536 → v.1.length < 65536 → Every Column (borne_row b v)
   unfolding bears seen_as AsFits rows_codec
-  bear-columns s v (f, e) o n =
-      let h = row-columns b.width form blank t.proper-so t.below-so (λ j h. refl) (λ j. omega arith) (v.0, ((meant s v).1, tt)) f.0 e in
-      each-every Column (borne b v.1.offset v.1.length (of v.0)) 0 b.width (λ j. go j (eqb j b.offset) (eqb j b.size) (h j))
+  bear_columns s v (f, e) o n =
+      let h = row_columns b.width form blank t.proper_so t.below_so (λ j h. refl) (λ j. omega arith) (v.0, ((meant s v).1, tt)) f.0 e in
+      each_every Column (borne b v.1.offset v.1.length (of v.0)) 0 b.width (λ j. go j (eqb j b.offset) (eqb j b.size) (h j))
     where
       go : (j : ℕ) (y z : Bool) → get_or v.0 j 0 < 65536 → pick y v.1.offset (pick z v.1.length (of v.0 j)) < 65536
       go j true z h = o
@@ -192,30 +192,30 @@ module _ (x : Bear) where
       go j false false h = h
 
   -- of one that was read, whatever its bytes: at least the byte of its length
-  pub bear-grows : (at : ℕ) (v : Borne) (bs : List ℕ) → Takes (bearing b) at v bs → (Wide b.width v.0) × (1 ≤ length bs)
-  bear-grows at v bs d =
-      let u₀ = takes-split {B = Borne} (reads b.head blank) _ d in
-      let u₁ = takes-split {B = Borne} u8 _ u₀.second in
-      let (p, e, _) = map-takes {B = Borne} (pass u₁.value) (λ p. (row b.width u₀.value, span p u₁.value)) u₁.second in
-      let n : length u₁.front ≡ 1 = ap length (u8-takes u₁.first) in
-      (subst (λ (v : Borne). Wide b.width v.0) e (each-length u₀.value 0 b.width), omega (arith, n, ap length u₀.joined ∙ length-append u₀.front u₀.back, ap length u₁.joined ∙ length-append u₁.front u₁.back))
+  pub bear_grows : (at : ℕ) (v : Borne) (bs : List ℕ) → Takes (bearing b) at v bs → (Wide b.width v.0) × (1 ≤ length bs)
+  bear_grows at v bs d =
+      let u₀ = takes_split {B = Borne} (reads b.head blank) _ d in
+      let u₁ = takes_split {B = Borne} u8 _ u₀.second in
+      let (p, e, _) = map_takes {B = Borne} (pass u₁.value) (λ p. (row b.width u₀.value, span p u₁.value)) u₁.second in
+      let n : length u₁.front ≡ 1 = ap length (u8_takes u₁.first) in
+      (subst (λ (v : Borne). Wide b.width v.0) e (each_length u₀.value 0 b.width), omega (arith, n, ap length u₀.joined ∙ length-append u₀.front u₀.back, ap length u₁.joined ∙ length-append u₁.front u₁.back))
 
   -- ---- a list of them in their table
 
-  pub borne-wide : (vs : List Borne) → Every (Wide b.width) (map (borne_row b) vs)
-  borne-wide vs = each-wide b.width (λ (v : Borne). borne b v.1.offset v.1.length (of v.0)) vs
+  pub borne_wide : (vs : List Borne) → Every (Wide b.width) (map (borne_row b) vs)
+  borne_wide vs = each_wide b.width (λ (v : Borne). borne b v.1.offset v.1.length (of v.0)) vs
 
   module _ (vs : List Borne) (behind : List ℕ) where
     abbrev table : List ℕ
     table = flatten (map (borne_row b) vs) ++ behind
 
-    pub borne-found : each (λ i. row b.width (at b.width table i)) 0 (length vs) ≡ map (borne_row b) vs
-    borne-found =
+    pub borne_found : each (λ i. row b.width (at b.width table i)) 0 (length vs) ≡ map (borne_row b) vs
+    borne_found =
         subst (λ (m : ℕ). each (λ i. row b.width (at b.width table i)) 0 m ≡ map (borne_row b) vs) (length-map vs (borne_row b))
-        (found b.width (map (borne_row b) vs) (borne-wide vs) behind)
+        (found b.width (map (borne_row b) vs) (borne_wide vs) behind)
 
-    pub borne-room : length vs ≤ length table / b.width
-    borne-room = omega (arith, room_for b.width (map (borne_row b) vs) behind t.wide-so (borne-wide vs), length-map vs (borne_row b))
+    pub borne_room : length vs ≤ length table / b.width
+    borne_room = omega (arith, room_for b.width (map (borne_row b) vs) behind t.wide_so (borne_wide vs), length-map vs (borne_row b))
 
   -- ---- what writing reads of it decides its actions
 
@@ -227,42 +227,42 @@ module _ (x : Bear) where
       k = kept (b.head ∷ []) f blank
 
       off : (y z : Bool) → eqb j b.offset ≡ y → eqb j b.size ≡ z → has j (form_all form) ≡ true → pick y (f b.offset) (pick z (f b.size) (k j)) ≡ k j
-      off true z p q h = clash (ap (λ (i : ℕ). has i (form_all form)) (sym (eqb-true j b.offset p)) ∙ h) t.offset-so
-      off false true p q h = clash (ap (λ (i : ℕ). has i (form_all form)) (sym (eqb-true j b.size q)) ∙ h) t.size-so
+      off true z p q h = clash (ap (λ (i : ℕ). has i (form_all form)) (sym (eqb-true j b.offset p)) ∙ h) t.offset_so
+      off false true p q h = clash (ap (λ (i : ℕ). has i (form_all form)) (sym (eqb-true j b.size q)) ∙ h) t.size_so
       off false false p q h = refl
 
       mixed : k j ≡ f j
-      mixed = mix-in (columns (shown b.head f)) f blank j (subst (λ (cs : List Cell). has j (columns cs) ≡ true) (shown-so f) e)
+      mixed = mix_in (columns (shown b.head f)) f blank j (subst (λ (cs : List Cell). has j (columns cs) ≡ true) (shown_so f) e)
 
       go : (y : Bool) → has j (form_all form) ≡ y → f j ≡ of (bearing_heeds b f) j
       go true q =
           sym
-          (row_on b.width (form_all form) t.below-so (bearing_heeds b f) (borne b (f b.offset) (f b.size) k) refl j q ∙ off (eqb j b.offset) (eqb j b.size) refl refl q ∙ mixed)
-      go false q = clash e (form-shown-in form f j q)
+          (row_on b.width (form_all form) t.below_so (bearing_heeds b f) (borne b (f b.offset) (f b.size) k) refl j q ∙ off (eqb j b.offset) (eqb j b.size) refl refl q ∙ mixed)
+      go false q = clash e (form_shown_in form f j q)
 
-  bear-kept : (store : List ℕ) (f : Columns) → bearing_acts b store f ≡ bearing_acts b store (of (bearing_heeds b f))
+  bear_kept : (store : List ℕ) (f : Columns) → bearing_acts b store f ≡ bearing_acts b store (of (bearing_heeds b f))
   unfolding cells matched has
-  bear-kept store f =
+  bear_kept store f =
       let h = of (bearing_heeds b f) in
       let k = kept (b.head ∷ []) f blank in
       let o : On (columns (form_shown form f)) f h = row_kept f in
-      let a = alike b.width form blank t.proper-so t.below-so (λ j h. refl) f h o in
-      let c : shown b.head f ≡ shown b.head h = sym (shown-so f) ∙ a.cells ∙ shown-so h in
-      let m : matches b.head f ≡ matches b.head h = sym (match-so f) ∙ a.matched ∙ match-so h in
-      let o' : On (columns (shown b.head f)) f h = subst (λ (cs : List Cell). On (columns cs) f h) (shown-so f) o in
+      let a = alike b.width form blank t.proper_so t.below_so (λ j h. refl) f h o in
+      let c : shown b.head f ≡ shown b.head h = sym (shown_so f) ∙ a.cells ∙ shown_so h in
+      let m : matches b.head f ≡ matches b.head h = sym (match_so f) ∙ a.matched ∙ match_so h in
+      let o' : On (columns (shown b.head f)) f h = subst (λ (cs : List Cell). On (columns cs) f h) (shown_so f) o in
       let ks = b.offset ∷ b.size ∷ [] in
-      let p = row_on b.width ks t.place-so (bearing_heeds b f) (borne b (f b.offset) (f b.size) k) refl in
+      let p = row_on b.width ks t.place_so (bearing_heeds b f) (borne b (f b.offset) (f b.size) k) refl in
       let same : eqb b.offset b.offset ≡ true = eq-eqb b.offset b.offset refl in
       let also : eqb b.size b.size ≡ true = eq-eqb b.size b.size refl in
       let i₀ : f b.offset ≡ h b.offset = sym (p b.offset (rw same) ∙ rw same) in
-      let s₀ : f b.size ≡ h b.size = sym (p b.size (rw (also, t.two-so)) ∙ rw (t.two-so, also)) in
+      let s₀ : f b.size ≡ h b.size = sym (p b.size (rw (also, t.two_so)) ∙ rw (t.two_so, also)) in
       let w : writes b.head f ++ run store f ≡ writes b.head h ++ run store h =
-      sym (woven-so f (run store f)) ∙ a.acts (run store f, tt) ∙ woven-so h (run store f)
+      sym (woven_so f (run store f)) ∙ a.acts (run store f, tt) ∙ woven_so h (run store f)
       ∙ (λ z. writes b.head h ++ (byte (field 8 (s₀ z) ∷ []) ∷ copy (slice (i₀ z) (i₀ z + s₀ z) store) ∷ [])) in
       λ z. demand F.Range (leb (i₀ z + s₀ z) (length store))
-      ∷ demand F.Field ((every-same flagged (shown b.head f) o' ∙ ap (every flagged h) c) z)
-      ∷ demand F.Empty ((every-same counted (shown b.head f) o' ∙ ap (every counted h) c) z)
+      ∷ demand F.Field ((every_same flagged (shown b.head f) o' ∙ ap (every flagged h) c) z)
+      ∷ demand F.Empty ((every_same counted (shown b.head f) o' ∙ ap (every counted h) c) z)
       ∷ (m z ++ w z)
 
-  pub bear-heeds : (store : List ℕ) (f g : Columns) → bearing_heeds b f ≡ bearing_heeds b g → bearing_acts b store f ≡ bearing_acts b store g
-  bear-heeds store f g e = bear-kept store f ∙ ap (λ (r : List ℕ). bearing_acts b store (of r)) e ∙ sym (bear-kept store g)
+  pub bear_heeds : (store : List ℕ) (f g : Columns) → bearing_heeds b f ≡ bearing_heeds b g → bearing_acts b store f ≡ bearing_acts b store g
+  bear_heeds store f g e = bear_kept store f ∙ ap (λ (r : List ℕ). bearing_acts b store (of r)) e ∙ sym (bear_kept store g)

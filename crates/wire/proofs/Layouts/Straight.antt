@@ -17,30 +17,30 @@ use Rattle.wire.specs.Act.{pick}
 use Rattle.wire.specs.Layout.{Cell, Layout, end, line, word, choose, follows, judged, optional, width, column, Columns, set, columns, put, puts, reads, row, flat, blank, has}
 use Rattle.wire.specs.Straight.{ends, ones, on, puts_at, took, taken, spans, sizes, blanks, PartTaken}
 use Rattle.wire.proofs.Reading.Runs.{out_and_then, run_bind}
-use Rattle.wire.proofs.Layouts.Cells.{all, free, free-apart, apart-left, apart-right, On, Off, Apart, or-none, has-append, none-columns, put-else, set_else}
+use Rattle.wire.proofs.Layouts.Cells.{all, free, free_apart, apart_left, apart_right, On, Off, Apart, or_none, has_append, none_columns, put_else, set_else}
 use Rattle.wire.proofs.Writing.Acts.{and_both}
-use Rattle.wire.proofs.Reading.Walk.{map-done, byte_next, is-done}
+use Rattle.wire.proofs.Reading.Walk.{map_done, byte_next, is_done_lem}
 use Rattle.wire.specs.declared.reads.Short.{Short}
 
 -- ---- reads of known sizes
 
-pub ends-got : (n : ℕ) (ns s : List ℕ) (at : ℕ) → at + n ≤ length s → ends (n ∷ ns) s at ≡ ends ns s (at + n)
+pub ends_got : (n : ℕ) (ns s : List ℕ) (at : ℕ) → at + n ≤ length s → ends (n ∷ ns) s at ≡ ends ns s (at + n)
 unfolding ends
-ends-got n ns s at h = rw (le-leb (at + n) (length s) h, ends)
+ends_got n ns s at h = rw (le-leb (at + n) (length s) h, ends)
 
-pub ends-lacks : (n : ℕ) (ns s : List ℕ) (at : ℕ) → length s < at + n → ends (n ∷ ns) s at ≡ short (needing (at + n))
+pub ends_lacks : (n : ℕ) (ns s : List ℕ) (at : ℕ) → length s < at + n → ends (n ∷ ns) s at ≡ short (needing (at + n))
 unfolding ends
-ends-lacks n ns s at h = rw (lt-leb (at + n) (length s) h, ends)
+ends_lacks n ns s at h = rw (lt-leb (at + n) (length s) h, ends)
 
 -- one after the other
 unfoldable pub then_ends : Out (Unit {0}) → List ℕ → List ℕ → Out (Unit {0})
 then_ends (done u m) b s = ends b s m
 then_ends (short x) b s = short x
 
-pub ends-append : (a b s : List ℕ) (at : ℕ) → ends (a ++ b) s at ≡ then_ends (ends a s at) b s
+pub ends_append : (a b s : List ℕ) (at : ℕ) → ends (a ++ b) s at ≡ then_ends (ends a s at) b s
 unfolding ends then_ends
-ends-append [] b s at = refl
-ends-append (n ∷ a) b s at = go (leb (at + n) (length s)) (ends (a ++ b) s (at + n)) (ends a s (at + n)) (ends-append a b s (at + n))
+ends_append [] b s at = refl
+ends_append (n ∷ a) b s at = go (leb (at + n) (length s)) (ends (a ++ b) s (at + n)) (ends a s (at + n)) (ends_append a b s (at + n))
   where
     go : (t : Bool) (x y : Out (Unit {0})) → x ≡ then_ends y b s
         → ◌≡◌ {A = Out (Unit {0})} (elim t [ true ↦ x | false ↦ short (needing (at + n)) ]) (then_ends (elim t [ true ↦ y | false ↦ short (needing (at + n)) ]) b s)
@@ -58,35 +58,35 @@ ends_at (n ∷ a) s at e = go (leb (at + n) (length s)) (ends a s (at + n)) (end
     go false x h e = let z : ◌≡◌ {A = ℕ} 0 1 = cc e in absurd (omega arith)
 
 -- n of one byte are one comparison
-pub ones-got : (n : ℕ) (s : List ℕ) (at : ℕ) → at + n ≤ length s → ends (ones n) s at ≡ done tt (at + n)
+pub ones_got : (n : ℕ) (s : List ℕ) (at : ℕ) → at + n ≤ length s → ends (ones n) s at ≡ done tt (at + n)
 unfolding ends ones
-ones-got zero s at h = ap (done tt) (sym (add-zero at))
-ones-got (suc n) s at h = let q : at + 1 + n ≡ at + suc n = omega arith in ends-got 1 (ones n) s at (omega arith) ∙ ones-got n s (at + 1) (omega arith) ∙ ap (done tt) q
+ones_got zero s at h = ap (done tt) (sym (add-zero at))
+ones_got (suc n) s at h = let q : at + 1 + n ≡ at + suc n = omega arith in ends_got 1 (ones n) s at (omega arith) ∙ ones_got n s (at + 1) (omega arith) ∙ ap (done tt) q
 
-pub ones-lacks : (n : ℕ) (s : List ℕ) (at : ℕ) → at ≤ length s → length s < at + n → ends (ones n) s at ≡ short (needing (length s + 1))
+pub ones_lacks : (n : ℕ) (s : List ℕ) (at : ℕ) → at ≤ length s → length s < at + n → ends (ones n) s at ≡ short (needing (length s + 1))
 unfolding ones
-ones-lacks zero s at h l = absurd (omega arith)
-ones-lacks (suc n) s at h l = go (leb (at + 1) (length s)) refl (λ k. ones-lacks n s (at + 1) k (omega arith))
+ones_lacks zero s at h l = absurd (omega arith)
+ones_lacks (suc n) s at h l = go (leb (at + 1) (length s)) refl (λ k. ones_lacks n s (at + 1) k (omega arith))
   where
     go : (t : Bool) → leb (at + 1) (length s) ≡ t → (at + 1 ≤ length s → ends (ones n) s (at + 1) ≡ short (needing (length s + 1)))
         → ends (1 ∷ ones n) s at ≡ short (needing (length s + 1))
-    go true e r = let k = leb-true (at + 1) (length s) e in ends-got 1 (ones n) s at k ∙ r k
-    go false e r = let k = leb-false (at + 1) (length s) e in let q : at ≡ length s = omega arith in ends-lacks 1 (ones n) s at k ∙ ap (λ (k : ℕ). short (needing (k + 1))) q
+    go true e r = let k = leb-true (at + 1) (length s) e in ends_got 1 (ones n) s at k ∙ r k
+    go false e r = let k = leb-false (at + 1) (length s) e in let q : at ≡ length s = omega arith in ends_lacks 1 (ones n) s at k ∙ ap (λ (k : ℕ). short (needing (k + 1))) q
 
-pub ends-within : (a s : List ℕ) (at : ℕ) {u : Unit {0}} {m : ℕ} → at ≤ length s → ends a s at ≡ done u m → m ≤ length s
+pub ends_within : (a s : List ℕ) (at : ℕ) {u : Unit {0}} {m : ℕ} → at ≤ length s → ends a s at ≡ done u m → m ≤ length s
 unfolding ends
-ends-within [] s at {u} {m} h e = let z : at ≡ m = cc e in omega arith
-ends-within (n ∷ a) s at h e = go (leb (at + n) (length s)) refl (ends a s (at + n)) (λ k q. ends-within a s (at + n) k q) e
+ends_within [] s at {u} {m} h e = let z : at ≡ m = cc e in omega arith
+ends_within (n ∷ a) s at h e = go (leb (at + n) (length s)) refl (ends a s (at + n)) (λ k q. ends_within a s (at + n) k q) e
   where
     go : (t : Bool) → leb (at + n) (length s) ≡ t → (x : Out (Unit {0})) {u : Unit {0}} {m : ℕ} → (at + n ≤ length s → x ≡ done u m → m ≤ length s)
         → ◌≡◌ {A = Out (Unit {0})} (elim t [ true ↦ x | false ↦ short (needing (at + n)) ]) (done u m) → m ≤ length s
     go true q x h e = h (leb-true _ _ q) e
     go false q x h e = let z : ◌≡◌ {A = ℕ} 0 1 = cc e in absurd (omega arith)
 
-pub ends-few : (a s : List ℕ) (at : ℕ) {x : Short} → ends a s at ≡ short x → length s < at + total a
+pub ends_few : (a s : List ℕ) (at : ℕ) {x : Short} → ends a s at ≡ short x → length s < at + total a
 unfolding ends total
-ends-few [] s at e = let z : ◌≡◌ {A = ℕ} 0 1 = cc e in absurd (omega arith)
-ends-few (n ∷ a) s at e = go (leb (at + n) (length s)) refl (ends a s (at + n)) (ends-few a s (at + n)) e
+ends_few [] s at e = let z : ◌≡◌ {A = ℕ} 0 1 = cc e in absurd (omega arith)
+ends_few (n ∷ a) s at e = go (leb (at + n) (length s)) refl (ends a s (at + n)) (ends_few a s (at + n)) e
   where
     go : (t : Bool) → leb (at + n) (length s) ≡ t → (y : Out (Unit {0})) {x : Short} → (y ≡ short x → length s < at + n + total a)
         → ◌≡◌ {A = Out (Unit {0})} (elim t [ true ↦ y | false ↦ short (needing (at + n)) ]) (short x) → length s < at + (n + total a)
@@ -96,44 +96,44 @@ ends-few (n ∷ a) s at e = go (leb (at + n) (length s)) refl (ends a s (at + n)
 -- code stands behind the first of them, or has been refused
 pub ends_on : (a b s : List ℕ) (at : ℕ) {u : Unit {0}} {m : ℕ} {o : Out (Unit {0})} → o ≡ ends a s at → o ≡ done u m → ends (a ++ b) s at ≡ ends b s m
 unfolding then_ends
-ends_on a b s at e d = ends-append a b s at ∙ ap (λ (o : Out (Unit {0})). then_ends o b s) (sym e ∙ d)
+ends_on a b s at e d = ends_append a b s at ∙ ap (λ (o : Out (Unit {0})). then_ends o b s) (sym e ∙ d)
 
-pub ends-cut : (a b s : List ℕ) (at : ℕ) {x : Short} {o : Out (Unit {0})} → o ≡ ends a s at → o ≡ short x → o ≡ ends (a ++ b) s at
+pub ends_cut : (a b s : List ℕ) (at : ℕ) {x : Short} {o : Out (Unit {0})} → o ≡ ends a s at → o ≡ short x → o ≡ ends (a ++ b) s at
 unfolding then_ends
-ends-cut a b s at e d = d ∙ sym (ends-append a b s at ∙ ap (λ (o : Out (Unit {0})). then_ends o b s) (sym e ∙ d))
+ends_cut a b s at e d = d ∙ sym (ends_append a b s at ∙ ap (λ (o : Out (Unit {0})). then_ends o b s) (sym e ∙ d))
 
 -- reads that are done: how far they go
-pub ends-done : (a s : List ℕ) (at : ℕ) → at ≤ length s → is_done (ends a s at) ≡ true → (ends a s at ≡ done tt (at + total a)) × (at + total a ≤ length s)
-ends-done a s at h q =
-    let (u, m, e) = is-done (ends a s at) q in
+pub ends_done : (a s : List ℕ) (at : ℕ) → at ≤ length s → is_done (ends a s at) ≡ true → (ends a s at ≡ done tt (at + total a)) × (at + total a ≤ length s)
+ends_done a s at h q =
+    let (u, m, e) = is_done_lem (ends a s at) q in
     let n = ends_at a s at e in
-    (e ∙ ap (done tt) n, rw n at (ends-within a s at h e))
+    (e ∙ ap (done tt) n, rw n at (ends_within a s at h e))
 
 -- ---- single bytes, of which the first was read
 
-pub total-ones : (n : ℕ) → total (ones n) ≡ n
+pub total_ones : (n : ℕ) → total (ones n) ≡ n
 unfolding total ones
-total-ones zero = refl
-total-ones (suc n) = omega (arith, total-ones n)
+total_ones zero = refl
+total_ones (suc n) = omega (arith, total_ones n)
 
 -- k of them are there from a position on, and code stands behind them
 pub record Past (s : List ℕ) (at k n : ℕ) : Type 0 where
   pub is : n ≡ at + k
   pub inside : at + k ≤ length s
 
-pub ones-past : (k : ℕ) (s : List ℕ) (at : ℕ) {o : Out (Unit {0})} {n : ℕ} → at ≤ length s → o ≡ ends (ones k) s at → o ≡ done tt n → Past s at k n
-ones-past k s at h e d =
-    let q = ends_at (ones k) s at (sym e ∙ d) ∙ ap (λ (t : ℕ). at + t) (total-ones k) in
-    record { is = q; inside = rw q at (ends-within (ones k) s at h (sym e ∙ d)) }
+pub ones_past : (k : ℕ) (s : List ℕ) (at : ℕ) {o : Out (Unit {0})} {n : ℕ} → at ≤ length s → o ≡ ends (ones k) s at → o ≡ done tt n → Past s at k n
+ones_past k s at h e d =
+    let q = ends_at (ones k) s at (sym e ∙ d) ∙ ap (λ (t : ℕ). at + t) (total_ones k) in
+    record { is = q; inside = rw q at (ends_within (ones k) s at h (sym e ∙ d)) }
 
-pub ones-append : (k t : ℕ) → ones k ++ ones t ≡ ones (k + t)
+pub ones_append : (k t : ℕ) → ones k ++ ones t ≡ ones (k + t)
 unfolding ones
-ones-append zero t = ap ones (sym (zero-add t))
-ones-append (suc k) t = let e : suc k + t ≡ suc (k + t) = omega arith in ap (λ (l : List ℕ). 1 ∷ l) (ones-append k t) ∙ ap ones (sym e)
+ones_append zero t = ap ones (sym (zero-add t))
+ones_append (suc k) t = let e : suc k + t ≡ suc (k + t) = omega arith in ap (λ (l : List ℕ). 1 ∷ l) (ones_append k t) ∙ ap ones (sym e)
 
-pub ones-more : (n : ℕ) → ones (1 + n) ≡ 1 ∷ ones n
+pub ones_more : (n : ℕ) → ones (1 + n) ≡ 1 ∷ ones n
 unfolding ones
-ones-more n = let e : 1 + n ≡ suc n = omega arith in ap ones e
+ones_more n = let e : 1 + n ≡ suc n = omega arith in ap ones e
 
 -- code stands behind one byte, at n
 pub record Behind (s : List ℕ) (at n : ℕ) : Type 0 where
@@ -142,20 +142,20 @@ pub record Behind (s : List ℕ) (at n : ℕ) : Type 0 where
   pub is : n ≡ at + 1
   pub goes : (more : List ℕ) → ends (ones 1 ++ more) s at ≡ ends more s n
 
-pub behind-one : (s : List ℕ) (at : ℕ) {o : Out (Unit {0})} {n : ℕ} → at ≤ length s → o ≡ ends (ones 1) s at → o ≡ done tt n → Behind s at n
+pub behind_one : (s : List ℕ) (at : ℕ) {o : Out (Unit {0})} {n : ℕ} → at ≤ length s → o ≡ ends (ones 1) s at → o ≡ done tt n → Behind s at n
 unfolding ones total
-behind-one s at h e d =
-    let i = ends-within (ones 1) s at h (sym e ∙ d) in
+behind_one s at h e d =
+    let i = ends_within (ones 1) s at h (sym e ∙ d) in
     let q = ends_at (ones 1) s at (sym e ∙ d) in
     record { there = omega arith; inside = i; is = q; goes = λ more. ends_on (ones 1) more s at e d }
 
-pub one-cut : (k : ℕ) (s : List ℕ) (at : ℕ) {o : Out (Unit {0})} {x : Short} → o ≡ ends (ones 1) s at → o ≡ short x → o ≡ ends (ones (1 + k)) s at
+pub one_cut : (k : ℕ) (s : List ℕ) (at : ℕ) {o : Out (Unit {0})} {x : Short} → o ≡ ends (ones 1) s at → o ≡ short x → o ≡ ends (ones (1 + k)) s at
 unfolding ones
-one-cut k s at e d = ends-cut (ones 1) (ones k) s at e d ∙ ap (λ (l : List ℕ). ends l s at) (sym (ones-more k))
+one_cut k s at e d = ends_cut (ones 1) (ones k) s at e d ∙ ap (λ (l : List ℕ). ends l s at) (sym (ones_more k))
 
 pub one_more : {s : List ℕ} {at n k j : ℕ} → Behind s at n → k ≡ j → {o : Out (Unit {0})} → o ≡ ends (ones k) s n → o ≡ ends (ones (1 + j)) s at
 unfolding ones
-one_more {s} {at} {n} {k} {j} w q e = e ∙ ap (λ (k : ℕ). ends (ones k) s n) q ∙ sym (w.goes (ones j)) ∙ ap (λ (l : List ℕ). ends l s at) (sym (ones-more j))
+one_more {s} {at} {n} {k} {j} w q e = e ∙ ap (λ (k : ℕ). ends (ones k) s n) q ∙ sym (w.goes (ones j)) ∙ ap (λ (l : List ℕ). ends l s at) (sym (ones_more j))
 
 -- ---- a layout
 
@@ -165,17 +165,17 @@ unfoldable pub singly : {A : Type 0} → ℕ → (List ℕ → Prog A) → Prog 
 singly zero f = f []
 singly (suc n) f = u8 >>= λ b. singly n (λ l. f (b ∷ l))
 
-pub singly-there : {A : Type 0} (n : ℕ) (f : List ℕ → Prog A) (s : List ℕ) (at : ℕ) → at + n ≤ length s → run (singly n f) s at ≡ run (f (each (λ i. get_or s i 0) at n)) s (at + n)
+pub singly_there : {A : Type 0} (n : ℕ) (f : List ℕ → Prog A) (s : List ℕ) (at : ℕ) → at + n ≤ length s → run (singly n f) s at ≡ run (f (each (λ i. get_or s i 0) at n)) s (at + n)
 unfolding singly each
-singly-there zero f s at h = ap (run (f []) s) (sym (add-zero at))
-singly-there (suc n) f s at h =
+singly_there zero f s at h = ap (run (f []) s) (sym (add-zero at))
+singly_there (suc n) f s at h =
     let k : at + 1 + n ≡ at + suc n = omega arith in
-    byte_next _ s at (omega arith) refl ∙ singly-there n (λ l. f (get_or s at 0 ∷ l)) s (at + 1) (omega arith) ∙ ap (run (f (get_or s at 0 ∷ each (λ i. get_or s i 0) (at + 1) n)) s) k
+    byte_next _ s at (omega arith) refl ∙ singly_there n (λ l. f (get_or s at 0 ∷ l)) s (at + 1) (omega arith) ∙ ap (run (f (get_or s at 0 ∷ each (λ i. get_or s i 0) (at + 1) n)) s) k
 
-pub singly-cut : {A : Type 0} (n : ℕ) (f : List ℕ → Prog A) (s : List ℕ) (at : ℕ) {x : Short} → ends (ones n) s at ≡ short x → run (singly n f) s at ≡ short x
+pub singly_cut : {A : Type 0} (n : ℕ) (f : List ℕ → Prog A) (s : List ℕ) (at : ℕ) {x : Short} → ends (ones n) s at ≡ short x → run (singly n f) s at ≡ short x
 unfolding singly ends ones run u8 ◌>>=◌
-singly-cut zero f s at e = absurd (let z : ◌≡◌ {A = ℕ} 0 1 = cc e in omega arith)
-singly-cut {A} (suc n) f s at {x} e = go (leb (at + 1) (length s)) (λ e. singly-cut n _ s (at + 1) e) e
+singly_cut zero f s at e = absurd (let z : ◌≡◌ {A = ℕ} 0 1 = cc e in omega arith)
+singly_cut {A} (suc n) f s at {x} e = go (leb (at + 1) (length s)) (λ e. singly_cut n _ s (at + 1) e) e
   where
     go : (b : Bool) {o : Out (Unit {0})} {q : Out A} → (o ≡ short x → q ≡ short x)
         → ◌≡◌ {A = Out (Unit {0})} (elim b [ true ↦ o | false ↦ short (needing (at + 1)) ]) (short x)
@@ -183,38 +183,38 @@ singly-cut {A} (suc n) f s at {x} e = go (leb (at + 1) (length s)) (λ e. singly
     go true h e = h e
     go false h e = let z : needing (at + 1) ≡ x = cc e in ap short z
 
-pub on-is : (at i : ℕ) → on at i ≡ at + i
-on-is at zero = sym (add-zero at)
-on-is at (suc i) = refl
+pub on_is : (at i : ℕ) → on at i ≡ at + i
+on_is at zero = sym (add-zero at)
+on_is at (suc i) = refl
 
-on-add : (at i n : ℕ) → on at (i + n) ≡ on at i + n
-on-add at i n = on-is at (i + n) ∙ omega (arith, on-is at i)
+on_add : (at i n : ℕ) → on at (i + n) ≡ on at i + n
+on_add at i n = on_is at (i + n) ∙ omega (arith, on_is at i)
 
-puts-at : (css : List (List Cell)) (s : List ℕ) (at i p : ℕ) (f : Columns) → on at i ≡ p → p + length css ≤ length s → puts css (slice p (p + length css) s) f ≡ puts_at css s at i f
+puts_at_lem : (css : List (List Cell)) (s : List ℕ) (at i p : ℕ) (f : Columns) → on at i ≡ p → p + length css ≤ length s → puts css (slice p (p + length css) s) f ≡ puts_at css s at i f
 unfolding puts puts_at
-puts-at [] s at i p f q h = refl
-puts-at (cs ∷ css) s at i p f q h =
+puts_at_lem [] s at i p f q h = refl
+puts_at_lem (cs ∷ css) s at i p f q h =
     let n : p + suc (length css) ≡ suc p + length css = omega arith in
     let e : slice p (p + suc (length css)) s ≡ get_or s p 0 ∷ slice (suc p) (suc p + length css) s =
     slice-cons p (p + suc (length css)) s 0 (omega arith) (omega arith) ∙ ap (λ (k : ℕ). get_or s p 0 ∷ slice (suc p) k s) n in
-    let z : on at (i + 1) ≡ suc p = on-add at i 1 ∙ omega (arith, q) in
-    rw (e, q) (ap (put cs (split (map width cs) (get_or s p 0))) (puts-at css s at (i + 1) (suc p) f z (omega arith)))
+    let z : on at (i + 1) ≡ suc p = on_add at i 1 ∙ omega (arith, q) in
+    rw (e, q) (ap (put cs (split (map width cs) (get_or s p 0))) (puts_at_lem css s at (i + 1) (suc p) f z (omega arith)))
 
 -- what a run comes to: the columns, where its reads end
 abbrev pub Read : Columns × List ℕ → List ℕ → ℕ → Out Columns
 Read q s at = map_out (λ u. q.0) (ends q.1 s at)
 
-read-then : (q : Columns × List ℕ) (l : Layout) (s : List ℕ) (at : ℕ) → ((m : ℕ) → run (reads l q.0) s m ≡ Read (took l q.0 s m 0) s m)
+read_then : (q : Columns × List ℕ) (l : Layout) (s : List ℕ) (at : ℕ) → ((m : ℕ) → run (reads l q.0) s m ≡ Read (took l q.0 s m 0) s m)
     → out_and_then (Read q s at) (λ g m. run (reads l g) s m) ≡ Read ((took l q.0 s (at + total q.1) 0).0, q.1 ++ (took l q.0 s (at + total q.1) 0).1) s at
 unfolding then_ends
-read-then q l s at h = go (ends q.1 s at) refl
+read_then q l s at h = go (ends q.1 s at) refl
   where
     go : (o : Out (Unit {0})) → ends q.1 s at ≡ o
         → out_and_then (map_out (λ u. q.0) (ends q.1 s at)) (λ g m. run (reads l g) s m) ≡ Read ((took l q.0 s (at + total q.1) 0).0, q.1 ++ (took l q.0 s (at + total q.1) 0).1) s at
     go (done u m) e =
         let n : at + total q.1 ≡ m = sym (ends_at q.1 s at e) in
-        rw (n, ends-append q.1 (took l q.0 s m 0).1 s at, e) (h m)
-    go (short x) e = rw (ends-append q.1 (took l q.0 s (at + total q.1) 0).1 s at, e)
+        rw (n, ends_append q.1 (took l q.0 s m 0).1 s at, e) (h m)
+    go (short x) e = rw (ends_append q.1 (took l q.0 s (at + total q.1) 0).1 s at, e)
 
 -- a byte of a read of one
 byte_of : (s : List ℕ) (p : ℕ) → p + 1 ≤ length s → get_or (slice p (p + 1) s) 0 0 ≡ get_or s p 0
@@ -245,22 +245,22 @@ unfolding reads run took ends
 read_at end f s at i = refl
 read_at (line css l) f s at i =
     go (on at i) refl (leb (on at i + length css) (length s)) refl
-    (subst (λ (k : ℕ). run (reads l (puts_at css s at i f)) s k ≡ Read (took l (puts_at css s at i f) s at (i + length css)) s k) (on-add at i (length css)) (read_at l (puts_at css s at i f) s at (i + length css)))
+    (subst (λ (k : ℕ). run (reads l (puts_at css s at i f)) s k ≡ Read (took l (puts_at css s at i f) s at (i + length css)) s k) (on_add at i (length css)) (read_at l (puts_at css s at i f) s at (i + length css)))
   where
     go : (p : ℕ) → on at i ≡ p → (b : Bool) → leb (p + length css) (length s) ≡ b
         → run (reads l (puts_at css s at i f)) s (p + length css) ≡ Read (took l (puts_at css s at i f) s at (i + length css)) s (p + length css)
         → ◌≡◌ {A = Out Columns} (elim b [ true ↦ run (reads l (puts css (slice p (p + length css) s) f)) s (p + length css) | false ↦ short (needing (p + length css)) ])
         (map_out {A = Unit {0}} (λ u. (took l (puts_at css s at i f) s at (i + length css)).0) (elim b [ true ↦ ends (took l (puts_at css s at i f) s at (i + length css)).1 s (p + length css) | false ↦ short (needing (p + length css)) ]))
-    go p q true e h = rw (puts-at css s at i p f q (leb-true _ _ e)) h
+    go p q true e h = rw (puts_at_lem css s at i p f q (leb-true _ _ e)) h
     go p q false e h = refl
 read_at (word k l) f s at i =
-    word_at k l f s (on at i) (on at (i + 1)) (λ g. took l g s at (i + 2)) (on-add at i 1)
-    (λ g. subst (λ (m : ℕ). run (reads l g) s m ≡ Read (took l g s at (i + 2)) s m) (on-add at i 2 ∙ omega arith) (read_at l g s at (i + 2)))
+    word_at k l f s (on at i) (on at (i + 1)) (λ g. took l g s at (i + 2)) (on_add at i 1)
+    (λ g. subst (λ (m : ℕ). run (reads l g) s m ≡ Read (took l g s at (i + 2)) s m) (on_add at i 2 ∙ omega arith) (read_at l g s at (i + 2)))
 read_at (choose k is p q l) f s at i =
     let x = pick (is (f k)) (took p f s (on at i) 0) (took q f s (on at i) 0) in
     run_bind (pick (is (f k)) (reads p f) (reads q f)) (λ g. reads l g) s (on at i)
     ∙ ap (λ (o : Out Columns). out_and_then o (λ g m. run (reads l g) s m)) (go (is (f k)) (read_at p f s (on at i) 0) (read_at q f s (on at i) 0))
-    ∙ read-then x l s (on at i) (λ m. read_at l x.0 s m 0)
+    ∙ read_then x l s (on at i) (λ m. read_at l x.0 s m 0)
   where
     go : (b : Bool) → run (reads p f) s (on at i) ≡ Read (took p f s (on at i) 0) s (on at i) → run (reads q f) s (on at i) ≡ Read (took q f s (on at i) 0) s (on at i)
         → run (pick b (reads p f) (reads q f)) s (on at i) ≡ Read (pick b (took p f s (on at i) 0) (took q f s (on at i) 0)) s (on at i)
@@ -271,75 +271,75 @@ read_at (judged p l) f s at i =
     let x = took p f s (on at i) 0 in
     run_bind (reads p f) (λ g. reads l g) s (on at i)
     ∙ ap (λ (o : Out Columns). out_and_then o (λ g m. run (reads l g) s m)) (read_at p f s (on at i) 0)
-    ∙ read-then x l s (on at i) (λ m. read_at l x.0 s m 0)
+    ∙ read_then x l s (on at i) (λ m. read_at l x.0 s m 0)
 
-pub read-so : (l : Layout) (f : Columns) (s : List ℕ) (at : ℕ) → run (reads l f) s at ≡ map_out (λ u. taken l f s at) (ends (spans l f s at) s at)
-read-so l f s at = read_at l f s at 0
+pub read_so : (l : Layout) (f : Columns) (s : List ℕ) (at : ℕ) → run (reads l f) s at ≡ map_out (λ u. taken l f s at) (ends (spans l f s at) s at)
+read_so l f s at = read_at l f s at 0
 
 -- a row of n columns
-row-then : (n : ℕ) (g : Columns) (o : Out (Unit {0})) (s : List ℕ) → out_and_then (map_out (λ u. g) o) (λ g m. run (ret (row n g)) s m) ≡ map_out (λ u. row n g) o
+row_then : (n : ℕ) (g : Columns) (o : Out (Unit {0})) (s : List ℕ) → out_and_then (map_out (λ u. g) o) (λ g m. run (ret (row n g)) s m) ≡ map_out (λ u. row n g) o
 unfolding run
-row-then n g (done u m) s = refl
-row-then n g (short x) s = refl
+row_then n g (done u m) s = refl
+row_then n g (short x) s = refl
 
-pub flat-so : (n : ℕ) (l : Layout) (s : List ℕ) (at : ℕ) → run (flat n l) s at ≡ map_out (λ u. row n (taken l blank s at)) (ends (spans l blank s at) s at)
-flat-so n l s at =
+pub flat_so : (n : ℕ) (l : Layout) (s : List ℕ) (at : ℕ) → run (flat n l) s at ≡ map_out (λ u. row n (taken l blank s at)) (ends (spans l blank s at) s at)
+flat_so n l s at =
     run_bind (reads l blank) (λ g. ret (row n g)) s at
-    ∙ ap (λ (o : Out Columns). out_and_then o (λ g m. run (ret (row n g)) s m)) (read-so l blank s at)
-    ∙ row-then n (taken l blank s at) (ends (spans l blank s at) s at) s
+    ∙ ap (λ (o : Out Columns). out_and_then o (λ g m. run (ret (row n g)) s m)) (read_so l blank s at)
+    ∙ row_then n (taken l blank s at) (ends (spans l blank s at) s at) s
 
-pub end-of : {A : Type 0} (a : A) (o : Out (Unit {0})) → end_of (map_out (λ u. a) o) ≡ o
-end-of a (done u m) = refl
-end-of a (short x) = refl
+pub end_of_lem : {A : Type 0} (a : A) (o : Out (Unit {0})) → end_of (map_out (λ u. a) o) ≡ o
+end_of_lem a (done u m) = refl
+end_of_lem a (short x) = refl
 
 -- where a row ends is where its reads end
-pub flat-ends : (n : ℕ) (l : Layout) (s : List ℕ) (at : ℕ) → end_of (run (flat n l) s at) ≡ ends (spans l blank s at) s at
-flat-ends n l s at = ap end_of (flat-so n l s at) ∙ end-of (row n (taken l blank s at)) (ends (spans l blank s at) s at)
+pub flat_ends : (n : ℕ) (l : Layout) (s : List ℕ) (at : ℕ) → end_of (run (flat n l) s at) ≡ ends (spans l blank s at) s at
+flat_ends n l s at = ap end_of (flat_so n l s at) ∙ end_of_lem (row n (taken l blank s at)) (ends (spans l blank s at) s at)
 
 -- a row that was measured: its columns, where it ends, and that its bytes are there
 pub record Whole (n : ℕ) (l : Layout) (s : List ℕ) (at : ℕ) : Type 0 where
   pub is : run (flat n l) s at ≡ done (row n (taken l blank s at)) (at + total (spans l blank s at))
   pub there : at + total (spans l blank s at) ≤ length s
 
-pub flat-done : (n : ℕ) (l : Layout) (s : List ℕ) (at : ℕ) → at ≤ length s → is_done (run (flat n l) s at) ≡ true → Whole n l s at
-flat-done n l s at h q =
-    let (e, w) = ends-done (spans l blank s at) s at h (sym (ap is_done (flat-so n l s at) ∙ map-done _ (ends (spans l blank s at) s at)) ∙ q) in
-    record { is = flat-so n l s at ∙ ap (map_out (λ u. row n (taken l blank s at))) e; there = w }
+pub flat_done : (n : ℕ) (l : Layout) (s : List ℕ) (at : ℕ) → at ≤ length s → is_done (run (flat n l) s at) ≡ true → Whole n l s at
+flat_done n l s at h q =
+    let (e, w) = ends_done (spans l blank s at) s at h (sym (ap is_done (flat_so n l s at) ∙ map_done _ (ends (spans l blank s at) s at)) ∙ q) in
+    record { is = flat_so n l s at ∙ ap (map_out (λ u. row n (taken l blank s at))) e; there = w }
 
 -- ---- columns that a layout does not have
 
-puts-off : (css : List (List Cell)) (s : List ℕ) (at i : ℕ) (f : Columns) → Off (columns (flatten css)) (puts_at css s at i f) f
+puts_off : (css : List (List Cell)) (s : List ℕ) (at i : ℕ) (f : Columns) → Off (columns (flatten css)) (puts_at css s at i f) f
 unfolding puts_at flatten
-puts-off [] s at i f j e = refl
-puts-off (cs ∷ css) s at i f j e = let (a, b) = none-columns j cs (flatten css) e in put-else cs _ (puts_at css s at (i + 1) f) j a ∙ puts-off css s at (i + 1) f j b
+puts_off [] s at i f j e = refl
+puts_off (cs ∷ css) s at i f j e = let (a, b) = none_columns j cs (flatten css) e in put_else cs _ (puts_at css s at (i + 1) f) j a ∙ puts_off css s at (i + 1) f j b
 
-pub taken-off : (l : Layout) (f : Columns) (s : List ℕ) (at i : ℕ) → Off (all l) (took l f s at i).0 f
+pub taken_off : (l : Layout) (f : Columns) (s : List ℕ) (at i : ℕ) → Off (all l) (took l f s at i).0 f
 unfolding took all has
-taken-off end f s at i j e = refl
-taken-off (line css l) f s at i j e =
-    let (a, b) = or-none (has j (columns (flatten css))) (has j (all l)) (sym (has-append j (columns (flatten css)) (all l)) ∙ e) in
-    taken-off l (puts_at css s at i f) s at (i + length css) j b ∙ puts-off css s at i f j a
-taken-off (word k l) f s at i j e = let (a, b) = or-none (eqb j k) (has j (all l)) e in taken-off l _ s at (i + 2) j b ∙ set_else k _ f j a
-taken-off (choose k is p q l) f s at i j e =
-    let (a, b) = or-none (has j (all p ++ all q)) (has j (all l)) (sym (has-append j (all p ++ all q) (all l)) ∙ e) in
-    let (c, d) = or-none (has j (all p)) (has j (all q)) (sym (has-append j (all p) (all q)) ∙ a) in
-    taken-off l (pick (is (f k)) (took p f s (on at i) 0) (took q f s (on at i) 0)).0 s _ 0 j b ∙ go (is (f k)) (taken-off p f s (on at i) 0 j c) (taken-off q f s (on at i) 0 j d)
+taken_off end f s at i j e = refl
+taken_off (line css l) f s at i j e =
+    let (a, b) = or_none (has j (columns (flatten css))) (has j (all l)) (sym (has_append j (columns (flatten css)) (all l)) ∙ e) in
+    taken_off l (puts_at css s at i f) s at (i + length css) j b ∙ puts_off css s at i f j a
+taken_off (word k l) f s at i j e = let (a, b) = or_none (eqb j k) (has j (all l)) e in taken_off l _ s at (i + 2) j b ∙ set_else k _ f j a
+taken_off (choose k is p q l) f s at i j e =
+    let (a, b) = or_none (has j (all p ++ all q)) (has j (all l)) (sym (has_append j (all p ++ all q) (all l)) ∙ e) in
+    let (c, d) = or_none (has j (all p)) (has j (all q)) (sym (has_append j (all p) (all q)) ∙ a) in
+    taken_off l (pick (is (f k)) (took p f s (on at i) 0) (took q f s (on at i) 0)).0 s _ 0 j b ∙ go (is (f k)) (taken_off p f s (on at i) 0 j c) (taken_off q f s (on at i) 0 j d)
   where
     go : (b : Bool) → (took p f s (on at i) 0).0 j ≡ f j → (took q f s (on at i) 0).0 j ≡ f j → (pick b (took p f s (on at i) 0) (took q f s (on at i) 0)).0 j ≡ f j
     go true x y = x
     go false x y = y
-taken-off (follows c n t x l) f s at i j e = let (a, b) = or-none (eqb j (column c)) (has j (all l)) e in taken-off l _ s at i j b ∙ set_else (column c) _ f j a
-taken-off (judged p l) f s at i j e =
-    let (a, b) = or-none (has j (all p)) (has j (all l)) (sym (has-append j (all p) (all l)) ∙ e) in
-    taken-off l (took p f s (on at i) 0).0 s _ 0 j b ∙ taken-off p f s (on at i) 0 j a
+taken_off (follows c n t x l) f s at i j e = let (a, b) = or_none (eqb j (column c)) (has j (all l)) e in taken_off l _ s at i j b ∙ set_else (column c) _ f j a
+taken_off (judged p l) f s at i j e =
+    let (a, b) = or_none (has j (all p)) (has j (all l)) (sym (has_append j (all p) (all l)) ∙ e) in
+    taken_off l (took p f s (on at i) 0).0 s _ 0 j b ∙ taken_off p f s (on at i) 0 j a
 
 -- n columns from k on
-pub each-off : (l : Layout) (f : Columns) (s : List ℕ) (at i : ℕ) (k n : ℕ) → free (each (λ j. j) k n) (all l) ≡ true → each (took l f s at i).0 k n ≡ each f k n
+pub each_off : (l : Layout) (f : Columns) (s : List ℕ) (at i : ℕ) (k n : ℕ) → free (each (λ j. j) k n) (all l) ≡ true → each (took l f s at i).0 k n ≡ each f k n
 unfolding each free
-each-off l f s at i k zero e = refl
-each-off l f s at i k (suc n) e =
+each_off l f s at i k zero e = refl
+each_off l f s at i k (suc n) e =
     let (a, b) = and_both (not (has k (all l))) _ e in
-    λ x. taken-off l f s at i k (not-true _ a) x ∷ each-off l f s at i (k + 1) n b x
+    λ x. taken_off l f s at i k (not-true _ a) x ∷ each_off l f s at i (k + 1) n b x
 
 -- ---- the sizes, where no read changes what steers them
 
@@ -351,36 +351,36 @@ steered ks (choose k is p q l) = has k ks && (steered ks p && (steered ks q && s
 steered ks (follows c j t x l) = steered ks l
 steered ks (judged p l) = steered ks p && steered ks l
 
-on-off : (ks a : List ℕ) {f g h : Columns} → Apart ks a → On ks f g → Off a h g → On ks f h
-on-off ks a x o e j q = o j q ∙ sym (e j (x j q))
+on_off : (ks a : List ℕ) {f g h : Columns} → Apart ks a → On ks f g → Off a h g → On ks f h
+on_off ks a x o e j q = o j q ∙ sym (e j (x j q))
 
 -- one column set
-set-off : (k v : ℕ) (f : Columns) → Off (k ∷ []) (set k v f) f
+set_off : (k v : ℕ) (f : Columns) → Off (k ∷ []) (set k v f) f
 unfolding has
-set-off k v f j e = set_else k v f j (or-none (eqb j k) false e).0
+set_off k v f j e = set_else k v f j (or_none (eqb j k) false e).0
 
-spans-long : (ks : List ℕ) (l : Layout) → steered ks l ≡ true → Apart ks (all l) → (f g : Columns) → On ks f g → (s : List ℕ) (at i : ℕ) → (took l g s at i).1 ≡ sizes l f
+spans_long : (ks : List ℕ) (l : Layout) → steered ks l ≡ true → Apart ks (all l) → (f g : Columns) → On ks f g → (s : List ℕ) (at i : ℕ) → (took l g s at i).1 ≡ sizes l f
 unfolding steered took sizes all
-spans-long ks end e x f g o s at i = refl
-spans-long ks (line css l) e x f g o s at i =
+spans_long ks end e x f g o s at i = refl
+spans_long ks (line css l) e x f g o s at i =
     ap (λ (l : List ℕ). length css ∷ l)
-    (spans-long ks l e (apart-right ks (columns (flatten css)) (all l) x) f (puts_at css s at i g) (on-off ks _ (apart-left ks (columns (flatten css)) (all l) x) o (puts-off css s at i g)) s at (i + length css))
-spans-long ks (word k l) e x f g o s at i =
+    (spans_long ks l e (apart_right ks (columns (flatten css)) (all l) x) f (puts_at css s at i g) (on_off ks _ (apart_left ks (columns (flatten css)) (all l) x) o (puts_off css s at i g)) s at (i + length css))
+spans_long ks (word k l) e x f g o s at i =
     ap (λ (l : List ℕ). 1 ∷ 1 ∷ l)
-    (spans-long ks l e (apart-right ks (k ∷ []) (all l) x) f _ (on-off ks (k ∷ []) (apart-left ks (k ∷ []) (all l) x) o (set-off k _ g)) s at (i + 2))
-spans-long ks (choose k is p q l) e x f g o s at i =
+    (spans_long ks l e (apart_right ks (k ∷ []) (all l) x) f _ (on_off ks (k ∷ []) (apart_left ks (k ∷ []) (all l) x) o (set_off k _ g)) s at (i + 2))
+spans_long ks (choose k is p q l) e x f g o s at i =
     let (a, b) = and_both (has k ks) _ e in
     let (b₀, b₁) = and_both (steered ks p) _ b in
     let (b₂, b₃) = and_both (steered ks q) _ b₁ in
-    let xpq = apart-left ks (all p ++ all q) (all l) x in
-    let xp = apart-left ks (all p) (all q) xpq in
-    let xq = apart-right ks (all p) (all q) xpq in
-    let xl = apart-right ks (all p ++ all q) (all l) x in
+    let xpq = apart_left ks (all p ++ all q) (all l) x in
+    let xp = apart_left ks (all p) (all q) xpq in
+    let xq = apart_right ks (all p) (all q) xpq in
+    let xl = apart_right ks (all p ++ all q) (all l) x in
     let t = pick (is (g k)) (took p g s (on at i) 0) (took q g s (on at i) 0) in
-    let u = spans-long ks p b₀ xp f g o s (on at i) 0 in
-    let v = spans-long ks q b₂ xq f g o s (on at i) 0 in
+    let u = spans_long ks p b₀ xp f g o s (on at i) 0 in
+    let v = spans_long ks q b₂ xq f g o s (on at i) 0 in
     let on' : On ks f t.0 = held (is (g k)) xp xq in
-    λ z. first (is (g k)) (is (f k)) (ap is (sym (o k a))) u v z ++ spans-long ks l b₃ xl f t.0 on' s (on at i + total t.1) 0 z
+    λ z. first (is (g k)) (is (f k)) (ap is (sym (o k a))) u v z ++ spans_long ks l b₃ xl f t.0 on' s (on at i + total t.1) 0 z
   where
     first : (b c : Bool) → b ≡ c → (took p g s (on at i) 0).1 ≡ sizes p f → (took q g s (on at i) 0).1 ≡ sizes q f
         → (pick b (took p g s (on at i) 0) (took q g s (on at i) 0)).1 ≡ pick c (sizes p f) (sizes q f)
@@ -388,20 +388,20 @@ spans-long ks (choose k is p q l) e x f g o s at i =
     first false c e u v = rw (← e) v
 
     held : (b : Bool) → Apart ks (all p) → Apart ks (all q) → On ks f (pick b (took p g s (on at i) 0) (took q g s (on at i) 0)).0
-    held true xp xq = on-off ks (all p) xp o (taken-off p g s (on at i) 0)
-    held false xp xq = on-off ks (all q) xq o (taken-off q g s (on at i) 0)
-spans-long ks (follows c j t y l) e x f g o s at i =
-    spans-long ks l e (apart-right ks (column c ∷ []) (all l) x) f _ (on-off ks (column c ∷ []) (apart-left ks (column c ∷ []) (all l) x) o (set-off (column c) _ g)) s at i
-spans-long ks (judged p l) e x f g o s at i =
+    held true xp xq = on_off ks (all p) xp o (taken_off p g s (on at i) 0)
+    held false xp xq = on_off ks (all q) xq o (taken_off q g s (on at i) 0)
+spans_long ks (follows c j t y l) e x f g o s at i =
+    spans_long ks l e (apart_right ks (column c ∷ []) (all l) x) f _ (on_off ks (column c ∷ []) (apart_left ks (column c ∷ []) (all l) x) o (set_off (column c) _ g)) s at i
+spans_long ks (judged p l) e x f g o s at i =
     let (a, b) = and_both (steered ks p) _ e in
-    let xp = apart-left ks (all p) (all l) x in
-    let xl = apart-right ks (all p) (all l) x in
+    let xp = apart_left ks (all p) (all l) x in
+    let xl = apart_right ks (all p) (all l) x in
     let t = took p g s (on at i) 0 in
-    let on' : On ks f t.0 = on-off ks (all p) xp o (taken-off p g s (on at i) 0) in
-    λ z. spans-long ks p a xp f g o s (on at i) 0 z ++ spans-long ks l b xl f t.0 on' s (on at i + total t.1) 0 z
+    let on' : On ks f t.0 = on_off ks (all p) xp o (taken_off p g s (on at i) 0) in
+    λ z. spans_long ks p a xp f g o s (on at i) 0 z ++ spans_long ks l b xl f t.0 on' s (on at i + total t.1) 0 z
 
-pub sizes-so : (ks : List ℕ) (l : Layout) → steered ks l ≡ true → free ks (all l) ≡ true → (f : Columns) (s : List ℕ) (at i : ℕ) → (took l f s at i).1 ≡ sizes l f
-sizes-so ks l e x f s at i = spans-long ks l e (free-apart ks (all l) x) f f (λ j q. refl) s at i
+pub sizes_so : (ks : List ℕ) (l : Layout) → steered ks l ≡ true → free ks (all l) ≡ true → (f : Columns) (s : List ℕ) (at i : ℕ) → (took l f s at i).1 ≡ sizes l f
+sizes_so ks l e x f s at i = spans_long ks l e (free_apart ks (all l) x) f f (λ j q. refl) s at i
 
 -- ---- an optional part, taken
 
@@ -413,24 +413,24 @@ pub flag_is : (k n : ℕ) (f : Columns) {v : ℕ} {zeros : List ℕ} → each f 
 unfolding each
 flag_is k n f e = heads e
 
-pub part-there : (k n : ℕ) (p : Layout) (f : Columns) (s : List ℕ) (at : ℕ) {v : ℕ} {zeros : List ℕ} → v ≡ 1 → each f k (suc n) ≡ v ∷ zeros
+pub part_there : (k n : ℕ) (p : Layout) (f : Columns) (s : List ℕ) (at : ℕ) {v : ℕ} {zeros : List ℕ} → v ≡ 1 → each f k (suc n) ≡ v ∷ zeros
     → each (taken p f s at) k (suc n) ≡ each (taken (optional k p end) f s at) k (suc n)
 unfolding took
-part-there k n p f s at t e = ap (λ (x : Bool). each (pick x (took p f s at 0) (f, [])).0 k (suc n)) (sym (eq-eqb (f k) 1 (flag_is k n f e ∙ t)))
+part_there k n p f s at t e = ap (λ (x : Bool). each (pick x (took p f s at 0) (f, [])).0 k (suc n)) (sym (eq-eqb (f k) 1 (flag_is k n f e ∙ t)))
 
-pub part-absent : (k n : ℕ) (p : Layout) (f : Columns) (s : List ℕ) (at : ℕ) {v : ℕ} {zeros : List ℕ} → (v ≡ 1 → ⊥) → each f k (suc n) ≡ v ∷ zeros
+pub part_absent : (k n : ℕ) (p : Layout) (f : Columns) (s : List ℕ) (at : ℕ) {v : ℕ} {zeros : List ℕ} → (v ≡ 1 → ⊥) → each f k (suc n) ≡ v ∷ zeros
     → v ∷ zeros ≡ each (taken (optional k p end) f s at) k (suc n)
 unfolding took
-part-absent k n p f s at t e = sym e ∙ ap (λ (x : Bool). each (pick x (took p f s at 0) (f, [])).0 k (suc n)) (sym (ne_eqb (f k) 1 (λ z. t (sym (flag_is k n f e) ∙ z))))
+part_absent k n p f s at t e = sym e ∙ ap (λ (x : Bool). each (pick x (took p f s at 0) (f, [])).0 k (suc n)) (sym (ne_eqb (f k) 1 (λ z. t (sym (flag_is k n f e) ∙ z))))
 
 -- a part that is there: its flag is 1, and its row is what its layout takes
-pub taken-there : (k n : ℕ) (p : Layout) (s : List ℕ) (at : ℕ) {v : ℕ} {q r : List ℕ} → v ≡ 1 → r ≡ q → ((f : Columns) → f k ≡ 1 → q ≡ each (taken p f s at) k (suc n))
+pub taken_there : (k n : ℕ) (p : Layout) (s : List ℕ) (at : ℕ) {v : ℕ} {q r : List ℕ} → v ≡ 1 → r ≡ q → ((f : Columns) → f k ≡ 1 → q ≡ each (taken p f s at) k (suc n))
     → PartTaken k (suc n) p v (blanks n) s at r
-taken-there k n p s at t e h = record { of = λ f z. e ∙ h f (flag_is k n f z ∙ t) ∙ part-there k n p f s at t z }
+taken_there k n p s at t e h = record { of = λ f z. e ∙ h f (flag_is k n f z ∙ t) ∙ part_there k n p f s at t z }
 
 -- a part that is not there: its flag is 0, and its columns stay 0
 pub taken_none : (k n : ℕ) (p : Layout) (s : List ℕ) (at : ℕ) {v : ℕ} → v ≤ 1 → (v ≡ 1 → ⊥) → PartTaken k (suc n) p v (blanks n) s at (0 ∷ blanks n)
-taken_none k n p s at {v} h t = let z : 0 ≡ v = go v h t in record { of = λ f e. ap (λ (v : ℕ). v ∷ blanks n) z ∙ part-absent k n p f s at t e }
+taken_none k n p s at {v} h t = let z : 0 ≡ v = go v h t in record { of = λ f e. ap (λ (v : ℕ). v ∷ blanks n) z ∙ part_absent k n p f s at t e }
   where
     go : (v : ℕ) → v ≤ 1 → (v ≡ 1 → ⊥) → 0 ≡ v
     go zero h t = refl
@@ -438,10 +438,10 @@ taken_none k n p s at {v} h t = let z : 0 ≡ v = go v h t in record { of = λ f
     go (suc (suc v)) h t = absurd (omega arith)
 
 -- the bytes of a part that is there
-pub size-there : (n v at l : ℕ) → v ≡ 1 → at + pick (eqb v 1) n 0 ≤ l → at + n ≤ l
-size-there n v at l t h = subst (λ (x : Bool). at + pick x n 0 ≤ l) (eq-eqb v 1 t) h
+pub size_there : (n v at l : ℕ) → v ≡ 1 → at + pick (eqb v 1) n 0 ≤ l → at + n ≤ l
+size_there n v at l t h = subst (λ (x : Bool). at + pick x n 0 ≤ l) (eq-eqb v 1 t) h
 
-pub total-append : (a b : List ℕ) → total (a ++ b) ≡ total a + total b
+pub total_append : (a b : List ℕ) → total (a ++ b) ≡ total a + total b
 unfolding total
-total-append [] b = omega arith
-total-append (x ∷ a) b = omega (arith, total-append a b)
+total_append [] b = omega arith
+total_append (x ∷ a) b = omega (arith, total_append a b)

@@ -14,18 +14,18 @@ use Rattle.wire.specs.Lists.{sum}
 use Rattle.wire.specs.Prog.{Prog, ret, Out, done, short, run, ◌>>=◌, many}
 use Rattle.wire.specs.Reads.{short_of, map_out, is_done, pos_of, rows_of, sum_out, Summed}
 use Rattle.wire.proofs.Reading.Runs.{out_and_then, run_bind}
-use Rattle.wire.proofs.Reading.Walk.{map-done, From, step, halt, ends, undo, onward, cut_off, as-done, as_short}
-use Rattle.wire.proofs.Reading.Steps.{sets-append}
+use Rattle.wire.proofs.Reading.Walk.{map_done, From, step, halt, ends, undo, onward, cut_off, as_done, as_short}
+use Rattle.wire.proofs.Reading.Steps.{sets_append}
 
 -- a row before those of a run
 abbrev pub cons_to : {A : Type 0} → A → Out (List A) → Out (List A)
 cons_to a (done l n) = done (a ∷ l) n
 cons_to a (short n) = short n
 
-then-cons : {A : Type 0} (a : A) (o : Out (List A)) (s : List ℕ) → out_and_then o (λ l k. run (ret (a ∷ l)) s k) ≡ cons_to a o
+then_cons : {A : Type 0} (a : A) (o : Out (List A)) (s : List ℕ) → out_and_then o (λ l k. run (ret (a ∷ l)) s k) ≡ cons_to a o
 unfolding run
-then-cons a (done l n) s = refl
-then-cons a (short n) s = refl
+then_cons a (done l n) s = refl
+then_cons a (short n) s = refl
 
 module _ {A : Type 0} (p : Prog A) (s : List ℕ) where
   pub turn : (left pos : ℕ) {m : ℕ} {a : A} {o : Out A} → 0 < left → o ≡ run p s pos → o ≡ done a m → run (many left p) s pos ≡ cons_to a (run (many (left - 1) p) s m)
@@ -33,7 +33,7 @@ module _ {A : Type 0} (p : Prog A) (s : List ℕ) where
   turn zero pos h e d = absurd (omega arith)
   turn (suc k) pos {m} {a} h e d =
       let z : k ≡ suc k - 1 = omega arith in
-      step p _ s pos e d ∙ run_bind (many k p) _ s m ∙ then-cons a (run (many k p) s m) s ∙ ap (λ (n : ℕ). cons_to a (run (many n p) s m)) z
+      step p _ s pos e d ∙ run_bind (many k p) _ s m ∙ then_cons a (run (many k p) s m) s ∙ ap (λ (n : ℕ). cons_to a (run (many n p) s m)) z
 
   pub cut : (left pos : ℕ) {x y : Short} {o : Out A} → 0 < left → o ≡ run p s pos → o ≡ short x → y ≡ short_of o → run (many left p) s pos ≡ short y
   unfolding many
@@ -46,37 +46,37 @@ module _ {A : Type 0} (p : Prog A) (s : List ℕ) where
   none_left zero pos h = refl
   none_left (suc k) pos h = absurd (omega arith)
 
-done-cons : {A : Type 0} (a : A) (o : Out (List A)) → is_done (cons_to a o) ≡ is_done o
-done-cons a (done l n) = refl
-done-cons a (short n) = refl
+done_cons : {A : Type 0} (a : A) (o : Out (List A)) → is_done (cons_to a o) ≡ is_done o
+done_cons a (done l n) = refl
+done_cons a (short n) = refl
 
-pos-cons : {A : Type 0} (a : A) (o : Out (List A)) → pos_of (cons_to a o) ≡ pos_of o
-pos-cons a (done l n) = refl
-pos-cons a (short n) = refl
+pos_cons : {A : Type 0} (a : A) (o : Out (List A)) → pos_of (cons_to a o) ≡ pos_of o
+pos_cons a (done l n) = refl
+pos_cons a (short n) = refl
 
-rows-cons : {A : Type 0} (a : A) (o : Out (List A)) → is_done o ≡ true → rows_of (cons_to a o) ≡ a ∷ rows_of o
-rows-cons a (done l n) h = refl
-rows-cons a (short n) h = let z : ◌≡◌ {A = ℕ} 0 1 = cc in absurd (omega arith)
+rows_cons : {A : Type 0} (a : A) (o : Out (List A)) → is_done o ≡ true → rows_of (cons_to a o) ≡ a ∷ rows_of o
+rows_cons a (done l n) h = refl
+rows_cons a (short n) h = let z : ◌≡◌ {A = ℕ} 0 1 = cc in absurd (omega arith)
 
 module _ {A : Type 0} (p : Prog A) (s : List ℕ) (left pos : ℕ) {m : ℕ} {a : A} {o : Out A} (h : 0 < left) (e : o ≡ run p s pos) (d : o ≡ done a m) where
-  pub done-turn : is_done (run (many (left - 1) p) s m) ≡ is_done (run (many left p) s pos)
-  done-turn = sym (ap is_done (turn p s left pos h e d) ∙ done-cons a (run (many (left - 1) p) s m))
+  pub done_turn : is_done (run (many (left - 1) p) s m) ≡ is_done (run (many left p) s pos)
+  done_turn = sym (ap is_done (turn p s left pos h e d) ∙ done_cons a (run (many (left - 1) p) s m))
 
-  pub pos-turn : pos_of (run (many (left - 1) p) s m) ≡ pos_of (run (many left p) s pos)
-  pos-turn = sym (ap pos_of (turn p s left pos h e d) ∙ pos-cons a (run (many (left - 1) p) s m))
+  pub pos_turn : pos_of (run (many (left - 1) p) s m) ≡ pos_of (run (many left p) s pos)
+  pos_turn = sym (ap pos_of (turn p s left pos h e d) ∙ pos_cons a (run (many (left - 1) p) s m))
 
   -- the rows from here are this one and those from the next
-  pub rows-turn : is_done (run (many left p) s pos) ≡ true → rows_of (run (many left p) s pos) ≡ a ∷ rows_of (run (many (left - 1) p) s m)
-  rows-turn q = ap rows_of (turn p s left pos h e d) ∙ rows-cons a (run (many (left - 1) p) s m) (done-turn ∙ q)
+  pub rows_turn : is_done (run (many left p) s pos) ≡ true → rows_of (run (many left p) s pos) ≡ a ∷ rows_of (run (many (left - 1) p) s m)
+  rows_turn q = ap rows_of (turn p s left pos h e d) ∙ rows_cons a (run (many (left - 1) p) s m) (done_turn ∙ q)
 
   -- what is stored from here is this row, and what is stored from the next
-  pub fill-turn : (f : A → List ℕ) (t : List ℕ) (base : ℕ) → is_done (run (many left p) s pos) ≡ true
+  pub fill_turn : (f : A → List ℕ) (t : List ℕ) (base : ℕ) → is_done (run (many left p) s pos) ≡ true
       → sets (sets t base (f a)) (base + length (f a)) (flat_map f (rows_of (run (many (left - 1) p) s m))) ≡ sets t base (flat_map f (rows_of (run (many left p) s pos)))
   unfolding flat_map
-  fill-turn f t base q =
+  fill_turn f t base q =
       sym
-      (ap (λ (l : List A). sets t base (flat_map f l)) (rows-turn q)
-      ∙ sets-append t base (f a) (flat_map f (rows_of (run (many (left - 1) p) s m))))
+      (ap (λ (l : List A). sets t base (flat_map f l)) (rows_turn q)
+      ∙ sets_append t base (f a) (flat_map f (rows_of (run (many (left - 1) p) s m))))
 
 pub no_cut : {A X : Type 0} (p : Prog A) (s : List ℕ) (left pos : ℕ) {x : Short} {o : Out A} → 0 < left → o ≡ run p s pos → o ≡ short x
     → is_done (run (many left p) s pos) ≡ true → X
@@ -102,10 +102,10 @@ pub record Next {A : Type 0} (p : Prog A) (s : List ℕ) (left pos : ℕ) (l : L
   pub reads : run p s pos ≡ done row middle
   pub goes_on : run (many (left - 1) p) s middle ≡ done rest end
 
-pub many-next : {A : Type 0} (p : Prog A) (s : List ℕ) (left pos : ℕ) {l : List A} {end : ℕ} → 0 < left → run (many left p) s pos ≡ done l end → Next p s left pos l end
+pub many_next : {A : Type 0} (p : Prog A) (s : List ℕ) (left pos : ℕ) {l : List A} {end : ℕ} → 0 < left → run (many left p) s pos ≡ done l end → Next p s left pos l end
 unfolding many run
-many-next p s zero pos h e = absurd (omega arith)
-many-next {A} p s (suc k) pos {l} {end} h e =
+many_next p s zero pos h e = absurd (omega arith)
+many_next {A} p s (suc k) pos {l} {end} h e =
     let w = undo p (λ a. many k p >>= λ r. ret (a ∷ r)) s pos e in
     let v = undo (many k p) (λ r. ret (w.0 ∷ r)) s w.1 w.3 in
     let z : w.0 ∷ v.0 ≡ l = cc v.3 in
@@ -113,34 +113,34 @@ many-next {A} p s (suc k) pos {l} {end} h e =
     let k' : k ≡ suc k - 1 = omega arith in
     record { row = w.0; rest = v.0; middle = w.1; is = sym z; reads = w.2; goes_on = ap (λ (j : ℕ). run (many j p) s w.1) (sym k') ∙ v.2 ∙ ap (done v.0) n }
 
-pub many-none : {A : Type 0} (p : Prog A) (s : List ℕ) (left pos : ℕ) {l : List A} {end : ℕ} → left ≤ 0 → run (many left p) s pos ≡ done l end → (l ≡ []) × (end ≡ pos)
-many-none p s left pos {l} {end} h e =
+pub many_none : {A : Type 0} (p : Prog A) (s : List ℕ) (left pos : ℕ) {l : List A} {end : ℕ} → left ≤ 0 → run (many left p) s pos ≡ done l end → (l ≡ []) × (end ≡ pos)
+many_none p s left pos {l} {end} h e =
     let z : done [] pos ≡ done l end = sym (none_left p s left pos h) ∙ e in
     let x : [] ≡ l = cc z in
     let y : pos ≡ end = cc z in
     (sym x, sym y)
 
 -- as many rows as were asked for
-pub many-long : {A : Type 0} (p : Prog A) (s : List ℕ) (k at : ℕ) (l : List A) (m : ℕ) → run (many k p) s at ≡ done l m → length l ≡ k
+pub many_long : {A : Type 0} (p : Prog A) (s : List ℕ) (k at : ℕ) (l : List A) (m : ℕ) → run (many k p) s at ≡ done l m → length l ≡ k
 unfolding many run
-many-long p s zero at l m e = let z : [] ≡ l = cc in sym (ap length z)
-many-long {A} p s (suc k) at l m e =
+many_long p s zero at l m e = let z : [] ≡ l = cc in sym (ap length z)
+many_long {A} p s (suc k) at l m e =
     let w = undo p (λ a. many k p >>= λ r. ret (a ∷ r)) s at e in
     let v = undo (many k p) (λ r. ret (w.0 ∷ r)) s w.1 w.3 in
     let z : w.0 ∷ v.0 ≡ l = cc in
-    sym (ap length z) ∙ ap suc (many-long p s k w.1 v.0 v.1 v.2)
+    sym (ap length z) ∙ ap suc (many_long p s k w.1 v.0 v.1 v.2)
 
 -- rows that take as many bytes as their number says
-pub many-weighs : {A : Type 0} (p : Prog A) (s : List ℕ) (size : A → ℕ) → ((at : ℕ) (x : A) (m : ℕ) → run p s at ≡ done x m → at + size x ≤ m)
+pub many_weighs : {A : Type 0} (p : Prog A) (s : List ℕ) (size : A → ℕ) → ((at : ℕ) (x : A) (m : ℕ) → run p s at ≡ done x m → at + size x ≤ m)
     → (k at : ℕ) (l : List A) (m : ℕ) → run (many k p) s at ≡ done l m → at + sum size l ≤ m
 unfolding sum
-many-weighs {A} p s size h zero at l m e =
-    let (q, n) = many-none p s 0 at (omega arith) e in
+many_weighs {A} p s size h zero at l m e =
+    let (q, n) = many_none p s 0 at (omega arith) e in
     omega (arith, ap (sum size) q, n)
-many-weighs {A} p s size h (suc k) at l m e =
-    let n = many-next p s (suc k) at (omega arith) e in
+many_weighs {A} p s size h (suc k) at l m e =
+    let n = many_next p s (suc k) at (omega arith) e in
     let j : suc k - 1 ≡ k = omega arith in
-    let r : n.middle + sum size n.rest ≤ m = many-weighs p s size h k n.middle n.rest m (ap (λ (i : ℕ). run (many i p) s n.middle) (sym j) ∙ n.goes_on) in
+    let r : n.middle + sum size n.rest ≤ m = many_weighs p s size h k n.middle n.rest m (ap (λ (i : ℕ). run (many i p) s n.middle) (sym j) ∙ n.goes_on) in
     let q : sum size l ≡ size n.row + sum size n.rest = ap (sum size) n.is in
     omega (arith, r, h at n.row n.middle n.reads, q)
 
@@ -149,23 +149,23 @@ pub record Carrying {A B C : Type 0} (p : Prog A) (g : B → List A → C) (s : 
   pub inside : pos ≤ length s
   pub same : map_out (g acc) (run (many left p) s pos) ≡ map_out (g start) (run (many count p) s at)
 
-map-cons : {A C : Type 0} (f g : List A → C) (a : A) (o : Out (List A)) → ((l : List A) → f l ≡ g (a ∷ l)) → map_out f o ≡ map_out g (cons_to a o)
-map-cons f g a (done l n) h = ap (λ c. done c n) (h l)
-map-cons f g a (short n) h = refl
+map_cons : {A C : Type 0} (f g : List A → C) (a : A) (o : Out (List A)) → ((l : List A) → f l ≡ g (a ∷ l)) → map_out f o ≡ map_out g (cons_to a o)
+map_cons f g a (done l n) h = ap (λ c. done c n) (h l)
+map_cons f g a (short n) h = refl
 
 module _ {A B C : Type 0} {p : Prog A} {g : B → List A → C} {s : List ℕ} {at count : ℕ} {start : B} {pos left : ℕ} {acc : B} (i : Carrying p g s at count start pos left acc) where
-  pub carry-turn : {m : ℕ} {a : A} {acc' : B} → 0 < left → run p s pos ≡ done a m → ((l : List A) → g acc' l ≡ g acc (a ∷ l)) → Carrying p g s at count start m (left - 1) acc'
-  carry-turn {m} {a} {acc'} h e q = record {
+  pub carry_turn : {m : ℕ} {a : A} {acc' : B} → 0 < left → run p s pos ≡ done a m → ((l : List A) → g acc' l ≡ g acc (a ∷ l)) → Carrying p g s at count start m (left - 1) acc'
+  carry_turn {m} {a} {acc'} h e q = record {
     inside = ends p s pos i.inside refl e;
-    same = map-cons (g acc') (g acc) a (run (many (left - 1) p) s m) q ∙ sym (ap (map_out (g acc)) (turn p s left pos h refl e)) ∙ i.same;
+    same = map_cons (g acc') (g acc) a (run (many (left - 1) p) s m) q ∙ sym (ap (map_out (g acc)) (turn p s left pos h refl e)) ∙ i.same;
   }
 
   -- a row is cut off: so is the list
-  pub carry-cut : {x : Short} → 0 < left → run p s pos ≡ short x → short x ≡ map_out (g start) (run (many count p) s at)
-  carry-cut h e = sym (ap (map_out (g acc)) (cut p s left pos h refl e (sym (ap short_of e)))) ∙ i.same
+  pub carry_cut : {x : Short} → 0 < left → run p s pos ≡ short x → short x ≡ map_out (g start) (run (many count p) s at)
+  carry_cut h e = sym (ap (map_out (g acc)) (cut p s left pos h refl e (sym (ap short_of e)))) ∙ i.same
 
-  pub carry-end : left ≤ 0 → done (g acc []) pos ≡ map_out (g start) (run (many count p) s at)
-  carry-end h = sym (ap (map_out (g acc)) (none_left p s left pos h)) ∙ i.same
+  pub carry_end : left ≤ 0 → done (g acc []) pos ≡ map_out (g start) (run (many count p) s at)
+  carry_end h = sym (ap (map_out (g acc)) (none_left p s left pos h)) ∙ i.same
 
 -- a loop that measures: it carries nothing but its position
 abbrev pub Measuring : {A : Type 0} → Prog A → List ℕ → ℕ → ℕ → ℕ → ℕ → Type 0
@@ -176,46 +176,46 @@ pub record Summing {A : Type 0} (p : Prog A) (f : A → ℕ) (most : ℕ) (s : L
   pub carries : Carrying p (λ n l. n + sum f l) s at count 0 pos left acc
   pub small : acc + most * left ≤ most * count
 
-zero-first : {A : Type 0} (f : A → ℕ) (o : Out (List A)) → map_out (λ l. 0 + sum f l) o ≡ map_out (sum f) o
-zero-first f (done l n) = ap (λ (m : ℕ). done m n) (zero-add (sum f l))
-zero-first f (short x) = refl
+zero_first : {A : Type 0} (f : A → ℕ) (o : Out (List A)) → map_out (λ l. 0 + sum f l) o ≡ map_out (sum f) o
+zero_first f (done l n) = ap (λ (m : ℕ). done m n) (zero-add (sum f l))
+zero_first f (short x) = refl
 
 pub one_less : (most left : ℕ) → 0 < left → most * left ≡ most * (left - 1) + most
 one_less most left h = ap (λ (j : ℕ). most * j) (omega arith) ∙ mul-suc most (left - 1)
 
 module _ {A : Type 0} (p : Prog A) (f : A → ℕ) (most : ℕ) (s : List ℕ) (at count : ℕ) where
-  pub sum-start : at ≤ length s → Summing p f most s at count at count 0
-  sum-start h = record { carries = record { inside = h; same = refl }; small = omega arith }
+  pub sum_start : at ≤ length s → Summing p f most s at count at count 0
+  sum_start h = record { carries = record { inside = h; same = refl }; small = omega arith }
 
   module _ {pos left acc : ℕ} (i : Summing p f most s at count pos left acc) (h : 0 < left) {r : Sum} (w : Summed p f most s pos r) where
-    pub sum-turn : {n m : ℕ} → r ≡ S.Got n m → Summing p f most s at count m (left - 1) (acc + n)
+    pub sum_turn : {n m : ℕ} → r ≡ S.Got n m → Summing p f most s at count m (left - 1) (acc + n)
     unfolding sum
-    sum-turn {n} {m} e =
-        let (a, d, q) = as-done f (run p s pos) (sym w.is ∙ ap sum_out e) in
+    sum_turn {n} {m} e =
+        let (a, d, q) = as_done f (run p s pos) (sym w.is ∙ ap sum_out e) in
         let k : n ≤ most = rw e at w.small in
         record {
-          carries = carry-turn i.carries h d (λ l. ap (λ (x : ℕ). acc + x + sum f l) (sym q) ∙ add_assoc acc (f a) (sum f l));
+          carries = carry_turn i.carries h d (λ l. ap (λ (x : ℕ). acc + x + sum f l) (sym q) ∙ add_assoc acc (f a) (sum f l));
           small = omega (arith, i.small, one_less most left h, k);
         }
 
-    pub sum-cut : {x : Short} → r ≡ S.Short x → Summed (many count p) (sum f) (most * count) s at r
-    sum-cut {x} e =
-        rw e (record { is = carry-cut i.carries h (as_short f (run p s pos) (sym w.is ∙ ap sum_out e)) ∙ zero-first f (run (many count p) s at); small = omega arith })
+    pub sum_cut : {x : Short} → r ≡ S.Short x → Summed (many count p) (sum f) (most * count) s at r
+    sum_cut {x} e =
+        rw e (record { is = carry_cut i.carries h (as_short f (run p s pos) (sym w.is ∙ ap sum_out e)) ∙ zero_first f (run (many count p) s at); small = omega arith })
 
-  pub sum-end : {pos left acc : ℕ} → Summing p f most s at count pos left acc → left ≤ 0 → Summed (many count p) (sum f) (most * count) s at (S.Got acc pos)
+  pub sum_end : {pos left acc : ℕ} → Summing p f most s at count pos left acc → left ≤ 0 → Summed (many count p) (sum f) (most * count) s at (S.Got acc pos)
   unfolding sum
-  sum-end {pos} {acc = acc} i h = record {
-    is = ap (λ (n : ℕ). done n pos) (sym (add-zero acc)) ∙ carry-end i.carries h ∙ zero-first f (run (many count p) s at);
+  sum_end {pos} {acc = acc} i h = record {
+    is = ap (λ (n : ℕ). done n pos) (sym (add-zero acc)) ∙ carry_end i.carries h ∙ zero_first f (run (many count p) s at);
     small = omega (arith, i.small);
   }
 
 -- what a function has at a return that has summed a number up
-pub summed-done : {A : Type 0} {p : Prog A} {f : A → ℕ} {most : ℕ} {s : List ℕ} {at : ℕ} {a : A} {n m : ℕ} → done a m ≡ run p s at → n ≡ f a → n ≤ most
+pub summed_done : {A : Type 0} {p : Prog A} {f : A → ℕ} {most : ℕ} {s : List ℕ} {at : ℕ} {a : A} {n m : ℕ} → done a m ≡ run p s at → n ≡ f a → n ≤ most
     → Summed p f most s at (S.Got n m)
-summed-done {f = f} {m = m} e q h = record { is = ap (λ (n : ℕ). done n m) q ∙ ap (map_out f) e; small = h }
+summed_done {f = f} {m = m} e q h = record { is = ap (λ (n : ℕ). done n m) q ∙ ap (map_out f) e; small = h }
 
-pub summed-short : {A : Type 0} {p : Prog A} {f : A → ℕ} {most : ℕ} {s : List ℕ} {at : ℕ} {x : Short} → short x ≡ run p s at → Summed p f most s at (S.Short x)
-summed-short {f = f} e = record { is = ap (map_out f) e; small = omega arith }
+pub summed_short : {A : Type 0} {p : Prog A} {f : A → ℕ} {most : ℕ} {s : List ℕ} {at : ℕ} {x : Short} → short x ≡ run p s at → Summed p f most s at (S.Short x)
+summed_short {f = f} e = record { is = ap (map_out f) e; small = omega arith }
 
 -- a part whose number was summed up, in a program that goes on with it
 pub record WentOn {A B : Type 0} (p : Prog A) (g : A → ℕ) (f : A → Prog B) (whole : Prog B) (s : List ℕ) (start at v m : ℕ) : Type 0 where
@@ -225,22 +225,22 @@ pub record WentOn {A B : Type 0} (p : Prog A) (g : A → ℕ) (f : A → Prog B)
   pub place : From whole s start (f value) m
 
 module _ {A B : Type 0} (p : Prog A) (f : A → Prog B) {g : A → ℕ} {most : ℕ} {whole : Prog B} {s : List ℕ} {start at : ℕ} (w : From whole s start (p >>= f) at) {r : Sum} (x : Summed p g most s at r) where
-  pub sum-onward : {v m : ℕ} → r ≡ S.Got v m → WentOn p g f whole s start at v m
-  sum-onward e = let (a, d, q) = as-done g (run p s at) (sym x.is ∙ ap sum_out e) in record { value = a; reads = d; is = q; place = onward p f w refl d }
+  pub sum_onward : {v m : ℕ} → r ≡ S.Got v m → WentOn p g f whole s start at v m
+  sum_onward e = let (a, d, q) = as_done g (run p s at) (sym x.is ∙ ap sum_out e) in record { value = a; reads = d; is = q; place = onward p f w refl d }
 
-  pub sum-cut-off : {y : Short} → r ≡ S.Short y → short y ≡ run whole s start
-  sum-cut-off e = let d = as_short g (run p s at) (sym x.is ∙ ap sum_out e) in cut_off p f w refl d (sym (ap short_of d))
+  pub sum_cut_off : {y : Short} → r ≡ S.Short y → short y ≡ run whole s start
+  sum_cut_off e = let d = as_short g (run p s at) (sym x.is ∙ ap sum_out e) in cut_off p f w refl d (sym (ap short_of d))
 
-pub sum-small : {A : Type 0} {p : Prog A} {f : A → ℕ} {most : ℕ} {s : List ℕ} {at : ℕ} {r : Sum} {v m : ℕ} → Summed p f most s at r → r ≡ S.Got v m → v ≤ most
-sum-small w e = rw e at w.small
+pub sum_small : {A : Type 0} {p : Prog A} {f : A → ℕ} {most : ℕ} {s : List ℕ} {at : ℕ} {r : Sum} {v m : ℕ} → Summed p f most s at r → r ≡ S.Got v m → v ≤ most
+sum_small w e = rw e at w.small
 
 -- the same refusal, handed up
-pub summed-cut : {A : Type 0} {p : Prog A} {f : A → ℕ} {most : ℕ} {s : List ℕ} {at : ℕ} {r : Sum} {x : Short} → r ≡ S.Short x → short x ≡ run p s at → Summed p f most s at r
-summed-cut e d = rw e (summed-short d)
+pub summed_cut : {A : Type 0} {p : Prog A} {f : A → ℕ} {most : ℕ} {s : List ℕ} {at : ℕ} {r : Sum} {x : Short} → r ≡ S.Short x → short x ≡ run p s at → Summed p f most s at r
+summed_cut e d = rw e (summed_short d)
 
 -- the same number by another name
-pub summed-as : {A : Type 0} {p : Prog A} {f g : A → ℕ} {most : ℕ} {s : List ℕ} {at : ℕ} {r : Sum} → f ≡ g → Summed p f most s at r → Summed p g most s at r
-summed-as e w = rw (← e) w
+pub summed_as : {A : Type 0} {p : Prog A} {f g : A → ℕ} {most : ℕ} {s : List ℕ} {at : ℕ} {r : Sum} → f ≡ g → Summed p f most s at r → Summed p g most s at r
+summed_as e w = rw (← e) w
 
 -- A loop that stores a list of rows of w columns each.
 pub record Filling {A : Type 0} (p : Prog A) (f : A → List ℕ) (w : ℕ) (s : List ℕ) (at count : ℕ) (t₀ : List ℕ) (base : ℕ) (t : List ℕ) (pos left to : ℕ) : Type 0 where
@@ -252,21 +252,21 @@ pub record Filling {A : Type 0} (p : Prog A) (f : A → List ℕ) (w : ℕ) (s :
   pub stored : sets t to (flat_map f (rows_of (run (many left p) s pos))) ≡ sets t₀ base (flat_map f (rows_of (run (many count p) s at)))
 
 module _ {A : Type 0} (p : Prog A) (f : A → List ℕ) (w : ℕ) (s : List ℕ) (at count : ℕ) (t₀ : List ℕ) (base : ℕ) (t : List ℕ) (pos left to : ℕ) where
-  pub fill-next : {m : ℕ} {a : A} {o : Out A} {t' row : List ℕ} → Filling p f w s at count t₀ base t pos left to → 0 < left → o ≡ run p s pos → o ≡ done a m
+  pub fill_next : {m : ℕ} {a : A} {o : Out A} {t' row : List ℕ} → Filling p f w s at count t₀ base t pos left to → 0 < left → o ≡ run p s pos → o ≡ done a m
       → length (f a) ≡ w → row ≡ f a → t' ≡ sets t to row → Filling p f w s at count t₀ base t' m (left - 1) (to + w)
-  fill-next {m} {a} {t' = t'} i h e d n c r =
+  fill_next {m} {a} {t' = t'} i h e d n c r =
       let next : List ℕ = flat_map f (rows_of (run (many (left - 1) p) s m)) in
       let z : t' ≡ sets t to (f a) = r ∙ ap (λ (l : List ℕ). sets t to l) c in
       record {
         inside = ends p s pos i.inside e d;
         long = ap length z ∙ length-sets t to (f a) ∙ i.long;
         place = omega (arith, i.place, one_less w left h);
-        sound = done-turn p s left pos h e d ∙ i.sound;
-        end = pos-turn p s left pos h e d ∙ i.end;
+        sound = done_turn p s left pos h e d ∙ i.sound;
+        end = pos_turn p s left pos h e d ∙ i.end;
         stored =
             ap (λ (l : List ℕ). sets l (to + w) next) z
             ∙ ap (λ (j : ℕ). sets (sets t to (f a)) (to + j) next) (sym n)
-            ∙ fill-turn p s left pos h e d f t to i.sound
+            ∙ fill_turn p s left pos h e d f t to i.sound
             ∙ i.stored;
       }
 
@@ -278,15 +278,15 @@ module _ {A : Type 0} (p : Prog A) (f : A → List ℕ) (w : ℕ) (s : List ℕ)
       (sym (ap pos_of e) ∙ i.end, sym (ap (λ (o : Out (List A)). sets t to (flat_map f (rows_of o))) e) ∙ i.stored)
 
 -- a loop over rows that were measured, which sums a number of each up: the next row was
-pub sum-next : {A : Type 0} (p : Prog A) {f : A → ℕ} {most : ℕ} {s : List ℕ} {at count pos left acc : ℕ} → Summing p f most s at count pos left acc → 0 < left
+pub sum_next : {A : Type 0} (p : Prog A) {f : A → ℕ} {most : ℕ} {s : List ℕ} {at count pos left acc : ℕ} → Summing p f most s at count pos left acc → 0 < left
     → is_done (run (many count p) s at) ≡ true → is_done (run p s pos) ≡ true
-sum-next p {s = s} {at} {count} {pos} {left} i h q =
-    first_done p s left pos h (sym (map-done _ (run (many left p) s pos)) ∙ ap is_done i.carries.same ∙ map-done _ (run (many count p) s at) ∙ q)
+sum_next p {s = s} {at} {count} {pos} {left} i h q =
+    first_done p s left pos h (sym (map_done _ (run (many left p) s pos)) ∙ ap is_done i.carries.same ∙ map_done _ (run (many count p) s at) ∙ q)
 
 -- a loop that stores rows, of which code knows only the columns
-pub fill-as : {A : Type 0} {p : Prog A} {f : A → List ℕ} {w : ℕ} {s : List ℕ} {at count : ℕ} {t₀ : List ℕ} {base : ℕ} {t : List ℕ} {pos left to : ℕ}
+pub fill_as : {A : Type 0} {p : Prog A} {f : A → List ℕ} {w : ℕ} {s : List ℕ} {at count : ℕ} {t₀ : List ℕ} {base : ℕ} {t : List ℕ} {pos left to : ℕ}
     → Filling p f w s at count t₀ base t pos left to → 0 < left
     → {r cols t' : List ℕ} {next : ℕ} → done r next ≡ map_out f (run p s pos) → length r ≡ w → cols ≡ r → t' ≡ sets t to cols → Filling p f w s at count t₀ base t' next (left - 1) (to + w)
-fill-as {p = p} {f} {w} {s} {pos = pos} i h e n c z =
-    let (x, d, q) = as-done f (run p s pos) (sym e) in
-    fill-next p f w _ _ _ _ _ _ _ _ _ i h (sym d) refl (ap length q ∙ n) (c ∙ sym q) z
+fill_as {p = p} {f} {w} {s} {pos = pos} i h e n c z =
+    let (x, d, q) = as_done f (run p s pos) (sym e) in
+    fill_next p f w _ _ _ _ _ _ _ _ _ i h (sym d) refl (ap length q ∙ n) (c ∙ sym q) z

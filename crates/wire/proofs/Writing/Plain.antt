@@ -20,8 +20,8 @@ use Rattle.wire.specs.declared.pen.Pen.{Pen}
 use Rattle.wire.specs.declared.pen.Pen.TheVariants.{At, Stop}
 use Rattle.wire.specs.Spell.{PlainRows, PlainRun, fit_all, Spelt, ChecksAll, ReadyAll, FillsAll}
 use Rattle.wire.proofs.Fields.{fit_append}
-use Rattle.wire.proofs.Writing.Passes.{looks-append, then, more, rows-turn, rows_end, Checking, check-odd, check-end, quick-clean, quick-odd, Filling, fill_start, fill-demand, fill-row, fill-turn, fill_end}
-use Rattle.wire.proofs.Writing.Spelling.{spelt-long}
+use Rattle.wire.proofs.Writing.Passes.{looks_append, then, more, rows_turn, rows_end, Checking, check_odd, check_end, quick_clean, quick_odd, Filling, fill_start, fill_demand, fill_row_lem, fill_turn, fill_end}
+use Rattle.wire.proofs.Writing.Spelling.{spelt_long}
 
 -- before the row i, which makes no more than `most` bytes
 pub record Going (f : ℕ → List Act) (most count i bytes : ℕ) : Type 0 where
@@ -30,16 +30,16 @@ pub record Going (f : ℕ → List Act) (most count i bytes : ℕ) : Type 0 wher
   pub passes : (n : ℕ) → looks (rows f 0 count) (At n) ≡ looks (rows f i (count - i)) (At (n + bytes))
 
 -- a quick test counts no more bytes than there can be
-pub quick-few : {q : List Act} {most k : ℕ} → Quick q most k → k ≤ most
-quick-few {k = zero} w = omega arith
-quick-few {k = suc k} w = let v = w.to (omega arith) 0 in omega (arith, v.near)
+pub quick_few : {q : List Act} {most k : ℕ} → Quick q most k → k ≤ most
+quick_few {k = zero} w = omega arith
+quick_few {k = suc k} w = let v = w.to (omega arith) 0 in omega (arith, v.near)
 
 pub going_start : (f : ℕ → List Act) (most count : ℕ) → Going f most count 0 0
 going_start f most count = record { within = omega arith; few = omega arith; passes = λ n. rw (sub-zero, add-zero) }
 
 module _ {f : ℕ → List Act} {most count i bytes : ℕ} (v : Going f most count i bytes) {k : ℕ} (q : Quick (f i) most k) where
-  pub going-turn : i < count → 0 < k → Going f most count (i + 1) (bytes + k)
-  going-turn h p =
+  pub going_turn : i < count → 0 < k → Going f most count (i + 1) (bytes + k)
+  going_turn h p =
       let w : (n : ℕ) → Checked (f i) most (At n) (At (n + k)) = q.to p in
       let l : k ≤ most = omega (arith, (w 0).near) in
       record {
@@ -47,20 +47,20 @@ module _ {f : ℕ → List Act} {most count i bytes : ℕ} (v : Going f most cou
         few = omega (arith, v.few, mul-suc most i, ap (λ (k : ℕ). most * k) (add-one i));
         passes = λ n.
             let e : n + bytes + k ≡ n + (bytes + k) = omega arith in
-            v.passes n ∙ ap (λ (l : List Act). looks l (At (n + bytes))) (rows-turn f i count h) ∙ looks-append (f i) (rows f (i + 1) (count - (i + 1))) (At (n + bytes))
+            v.passes n ∙ ap (λ (l : List Act). looks l (At (n + bytes))) (rows_turn f i count h) ∙ looks_append (f i) (rows f (i + 1) (count - (i + 1))) (At (n + bytes))
             ∙ ap (looks (rows f (i + 1) (count - (i + 1)))) (sym (w (n + bytes)).pens) ∙ ap (λ (m : ℕ). looks (rows f (i + 1) (count - (i + 1))) (At m)) e;
       }
 
-  pub going-odd : k ≡ 0 → PlainRows f most count i bytes
-  going-odd z = record { within = v.within; few = v.few; passes = v.passes; odd = λ h. q.odd z }
+  pub going_odd : k ≡ 0 → PlainRows f most count i bytes
+  going_odd z = record { within = v.within; few = v.few; passes = v.passes; odd = λ h. q.odd z }
 
 pub going_end : {f : ℕ → List Act} {most count i bytes : ℕ} → Going f most count i bytes → count ≤ i → PlainRows f most count i bytes
 going_end v h = record { within = v.within; few = v.few; passes = v.passes; odd = λ l. absurd (omega arith) }
 
 -- the same of a loop that only counts bytes
 module _ {f : ℕ → List Act} {most count i bytes : ℕ} (v : Going f most count i bytes) where
-  pub run-odd : {k : ℕ} → Quick (f i) most k → i < count → k ≡ 0 → PlainRun f most count 0
-  run-odd q h z = record { all = λ l. absurd (omega arith); odd = λ e. (i, bytes, h, going-odd v q z) }
+  pub run_odd : {k : ℕ} → Quick (f i) most k → i < count → k ≡ 0 → PlainRun f most count 0
+  run_odd q h z = record { all = λ l. absurd (omega arith); odd = λ e. (i, bytes, h, going_odd v q z) }
 
   pub run_end : i ≤ bytes → count ≤ i → 0 < count → PlainRun f most count bytes
   run_end l h p =
@@ -72,26 +72,26 @@ module _ (f : ℕ → List Act) (most count n : ℕ) {i bytes : ℕ} (v : PlainR
   going : Checking (rows f 0 count) (rows f i (count - i)) (most * i) (At n) (At (n + bytes))
   going = record { whole = v.passes n; near = omega (arith, v.few) }
 
-  pub plain-odd : i < count → {r : Pen} → Checked (f i) most (At (n + bytes)) r → Checked (rows f 0 count) (most * count) (At n) r
-  plain-odd h w = let l : most * i + most ≤ most * count = omega (arith, mul-suc most i, mul-le-mul_left most h) in check-odd (f i) (rows f (i + 1) (count - (i + 1))) (most * count) going (rows-turn f i count h) (v.odd h) w l
+  pub plain_odd : i < count → {r : Pen} → Checked (f i) most (At (n + bytes)) r → Checked (rows f 0 count) (most * count) (At n) r
+  plain_odd h w = let l : most * i + most ≤ most * count = omega (arith, mul-suc most i, mul-le-mul_left most h) in check_odd (f i) (rows f (i + 1) (count - (i + 1))) (most * count) going (rows_turn f i count h) (v.odd h) w l
 
   pub plain_end : count ≤ i → Checked (rows f 0 count) (most * count) (At n) (At (n + bytes))
-  plain_end h = let z : i ≡ count = omega (arith, v.within) in check-end (most * count) going (rows_end f i count h) (rw z (omega arith))
+  plain_end h = let z : i ≡ count = omega (arith, v.within) in check_end (most * count) going (rows_end f i count h) (rw z (omega arith))
 
 -- rows from row a on are those of a table that begins there
-rows-shift : (f : ℕ → List Act) (a i k : ℕ) → rows f (a + i) k ≡ rows (λ j. f (a + j)) i k
+rows_shift : (f : ℕ → List Act) (a i k : ℕ) → rows f (a + i) k ≡ rows (λ j. f (a + j)) i k
 unfolding rows each flatten
-rows-shift f a i zero = refl
-rows-shift f a i (suc k) = let e : a + i + 1 ≡ a + (i + 1) = omega arith in λ z. f (a + i) ++ (ap (λ (m : ℕ). rows f m k) e ∙ rows-shift f a (i + 1) k) z
+rows_shift f a i zero = refl
+rows_shift f a i (suc k) = let e : a + i + 1 ≡ a + (i + 1) = omega arith in λ z. f (a + i) ++ (ap (λ (m : ℕ). rows f m k) e ∙ rows_shift f a (i + 1) k) z
 
-pub rows-from : (f : ℕ → List Act) (a k : ℕ) → rows f a k ≡ rows (λ j. f (a + j)) 0 k
-rows-from f a k = ap (λ (m : ℕ). rows f m k) (sym (add-zero a)) ∙ rows-shift f a 0 k
+pub rows_from_lem : (f : ℕ → List Act) (a k : ℕ) → rows f a k ≡ rows (λ j. f (a + j)) 0 k
+rows_from_lem f a k = ap (λ (m : ℕ). rows f m k) (sym (add-zero a)) ∙ rows_shift f a 0 k
 
 -- the fields of all bytes in one list
-pub fit-flat : (fss : List (List Field)) → fit (flatten fss) ≡ fit_all fss
+pub fit_flat : (fss : List (List Field)) → fit (flatten fss) ≡ fit_all fss
 unfolding fit fit_all flatten
-fit-flat [] = refl
-fit-flat (fs ∷ fss) = fit_append fs (flatten fss) ∙ ap (λ (b : Bool). fit fs && b) (fit-flat fss)
+fit_flat [] = refl
+fit_flat (fs ∷ fss) = fit_append fs (flatten fss) ∙ ap (λ (b : Bool). fit fs && b) (fit_flat fss)
 
 -- a line of bytes is clean if all fit
 pub clean_all : (fss : List (List Field)) → clean (map byte fss) ≡ fit_all fss
@@ -99,15 +99,15 @@ unfolding clean fit_all
 clean_all [] = refl
 clean_all (fs ∷ fss) = ap (λ (b : Bool). fit fs && b) (clean_all fss)
 
-pub clean-when : (t : Bool) (fss : List (List Field)) → clean (when t (map byte fss)) ≡ pick t (fit_all fss) true
+pub clean_when : (t : Bool) (fss : List (List Field)) → clean (when t (map byte fss)) ≡ pick t (fit_all fss) true
 unfolding clean
-clean-when true fss = clean_all fss
-clean-when false fss = refl
+clean_when true fss = clean_all fss
+clean_when false fss = refl
 
-pub bytes-long : (fss : List (List Field)) → length (bytes (map byte fss)) ≡ length fss
+pub bytes_long : (fss : List (List Field)) → length (bytes (map byte fss)) ≡ length fss
 unfolding bytes
-bytes-long [] = refl
-bytes-long (fs ∷ fss) = ap suc (bytes-long fss)
+bytes_long [] = refl
+bytes_long (fs ∷ fss) = ap suc (bytes_long fss)
 
 -- ---- parts of a row, checked and filled one after the other
 
@@ -116,18 +116,18 @@ unfolding looks glance look
 met f (At n) = record { pens = refl; near = omega arith }
 met f (Stop g n) = record { pens = refl; near = omega arith }
 
-pub all-checked : {there : Bool} {vs : List ℕ} {p r : Pen} {fss : List (List Field)} → Spelt fss vs → ChecksAll there vs p r → Checked (when there (map byte fss)) (length fss) p r
-all-checked {there} {p = p} {r} {fss} s w = subst (λ (k : ℕ). Checked (when there (map byte fss)) k p r) (sym (spelt-long s) ∙ bytes-long fss) (w.of fss s)
+pub all_checked : {there : Bool} {vs : List ℕ} {p r : Pen} {fss : List (List Field)} → Spelt fss vs → ChecksAll there vs p r → Checked (when there (map byte fss)) (length fss) p r
+all_checked {there} {p = p} {r} {fss} s w = subst (λ (k : ℕ). Checked (when there (map byte fss)) k p r) (sym (spelt_long s) ∙ bytes_long fss) (w.of fss s)
 
-pub filled-long : {q : List Act} {n r : ℕ} {l o : List ℕ} → Filled q n l r o → length o ≡ length l
-filled-long {q} {n} {l = l} w = ap length w.holds ∙ length-sets l n (bytes q)
+pub filled_long : {q : List Act} {n r : ℕ} {l o : List ℕ} → Filled q n l r o → length o ≡ length l
+filled_long {q} {n} {l = l} w = ap length w.holds ∙ length-sets l n (bytes q)
 
 module _ (rest : List Act) {all : List Act} {there : Bool} {fss : List (List Field)} {vs : List ℕ} {n₀ n : ℕ} {l o : List ℕ} (s : Spelt fss vs) (v : Filling all (when there (map byte fss) ++ rest) n₀ l n o) where
-  pub ready-part : ReadyAll there vs n o
-  ready-part = record { fss = fss; spelt = s; ready = fill-row (when there (map byte fss)) rest v refl }
+  pub ready_part : ReadyAll there vs n o
+  ready_part = record { fss = fss; spelt = s; ready = fill_row_lem (when there (map byte fss)) rest v refl }
 
-  pub fill-part : {r : ℕ} {o' : List ℕ} → FillsAll there vs n o r o' → Filling all rest n₀ l r o'
-  fill-part w = let f = w.of fss s (fill-row (when there (map byte fss)) rest v refl).sound in fill-turn v refl (filled-long f) f
+  pub fill_part_lem : {r : ℕ} {o' : List ℕ} → FillsAll there vs n o r o' → Filling all rest n₀ l r o'
+  fill_part_lem w = let f = w.of fss s (fill_row_lem (when there (map byte fss)) rest v refl).sound in fill_turn v refl (filled_long f) f
 
 -- ---- clean, part by part
 
@@ -136,8 +136,8 @@ absorb true b h = refl
 absorb false true h = h refl
 absorb false false h = refl
 
-pub no-quick : {a : Bool} → a ≡ false → a ≡ true → ⊥
-no-quick e f = let z : ◌≡◌ {A = ℕ} 0 1 = cc (sym e ∙ f) in omega arith
+pub no_quick : {a : Bool} → a ≡ false → a ≡ true → ⊥
+no_quick e f = let z : ◌≡◌ {A = ℕ} 0 1 = cc (sym e ∙ f) in omega arith
 
 -- ---- rows that are bytes of fields and nothing else: no demand of theirs can fail
 
@@ -153,37 +153,37 @@ module _ (acts : List Act) (fss : List (List Field)) (e : acts ≡ line_acts fss
   -- it makes as many bytes as it has, or has a fault
   pub line_plain : fit_all fss ≡ true → 0 < length fss → Quick acts (length fss) (length fss)
   unfolding bytes
-  line_plain f p = quick-clean acts (length fss) (line_clean ∙ f) (ap (λ (q : List Act). length (bytes q)) e ∙ bytes-long fss) p (omega arith)
+  line_plain f p = quick_clean acts (length fss) (line_clean ∙ f) (ap (λ (q : List Act). length (bytes q)) e ∙ bytes_long fss) p (omega arith)
 
-  pub line-odd : fit_all fss ≡ false → Quick acts (length fss) 0
-  line-odd f = quick-odd acts (length fss) (λ z. no-quick f (sym line_clean ∙ z))
+  pub line_odd : fit_all fss ≡ false → Quick acts (length fss) 0
+  line_odd f = quick_odd acts (length fss) (λ z. no_quick f (sym line_clean ∙ z))
 
   module _ {vs : List ℕ} (s : Spelt fss vs) where
-    pub line-checked : {p r : Pen} → ChecksAll true vs p r → Checked acts (length fss) p r
-    line-checked {p} {r} w =
-        subst (λ (q : List Act). Checked q (length fss) p r) (sym e) (more (length fss) (then (met F.Field p) (then (met F.Empty p) (all-checked s w))) (omega arith))
+    pub line_checked : {p r : Pen} → ChecksAll true vs p r → Checked acts (length fss) p r
+    line_checked {p} {r} w =
+        subst (λ (q : List Act). Checked q (length fss) p r) (sym e) (more (length fss) (then (met F.Field p) (then (met F.Empty p) (all_checked s w))) (omega arith))
 
     module _ {n : ℕ} {l : List ℕ} (w : Ready acts n l) where
-      line-left : Filling (line_acts fss) (map byte fss ++ []) n l n l
-      line-left =
+      line_left : Filling (line_acts fss) (map byte fss ++ []) n l n l
+      line_left =
           subst (λ (q : List Act). Filling (line_acts fss) q n l n l) (sym (append-nil (map byte fss)))
-          (fill-demand (fill-demand (fill_start (subst (λ (q : List Act). Ready q n l) e w))))
+          (fill_demand (fill_demand (fill_start (subst (λ (q : List Act). Ready q n l) e w))))
 
-      pub line-ready : ReadyAll true vs n l
-      line-ready = ready-part [] {there = true} s line-left
+      pub line_ready : ReadyAll true vs n l
+      line_ready = ready_part [] {there = true} s line_left
 
-      pub line-filled : {r : ℕ} {o : List ℕ} → FillsAll true vs n l r o → Filled acts n l r o
-      line-filled {r} {o} x = subst (λ (q : List Act). Filled q n l r o) (sym e) (fill_end (fill-part [] {there = true} s line-left x) refl)
+      pub line_filled : {r : ℕ} {o : List ℕ} → FillsAll true vs n l r o → Filled acts n l r o
+      line_filled {r} {o} x = subst (λ (q : List Act). Filled q n l r o) (sym e) (fill_end (fill_part_lem [] {there = true} s line_left x) refl)
 
 -- ---- a flag, and what is said of its part only where it is set
 
-pub flags-there : (v : ℕ) (a : Bool) → v ≡ 1 → is_flag v && pick (eqb v 1) a true ≡ a
-flags-there v a t = rw t
+pub flags_there : (v : ℕ) (a : Bool) → v ≡ 1 → is_flag v && pick (eqb v 1) a true ≡ a
+flags_there v a t = rw t
 
-pub flags-absent : (v : ℕ) (a : Bool) → (v ≡ 1 → ⊥) → is_flag v && pick (eqb v 1) a true ≡ is_flag v
-flags-absent v a t = rw (ne_eqb v 1 t) (and-true (is_flag v))
+pub flags_absent : (v : ℕ) (a : Bool) → (v ≡ 1 → ⊥) → is_flag v && pick (eqb v 1) a true ≡ is_flag v
+flags_absent v a t = rw (ne_eqb v 1 t) (and-true (is_flag v))
 
-pub bit-size : (v n : ℕ) → is_flag v ≡ true → pick (eqb v 1) n 0 ≡ v * n
-bit-size zero n e = omega arith
-bit-size (suc zero) n e = omega arith
-bit-size (suc (suc v)) n e = absurd (omega (arith, leb-true (suc (suc v)) 1 e))
+pub bit_size : (v n : ℕ) → is_flag v ≡ true → pick (eqb v 1) n 0 ≡ v * n
+bit_size zero n e = omega arith
+bit_size (suc zero) n e = omega arith
+bit_size (suc (suc v)) n e = absurd (omega (arith, leb-true (suc (suc v)) 1 e))

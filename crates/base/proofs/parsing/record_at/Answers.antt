@@ -1,30 +1,30 @@
 -- `base::parsing::record_at` meets its contract: the fields of the three bytes, the sets and the trailing run.
 use mathlib.Core.Path.{refl}
 use native.Mathlib.Omega.{arith}
-use Rattle.frame.proofs.Entries.{within-measured}
+use Rattle.frame.proofs.Entries.{within_measured}
 use Rattle.base.specs.Kind.{kind}
-use Rattle.base.proofs.Parsed.{sets-sound, tops_are}
+use Rattle.base.proofs.Parsed.{sets_sound, tops_are}
 use Rattle.base.proofs.parsing.record_at.Goals as goal
 
 pub bounds-body-1 : goal.bounds-body-1
 bounds-body-1 c =
-    let h = (sets-sound _ c.requires).0 in omega (arith, h)
+    let h = (sets_sound _ c.requires).0 in omega (arith, h)
 
 pub bounds-body-2 : goal.bounds-body-2
 bounds-body-2 c =
-    (sets-sound _ c.requires).0
+    (sets_sound _ c.requires).0
 
 pub bounds-body-0 : goal.bounds-body-0
 bounds-body-0 c =
-    let h = (sets-sound _ c.requires).0 in omega (arith, h)
+    let h = (sets_sound _ c.requires).0 in omega (arith, h)
 
 pub sets_at-requires : goal.sets_at-requires
 sets_at-requires c =
-    rw (c.part-2.ensures, c.wide-b1.ensures) (sets-sound _ c.requires).1
+    rw (c.part-2.ensures, c.wide-b1.ensures) (sets_sound _ c.requires).1
 
 pub trailing_run-requires : goal.trailing_run-requires
 trailing_run-requires c =
-    let w = within-measured kind _ c.requires in
+    let w = within_measured kind _ c.requires in
     (w.before, w.all)
 
 pub returns : goal.returns

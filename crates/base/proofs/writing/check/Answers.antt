@@ -3,17 +3,17 @@ use mathlib.Core.List.{[]}
 use mathlib.Core.Path.{sym, ◌∙◌}
 use native.Mathlib.Omega.{arith}
 use Rattle.wire.proofs.Writing.Passes.{more}
-use Rattle.frame.proofs.Passes.{run-outside, all-looked}
+use Rattle.frame.proofs.Passes.{run_outside, all_looked}
 use Rattle.base.specs.Kind.{kind}
-use Rattle.base.proofs.Mirrored.{written-so}
+use Rattle.base.proofs.Mirrored.{written_so}
 use Rattle.base.proofs.writing.check.Goals as goal
 
 pub returns-then-in_store : goal.returns-then-in_store
 unfolding kind
 returns-then-in_store c =
     let e = sym c.in_store.ensures ∙ c.if-in_store.true in
-    more 131074 (all-looked kind (written-so c.args.m c.args.store.now []) e c.check_fields.ensures c.run.ensures) (omega arith)
+    more 131074 (all_looked kind (written_so c.args.m c.args.store.now []) e c.check_fields.ensures c.run.ensures) (omega arith)
 
 pub returns-else-in_store : goal.returns-else-in_store
 unfolding kind
-returns-else-in_store c = run-outside kind c.args.m [] c.args.store.now (sym c.in_store.ensures ∙ c.if-in_store.false) _
+returns-else-in_store c = run_outside kind c.args.m [] c.args.store.now (sym c.in_store.ensures ∙ c.if-in_store.false) _

@@ -6,8 +6,8 @@ use Rattle.wire.specs.Bits.{field, join}
 use Rattle.wire.specs.Prog.{Within}
 use Rattle.wire.specs.Act.{Act, byte, copy}
 use Rattle.wire.specs.Pen.{Ready}
-use Rattle.wire.proofs.Fields.{fits-cons, join_first}
-use Rattle.wire.proofs.Writing.Passes.{Filling, fill_start, fill-byte, fill-last, fill_none, byte-ready, run_room}
+use Rattle.wire.proofs.Fields.{fits_cons, join_first}
+use Rattle.wire.proofs.Writing.Passes.{Filling, fill_start, fill_byte, fill_last, fill_none, byte_ready, run_room}
 use Rattle.base.specs.Write.{listed, sets_acts}
 use Rattle.base.proofs.writing.fill_sets.Goals as goal
 
@@ -18,7 +18,7 @@ put-n1-requires c =
     let run : List Act = copy (listed c.args.sets c.args.store.now) ∷ [] in
     let all : List Act = byte (field 8 c.args.sets.indications.length ∷ []) ∷ run in
     let ready : Ready all c.args.n c.args.out.now = rw c.if-sets.true at c.requires.1 in
-    let r = byte-ready ready in ((fits-cons 8 _ [] r.0).0, r.1)
+    let r = byte_ready ready in ((fits_cons 8 _ [] r.0).0, r.1)
 
 pub copy-requires : goal.copy-requires
 unfolding sets_acts join
@@ -28,7 +28,7 @@ copy-requires c =
     let run : List Act = copy (listed c.args.sets c.args.store.now) ∷ [] in
     let all : List Act = byte (field 8 c.args.sets.indications.length ∷ []) ∷ run in
     let ready : Ready all c.args.n c.args.out.now = rw c.if-sets.true at c.requires.1 in
-    let counted : Filling all run c.args.n c.args.out.now c.put-n1.result c.put-n1.new.out = fill-byte (fill_start ready) (sym (join_first 8 _ [])) c.put-n1.ensures in
+    let counted : Filling all run c.args.n c.args.out.now c.put-n1.result c.put-n1.new.out = fill_byte (fill_start ready) (sym (join_first 8 _ [])) c.put-n1.ensures in
     let h = stands in (h, run_room _ _ _ h counted.ready)
 
 pub returns-then-sets : goal.returns-then-sets
@@ -38,8 +38,8 @@ returns-then-sets c =
     let run : List Act = copy (listed c.args.sets c.args.store.now) ∷ [] in
     let all : List Act = byte (field 8 c.args.sets.indications.length ∷ []) ∷ run in
     let ready : Ready all c.args.n c.args.out.now = rw c.if-sets.true at c.requires.1 in
-    let counted : Filling all run c.args.n c.args.out.now c.put-n1.result c.put-n1.new.out = fill-byte (fill_start ready) (sym (join_first 8 _ [])) c.put-n1.ensures in
-    rw c.if-sets.true (search (fill-last, counted))
+    let counted : Filling all run c.args.n c.args.out.now c.put-n1.result c.put-n1.new.out = fill_byte (fill_start ready) (sym (join_first 8 _ [])) c.put-n1.ensures in
+    rw c.if-sets.true (search (fill_last, counted))
 
 pub returns-else-sets : goal.returns-else-sets
 unfolding sets_acts

@@ -1,6 +1,6 @@
 use mathlib.Core.Path.{refl}
 use Rattle.wire.specs.Layout.{flat}
-use Rattle.wire.proofs.Reading.Loops.{fill-next, fill_end, first_done}
+use Rattle.wire.proofs.Reading.Loops.{fill_next, fill_end, first_done}
 use Rattle.conditions.specs.Layout.{condition}
 use Rattle.conditions.proofs.parsing.fill_conditions.Goals as goal
 
@@ -13,7 +13,7 @@ condition_at-p-requires c =
     (c.loop-left.invariant.inside, first_done (flat 13 condition) _ _ _ c.loop-left-test.true c.loop-left.invariant.sound)
 
 pub loop-left-preserved : goal.loop-left-preserved
-loop-left-preserved c = search fill-next
+loop-left-preserved c = search fill_next
 
 pub returns : goal.returns
 returns c =

@@ -1,24 +1,24 @@
 -- `writing::plain_detail` meets its contract.
 use mathlib.Core.Path.{refl, sym, ◌∙◌}
 use Rattle.conditions.specs.Write.{cols_at}
-use Rattle.conditions.proofs.Writes.{fit_line, long-so}
+use Rattle.conditions.proofs.Writes.{fit_line, long_so}
 use Rattle.conditions.proofs.writing.plain_detail.Goals as goal
 
 pub returns-then-not-fit : goal.returns-then-not-fit
 returns-then-not-fit c =
-    long-so (cols_at c.args.conditions.now c.args.b) (sym (fit_line _) ∙ sym c.flags_fit-fit.ensures ∙ c.if-not-fit.true) refl refl
+    long_so (cols_at c.args.conditions.now c.args.b) (sym (fit_line _) ∙ sym c.flags_fit-fit.ensures ∙ c.if-not-fit.true) refl refl
 
 pub returns-then-plain_position : goal.returns-then-plain_position
 returns-then-plain_position c =
     c.detail_bytes.ensures
-    ∙ long-so (cols_at c.args.conditions.now c.args.b) (sym (fit_line _) ∙ sym c.flags_fit-fit.ensures ∙ c.if-not-fit.false)
+    ∙ long_so (cols_at c.args.conditions.now c.args.b) (sym (fit_line _) ∙ sym c.flags_fit-fit.ensures ∙ c.if-not-fit.false)
     (sym c.plain_gain.ensures ∙ c.if-plain_gain.true) (sym c.plain_position.ensures ∙ c.if-plain_position.true)
 
 pub returns-else-plain_position : goal.returns-else-plain_position
 returns-else-plain_position c =
-    long-so (cols_at c.args.conditions.now c.args.b) (sym (fit_line _) ∙ sym c.flags_fit-fit.ensures ∙ c.if-not-fit.false)
+    long_so (cols_at c.args.conditions.now c.args.b) (sym (fit_line _) ∙ sym c.flags_fit-fit.ensures ∙ c.if-not-fit.false)
     (sym c.plain_gain.ensures ∙ c.if-plain_gain.true) (sym c.plain_position.ensures ∙ c.if-plain_position.false)
 
 pub returns-else-plain_gain : goal.returns-else-plain_gain
 returns-else-plain_gain c =
-    long-so (cols_at c.args.conditions.now c.args.b) (sym (fit_line _) ∙ sym c.flags_fit-fit.ensures ∙ c.if-not-fit.false) (sym c.plain_gain.ensures ∙ c.if-plain_gain.false) refl
+    long_so (cols_at c.args.conditions.now c.args.b) (sym (fit_line _) ∙ sym c.flags_fit-fit.ensures ∙ c.if-not-fit.false) (sym c.plain_gain.ensures ∙ c.if-plain_gain.false) refl

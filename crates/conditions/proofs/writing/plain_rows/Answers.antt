@@ -1,12 +1,12 @@
 use native.Mathlib.Omega.{arith}
-use Rattle.conditions.proofs.Counted.{start-going, turn-going, odd-going, end-going}
+use Rattle.conditions.proofs.Counted.{start_going, turn_going, odd_going, end_going}
 use Rattle.conditions.proofs.Writes.{row_at}
 use borrow.Author.Rules.{rules}
 use Rattle.conditions.proofs.writing.plain_rows.Goals as goal
 
 pub loop-left-init : goal.loop-left-init
 loop-left-init c =
-    (omega arith, omega arith, start-going _ 6 _)
+    (omega arith, omega arith, start_going _ 6 _)
 
 pub plain_bytes-k-requires : goal.plain_bytes-k-requires
 plain_bytes-k-requires c =
@@ -17,19 +17,19 @@ overflow_sub-result c =
     omega (arith, c.loop-left.invariant.0)
 
 pub returns-then-k-eq0 : goal.returns-then-k-eq0
-returns-then-k-eq0 c = search (odd-going, row_at)
+returns-then-k-eq0 c = search (odd_going, row_at)
 
 pub overflow_add-bytes : goal.overflow_add-bytes
 overflow_add-bytes c =
     let l = c.if-k-eq0.false in
     search
-    (rules, turn-going c.loop-left.left c.loop-left.invariant.2 _ (row_at c.args.conditions.now c.loop-left.b _ c.loop-left.invariant.1) c.plain_bytes-k.ensures c.loop-left.invariant.0 c.loop-left-test.true (omega (arith, l)))
+    (rules, turn_going c.loop-left.left c.loop-left.invariant.2 _ (row_at c.args.conditions.now c.loop-left.b _ c.loop-left.invariant.1) c.plain_bytes-k.ensures c.loop-left.invariant.0 c.loop-left-test.true (omega (arith, l)))
 
 pub loop-left-preserved : goal.loop-left-preserved
 loop-left-preserved c =
     let l = c.if-k-eq0.false in
-    (omega arith, omega (arith, c.loop-left.invariant.0, c.loop-left.invariant.1, c.loop-left-test.true), turn-going c.loop-left.left c.loop-left.invariant.2 _ (row_at c.args.conditions.now c.loop-left.b _ c.loop-left.invariant.1) c.plain_bytes-k.ensures c.loop-left.invariant.0 c.loop-left-test.true (omega (arith, l)))
+    (omega arith, omega (arith, c.loop-left.invariant.0, c.loop-left.invariant.1, c.loop-left-test.true), turn_going c.loop-left.left c.loop-left.invariant.2 _ (row_at c.args.conditions.now c.loop-left.b _ c.loop-left.invariant.1) c.plain_bytes-k.ensures c.loop-left.invariant.0 c.loop-left-test.true (omega (arith, l)))
 
 pub returns : goal.returns
 returns c =
-    end-going c.loop-left.left c.loop-left.invariant.2 c.loop-left-test.false
+    end_going c.loop-left.left c.loop-left.invariant.2 c.loop-left-test.false

@@ -1,7 +1,7 @@
 use Prim.Native.Nat.{◌+◌, ◌<◌}
 use mathlib.Core.Path.{refl}
 use native.Mathlib.Omega.{arith}
-use Rattle.wire.proofs.Writing.Plain.{quick-few, going_start, going-turn, run-odd, run_end}
+use Rattle.wire.proofs.Writing.Plain.{quick_few, going_start, going_turn, run_odd, run_end}
 use Rattle.conditions.proofs.Writes.{row_at}
 use Rattle.conditions.proofs.writing.plain_run.Goals as goal
 
@@ -15,12 +15,12 @@ plain_bytes-k-requires c =
 pub returns-then-k-eq0 : goal.returns-then-k-eq0
 returns-then-k-eq0 c =
     let (l, (i, e, _, v)) = c.loop-b.invariant in
-    run-odd v (rw (row_at c.args.conditions.now c.loop-b.b _ e) at c.plain_bytes-k.ensures) (omega (arith, l, e, c.loop-b-test.true)) c.if-k-eq0.true
+    run_odd v (rw (row_at c.args.conditions.now c.loop-b.b _ e) at c.plain_bytes-k.ensures) (omega (arith, l, e, c.loop-b-test.true)) c.if-k-eq0.true
 
 pub overflow_add-bytes : goal.overflow_add-bytes
 overflow_add-bytes c =
     let (l, (i, e, _, v)) = c.loop-b.invariant in
-    omega (arith, v.few, v.within, quick-few c.plain_bytes-k.ensures, c.requires.2)
+    omega (arith, v.few, v.within, quick_few c.plain_bytes-k.ensures, c.requires.2)
 
 pub overflow_add-b : goal.overflow_add-b
 overflow_add-b c =
@@ -35,7 +35,7 @@ loop-b-preserved c =
     let (l, (i, e, m, v)) = c.loop-b.invariant in
     let k : 0 < c.plain_bytes-k.result = omega (arith, c.if-k-eq0.false) in
     let q = rw (row_at c.args.conditions.now c.loop-b.b _ e) at c.plain_bytes-k.ensures in
-    (l, (i + 1, omega (arith, e), omega arith, going-turn v q (omega (arith, l, e, c.loop-b-test.true)) k))
+    (l, (i + 1, omega (arith, e), omega arith, going_turn v q (omega (arith, l, e, c.loop-b-test.true)) k))
 
 pub returns : goal.returns
 returns c =

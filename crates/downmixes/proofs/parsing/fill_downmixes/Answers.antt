@@ -1,9 +1,9 @@
 use mathlib.Core.Path.{refl, ap, ◌∙◌}
 use Rattle.wire.specs.Layout.{flat}
-use Rattle.wire.proofs.Reading.Loops.{fill-next, fill_end}
+use Rattle.wire.proofs.Reading.Loops.{fill_next, fill_end}
 use Rattle.downmixes.specs.Layout.{downmix}
 use Rattle.downmixes.specs.Rows.{downmix_row}
-use Rattle.downmixes.proofs.Downmixes.{downmix-there, downmix-run}
+use Rattle.downmixes.proofs.Downmixes.{downmix_there, downmix_run}
 use borrow.Author.Rules.{rules}
 use Rattle.downmixes.proofs.parsing.fill_downmixes.Goals as goal
 
@@ -13,15 +13,15 @@ loop-left-init c =
 
 pub downmix_at-d-requires : goal.downmix_at-d-requires
 downmix_at-d-requires c =
-    downmix-there _ _ _ c.loop-left.invariant.inside c.loop-left-test.true c.loop-left.invariant.sound
+    downmix_there _ _ _ c.loop-left.invariant.inside c.loop-left-test.true c.loop-left.invariant.sound
 
 pub overflow_add-pos : goal.overflow_add-pos
-overflow_add-pos c = search (rules, downmix-there)
+overflow_add-pos c = search (rules, downmix_there)
 
 pub loop-left-preserved : goal.loop-left-preserved
 loop-left-preserved c =
-    fill-next (flat 4 downmix) (λ r. r) 4 _ _ _ _ _ _ _ _ _
-    c.loop-left.invariant c.loop-left-test.true (downmix-run _ _ _ c.loop-left.invariant.inside c.loop-left-test.true
+    fill_next (flat 4 downmix) (λ r. r) 4 _ _ _ _ _ _ _ _ _
+    c.loop-left.invariant c.loop-left-test.true (downmix_run _ _ _ c.loop-left.invariant.inside c.loop-left-test.true
     c.loop-left.invariant.sound) refl refl (c.columns-row.ensures ∙ ap downmix_row c.downmix_at-d.ensures) c.put_row.ensures
 
 pub returns : goal.returns

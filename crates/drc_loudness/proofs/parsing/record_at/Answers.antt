@@ -2,21 +2,21 @@
 use mathlib.Core.Path.{ap, ◌∙◌}
 use native.Mathlib.Omega.{arith}
 use Rattle.wire.specs.Bits.{part}
-use Rattle.drc_loudness.proofs.Walked.{first-there}
-use Rattle.drc_loudness.proofs.Found.{at-end, recorded}
+use Rattle.drc_loudness.proofs.Walked.{first_there}
+use Rattle.drc_loudness.proofs.Found.{at_end, recorded}
 use Rattle.drc_loudness.proofs.parsing.record_at.Goals as goal
 
 pub bounds-body-0 : goal.bounds-body-0
 bounds-body-0 c =
-    omega (arith, first-there c.requires.0)
+    omega (arith, first_there c.requires.0)
 
 pub info_at-requires : goal.info_at-requires
 info_at-requires c =
-    (first-there c.requires.0, c.requires.0.head)
+    (first_there c.requires.0, c.requires.0.head)
 
 pub trailing_run-requires : goal.trailing_run-requires
 trailing_run-requires c =
-    (at-end c.requires.0, c.requires.1)
+    (at_end c.requires.0, c.requires.1)
 
 pub returns : goal.returns
 returns c =

@@ -1,5 +1,5 @@
 -- `drc_writing::writing::all_within` meets its contract.
-use Rattle.drc_writing.proofs.Writes.{all_there, none-there}
+use Rattle.drc_writing.proofs.Writes.{all_there, none_there}
 use Rattle.drc_writing.proofs.writing.all_within.Goals as goal
 
 pub returns-then-i : goal.returns-then-i
@@ -9,4 +9,4 @@ returns-then-i c =
 
 pub returns-else-i : goal.returns-else-i
 returns-else-i c =
-    none-there _ _ _ _ c.if-i.false
+    none_there _ _ _ _ c.if-i.false

@@ -2,20 +2,20 @@
 use mathlib.Core.Path.{sym, ◌∙◌}
 use native.Mathlib.Omega.{arith}
 use Rattle.wire.proofs.Writing.Passes.{then, more, passed, refused}
-use Rattle.wire.proofs.Writing.Plain.{all-checked}
+use Rattle.wire.proofs.Writing.Plain.{all_checked}
 use Rattle.frame.specs.Entry.{first_table, other_tables}
 use Rattle.drc_writing.specs.Write.{drc_acts}
 use Rattle.drc_writing.proofs.writing.check_fields.Goals as goal
 
 pub check_info-requires : goal.check_info-requires
 check_info-requires c =
-    (sym c.all_within.ensures ∙ c.if-all_within.true, omega (arith, (all-checked c.head_bytes.ensures c.check_all-p.ensures).near))
+    (sym c.all_within.ensures ∙ c.if-all_within.true, omega (arith, (all_checked c.head_bytes.ensures c.check_all-p.ensures).near))
 
 pub returns-then-all_within : goal.returns-then-all_within
 unfolding drc_acts first_table other_tables
 returns-then-all_within c =
     rw (sym c.all_within.ensures ∙ c.if-all_within.true)
-    (passed _ 0 (passed _ 0 (passed _ 0 (more 17454 (then (all-checked c.head_bytes.ensures c.check_all-p.ensures) c.check_info.ensures) (omega arith)))))
+    (passed _ 0 (passed _ 0 (passed _ 0 (more 17454 (then (all_checked c.head_bytes.ensures c.check_all-p.ensures) c.check_info.ensures) (omega arith)))))
 
 pub returns-else-all_within : goal.returns-else-all_within
 unfolding drc_acts first_table other_tables

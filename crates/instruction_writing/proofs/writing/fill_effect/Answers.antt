@@ -1,19 +1,19 @@
 -- `writing::fill_effect` meets its contract.
-use Rattle.wire.proofs.Writing.Plain.{filled-long}
-use Rattle.instruction_writing.proofs.Writes.{word-ready, limiter-ready, loud-ready, effect-filled}
+use Rattle.wire.proofs.Writing.Plain.{filled_long}
+use Rattle.instruction_writing.proofs.Writes.{word_ready, limiter_ready, loud_ready, effect_filled}
 use Rattle.instruction_writing.proofs.writing.fill_effect.Goals as goal
 
 pub fill_all-n1-requires : goal.fill_all-n1-requires
-fill_all-n1-requires c = search word-ready
+fill_all-n1-requires c = search word_ready
 
 pub fill_all-n2-requires : goal.fill_all-n2-requires
-fill_all-n2-requires c = search limiter-ready
+fill_all-n2-requires c = search limiter_ready
 
 pub fill_target-requires : goal.fill_target-requires
-fill_target-requires c = search loud-ready
+fill_target-requires c = search loud_ready
 
 pub shape_of-out : goal.shape_of-out
-shape_of-out c = search (filled-long, effect-filled)
+shape_of-out c = search (filled_long, effect_filled)
 
 pub returns : goal.returns
-returns c = search effect-filled
+returns c = search effect_filled

@@ -1,9 +1,9 @@
 use mathlib.Core.Path.{refl}
 use native.Mathlib.Omega.{arith}
 use native.Mathlib.Nat.{sub-zero}
-use Rattle.wire.proofs.Writing.Passes.{rows-turn, rows_end, fill_start, fill-row, fill-turn, fill_end}
-use Rattle.wire.proofs.Writing.Plain.{filled-long}
-use Rattle.instruction_writing.proofs.Writes.{row-asked, row-stored}
+use Rattle.wire.proofs.Writing.Passes.{rows_turn, rows_end, fill_start, fill_row_lem, fill_turn, fill_end}
+use Rattle.wire.proofs.Writing.Plain.{filled_long}
+use Rattle.instruction_writing.proofs.Writes.{row_asked, row_stored}
 use Rattle.instruction_writing.proofs.writing.fill_instructions.Goals as goal
 
 pub loop-i-init : goal.loop-i-init
@@ -12,13 +12,13 @@ loop-i-init c =
 
 pub fill_row-at-requires : goal.fill_row-at-requires
 fill_row-at-requires c =
-    (omega arith, row-asked c.args.instructions.now c.args.additional.now c.loop-i.i refl (fill-row _ _ c.loop-i.invariant.1 (rows-turn _ _ _ c.loop-i-test.true)))
+    (omega arith, row_asked c.args.instructions.now c.args.additional.now c.loop-i.i refl (fill_row_lem _ _ c.loop-i.invariant.1 (rows_turn _ _ _ c.loop-i-test.true)))
 
 pub loop-i-preserved : goal.loop-i-preserved
 loop-i-preserved c =
-    let w = row-stored c.args.instructions.now
+    let w = row_stored c.args.instructions.now
     c.args.additional.now c.loop-i.i refl c.fill_row-at.ensures in
-    (omega arith, search (fill-turn, rows-turn, filled-long))
+    (omega arith, search (fill_turn, rows_turn, filled_long))
 
 pub shape_of-out : goal.shape_of-out
 shape_of-out c =

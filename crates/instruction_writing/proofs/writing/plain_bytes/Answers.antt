@@ -1,6 +1,6 @@
 -- `writing::plain_bytes` meets its contract: a fault of its own, one of an additional ID, or none.
 use native.Mathlib.Omega.{arith}
-use Rattle.instruction_writing.proofs.Writes.{tested, row_plain, row-odd-kid, row-odd}
+use Rattle.instruction_writing.proofs.Writes.{tested, row_plain, row_odd_kid, row_odd}
 use Rattle.instruction_writing.proofs.writing.plain_bytes.Goals as goal
 
 pub plain_pairs-requires : goal.plain_pairs-requires
@@ -37,7 +37,7 @@ pub returns-then-plain_pairs-count : goal.returns-then-plain_pairs-count
 returns-then-plain_pairs-count c = search row_plain
 
 pub returns-else-plain_pairs-count : goal.returns-else-plain_pairs-count
-returns-else-plain_pairs-count c = search row-odd-kid
+returns-else-plain_pairs-count c = search row_odd_kid
 
 pub returns-else-inside-head : goal.returns-else-inside-head
-returns-else-inside-head c = search row-odd
+returns-else-inside-head c = search row_odd

@@ -1,6 +1,6 @@
 -- `writing::row_bytes` meets its contract: a bare row, or any.
 use mathlib.Core.Path.{sym, ◌∙◌}
-use Rattle.instruction_writing.proofs.Writes.{same-quick}
+use Rattle.instruction_writing.proofs.Writes.{same_quick}
 use Rattle.instruction_writing.proofs.writing.row_bytes.Goals as goal
 
 pub bare_bytes-requires : goal.bare_bytes-requires
@@ -9,4 +9,4 @@ bare_bytes-requires c =
 
 pub returns : goal.returns
 returns c =
-    same-quick c.args.additional.now c.of_columns-d.ensures c.plain_bytes.ensures
+    same_quick c.args.additional.now c.of_columns-d.ensures c.plain_bytes.ensures

@@ -1,18 +1,18 @@
 use mathlib.Core.Path.{refl, ap, ◌∙◌}
 use native.Mathlib.Omega.{arith}
 use lib.Seq.{sets}
-use Rattle.wire.proofs.Layouts.Families.{families-start, family-ask, families-turn, families-end}
+use Rattle.wire.proofs.Layouts.Families.{families_start, family_ask, families_turn, families_end}
 use Rattle.instructions.specs.Layout.{additional, instruction}
 use Rattle.instructions.proofs.Taken.{fills}
 use Rattle.instructions.proofs.parsing.fill_instructions.Goals as goal
 
 pub loop-left-init : goal.loop-left-init
 loop-left-init c =
-    families-start instruction 2 additional _ _ _ _ _ c.requires.0
+    families_start instruction 2 additional _ _ _ _ _ c.requires.0
 
 pub fill_instruction-p-requires : goal.fill_instruction-p-requires
 fill_instruction-p-requires c =
-    family-ask instruction 2 additional _ _ _ _ _ c.loop-left.invariant c.loop-left-test.true
+    family_ask instruction 2 additional _ _ _ _ _ c.loop-left.invariant c.loop-left-test.true
 
 pub overflow_add-to : goal.overflow_add-to
 overflow_add-to c =
@@ -21,10 +21,10 @@ overflow_add-to c =
 
 pub loop-left-preserved : goal.loop-left-preserved
 loop-left-preserved c =
-    families-turn instruction 2 additional _ _ _ _ _
+    families_turn instruction 2 additional _ _ _ _ _
     c.loop-left.invariant fills c.loop-left-test.true
     c.fill_instruction-p.ensures refl (c.put_row.ensures ∙ ap (sets _ _) c.columns-row.ensures)
 
 pub returns : goal.returns
 returns c =
-    families-end instruction 2 additional _ _ _ _ _ c.loop-left.invariant c.loop-left-test.false
+    families_end instruction 2 additional _ _ _ _ _ c.loop-left.invariant c.loop-left-test.false

@@ -2,13 +2,13 @@
 use mathlib.Core.Path.{ap}
 use native.Mathlib.Omega.{arith}
 use Rattle.wire.specs.Reads.{ends_out}
-use Rattle.wire.proofs.Fields.{part-below}
-use Rattle.instructions.proofs.Taken.{Behind, behind, settings-lack, singles-lack, loud-begun, loud-lack, loud-got}
+use Rattle.wire.proofs.Fields.{part_below}
+use Rattle.instructions.proofs.Taken.{Behind, behind, settings_lack, singles_lack, loud_begun, loud_lack, loud_got}
 use borrow.Author.Rules.{rules}
 use Rattle.instructions.proofs.parsing.instruction_rows.Goals as goal
 
 pub returns-in_default : goal.returns-in_default
-returns-in_default c = search (settings-lack, ap ends_out c.in_default.is)
+returns-in_default c = search (settings_lack, ap ends_out c.in_default.is)
 
 pub overflow_sub-n : goal.overflow_sub-n
 overflow_sub-n c =
@@ -26,29 +26,29 @@ pub head-b-requires : goal.head-b-requires
 head-b-requires c =
     -- behind the settings
     let after-1 : Behind c.args.body.now c.args.at c.in-At.n = behind _ _ c.requires c.settings_end-a.ensures (ap ends_out c.in-At.is) in
-    (search after-1.inside, search (rules, part-below 2 3 c.wide-c.result, part-below 1 1 c.wide-c.result))
+    (search after-1.inside, search (rules, part_below 2 3 c.wide-c.result, part_below 1 1 c.wide-c.result))
 
 pub returns-in_default-b : goal.returns-in_default-b
 returns-in_default-b c =
     -- behind the settings
     let after-1 : Behind c.args.body.now c.args.at c.in-At.n = behind _ _ c.requires c.settings_end-a.ensures (ap ends_out c.in-At.is) in
-    search (singles-lack, after-1, ap ends_out c.in_default-b.is)
+    search (singles_lack, after-1, ap ends_out c.in_default-b.is)
 
 pub target_end-e-requires : goal.target_end-e-requires
 target_end-e-requires c =
     -- behind the settings
     let after-1 : Behind c.args.body.now c.args.at c.in-At.n = behind _ _ c.requires c.settings_end-a.ensures (ap ends_out c.in-At.is) in
-    loud-begun after-1 c.wide-c.ensures
+    loud_begun after-1 c.wide-c.ensures
     c.part-count.ensures c.part.ensures c.head-b.ensures (ap ends_out c.in-At-b.is) c.part-2.ensures
 
 pub returns-in_default-e : goal.returns-in_default-e
 returns-in_default-e c =
     -- behind the settings
     let after-1 : Behind c.args.body.now c.args.at c.in-At.n = behind _ _ c.requires c.settings_end-a.ensures (ap ends_out c.in-At.is) in
-    search (loud-lack, after-1, ap ends_out c.in-At-b.is, ap ends_out c.in_default-e.is)
+    search (loud_lack, after-1, ap ends_out c.in-At-b.is, ap ends_out c.in_default-e.is)
 
 pub returns : goal.returns
 returns c =
     -- behind the settings
     let after-1 : Behind c.args.body.now c.args.at c.in-At.n = behind _ _ c.requires c.settings_end-a.ensures (ap ends_out c.in-At.is) in
-    search (loud-got, after-1, ap ends_out c.in-At-b.is, ap ends_out c.in-At-e.is)
+    search (loud_got, after-1, ap ends_out c.in-At-b.is, ap ends_out c.in-At-e.is)

@@ -1,15 +1,15 @@
 use mathlib.Core.Path.{sym}
 use Rattle.wire.specs.Layout.{family_tally}
 use Rattle.wire.specs.Prog.{run}
-use Rattle.wire.proofs.Reading.Walk.{as-done}
+use Rattle.wire.proofs.Reading.Walk.{as_done}
 use Rattle.wire.proofs.Reading.Loops.{first_done}
-use Rattle.wire.proofs.Reading.Adding.{adding-start, adding-turn, adding-end}
+use Rattle.wire.proofs.Reading.Adding.{adding_start, adding_turn, adding_end}
 use Rattle.instructions.specs.Layout.{additional, instruction, instructions}
 use Rattle.instructions.proofs.tallying.tally_instructions.Goals as goal
 
 pub loop-left-init : goal.loop-left-init
 loop-left-init c =
-    adding-start instructions _ 26 _ _ _ c.requires.0 c.requires.1
+    adding_start instructions _ 26 _ _ _ c.requires.0 c.requires.1
 
 pub instruction_zeros-t-requires : goal.instruction_zeros-t-requires
 instruction_zeros-t-requires c =
@@ -17,9 +17,9 @@ instruction_zeros-t-requires c =
 
 pub loop-left-preserved : goal.loop-left-preserved
 loop-left-preserved c =
-    let (x, e, q) = as-done (family_tally instruction additional) (run instructions _ _) (sym c.instruction_zeros-t.ensures.0) in
-    search (adding-turn, sym e, sym q)
+    let (x, e, q) = as_done (family_tally instruction additional) (run instructions _ _) (sym c.instruction_zeros-t.ensures.0) in
+    search (adding_turn, sym e, sym q)
 
 pub returns : goal.returns
 returns c =
-    adding-end instructions _ 26 _ _ _ c.loop-left.invariant c.loop-left-test.false
+    adding_end instructions _ 26 _ _ _ c.loop-left.invariant c.loop-left-test.false

@@ -1,5 +1,5 @@
 use mathlib.Core.Path.{refl}
-use Rattle.wire.proofs.Reading.Loops.{fill-as, fill_end, first_done}
+use Rattle.wire.proofs.Reading.Loops.{fill_as, fill_end, first_done}
 use Rattle.labels.proofs.Taken.{an_entry}
 use Rattle.labels.proofs.parsing.fill_entries.Goals as goal
 
@@ -14,7 +14,7 @@ entry_at-p-requires c =
     (i.inside, w.2, search first_done, w.3)
 
 pub loop-left-preserved : goal.loop-left-preserved
-loop-left-preserved c = search fill-as
+loop-left-preserved c = search fill_as
 
 pub returns : goal.returns
 returns c = fill_end (an_entry _) _ 4 _ _ _ _ _ _ _ _ _ c.loop-left.invariant c.loop-left-test.false

@@ -1,13 +1,13 @@
 -- `parsing::fill_list` meets its contract: the count, and so many entries.
-use Rattle.labels.proofs.Taken.{count-there, entries-begin, entries-done, list_done, list-room, list-taken}
+use Rattle.labels.proofs.Taken.{count_there, entries_begin, entries_done, list_done, list_room, list_taken}
 use borrow.Author.Rules.{rules}
 use Rattle.labels.proofs.parsing.fill_list.Goals as goal
 
 pub bounds-body-at : goal.bounds-body-at
-bounds-body-at c = search (count-there, list_done)
+bounds-body-at c = search (count_there, list_done)
 
 pub fill_entries-next-requires : goal.fill_entries-next-requires
-fill_entries-next-requires c = search (rules, entries-begin, entries-done, list_done, list-room)
+fill_entries-next-requires c = search (rules, entries_begin, entries_done, list_done, list_room)
 
 pub returns : goal.returns
-returns c = search list-taken
+returns c = search list_taken

@@ -1,7 +1,7 @@
 use mathlib.Core.Path.{refl, ap, sym, ◌∙◌}
 use Rattle.wire.specs.Reads.{ends_out}
-use Rattle.wire.proofs.Reading.Walk.{as-done, as_short}
-use Rattle.wire.proofs.Reading.Loops.{carry-turn, carry-cut, carry-end}
+use Rattle.wire.proofs.Reading.Walk.{as_done, as_short}
+use Rattle.wire.proofs.Reading.Loops.{carry_turn, carry_cut, carry_end}
 use Rattle.labels.proofs.parsing.measure_entries.Goals as goal
 
 pub loop-left-init : goal.loop-left-init
@@ -13,13 +13,13 @@ entry_end-a-requires c = (c.loop-left.invariant 0).inside
 pub returns-in_default : goal.returns-in_default
 returns-in_default c =
     let e = ap ends_out c.in_default.is in
-    record { of = λ w. e ∙ carry-cut (c.loop-left.invariant w) c.loop-left-test.true (as_short (λ x. tt) _ (sym (c.entry_end-a.ensures.of w) ∙ e)) }
+    record { of = λ w. e ∙ carry_cut (c.loop-left.invariant w) c.loop-left-test.true (as_short (λ x. tt) _ (sym (c.entry_end-a.ensures.of w) ∙ e)) }
 
 pub loop-left-preserved : goal.loop-left-preserved
 loop-left-preserved c =
     λ w.
-    let (_, e, _) = as-done (λ x. tt) _ (sym (c.entry_end-a.ensures.of w) ∙ ap ends_out c.in-At.is) in
-    carry-turn (c.loop-left.invariant w) c.loop-left-test.true e (λ l. refl)
+    let (_, e, _) = as_done (λ x. tt) _ (sym (c.entry_end-a.ensures.of w) ∙ ap ends_out c.in-At.is) in
+    carry_turn (c.loop-left.invariant w) c.loop-left-test.true e (λ l. refl)
 
 pub returns : goal.returns
-returns c = record { of = λ w. carry-end (c.loop-left.invariant w) c.loop-left-test.false }
+returns c = record { of = λ w. carry_end (c.loop-left.invariant w) c.loop-left-test.false }

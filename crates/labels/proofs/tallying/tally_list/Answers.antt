@@ -1,13 +1,13 @@
 -- `tallying::tally_list` meets its contract: the bits before the count, and those of so many entries.
-use Rattle.labels.proofs.Taken.{count-there, entries-begin, entries-done, count-few, list-tally, list-few}
+use Rattle.labels.proofs.Taken.{count_there, entries_begin, entries_done, count_few, list_tally, list_few}
 use borrow.Author.Rules.{rules}
 use Rattle.labels.proofs.tallying.tally_list.Goals as goal
 
 pub bounds-body-at : goal.bounds-body-at
-bounds-body-at c = search count-there
+bounds-body-at c = search count_there
 
 pub tally_entries-t-requires : goal.tally_entries-t-requires
-tally_entries-t-requires c = search (rules, entries-begin, entries-done, count-few)
+tally_entries-t-requires c = search (rules, entries_begin, entries_done, count_few)
 
 pub returns : goal.returns
-returns c = search (list-tally, list-few)
+returns c = search (list_tally, list_few)

@@ -1,9 +1,9 @@
 use mathlib.Core.Path.{refl, sym, ◌∙◌}
 use Rattle.wire.specs.Prog.{run}
 use Rattle.wire.specs.Layout.{borne_row}
-use Rattle.wire.proofs.Reading.Walk.{as-done}
-use Rattle.wire.proofs.Reading.Loops.{fill-next, fill_end, first_done}
-use Rattle.wire.proofs.Tables.{each-length}
+use Rattle.wire.proofs.Reading.Walk.{as_done}
+use Rattle.wire.proofs.Reading.Loops.{fill_next, fill_end, first_done}
+use Rattle.wire.proofs.Tables.{each_length}
 use Rattle.loudness.specs.Layout as L
 use borrow.Author.Rules.{rules}
 use Rattle.loudness.proofs.parsing.fill_entries.Goals as goal
@@ -17,8 +17,8 @@ entry_at-p-requires c = search (rules, first_done)
 
 pub loop-left-preserved : goal.loop-left-preserved
 loop-left-preserved c =
-    let (x, e, q) = as-done (borne_row L.entry) (run L.entries _ _)
-    (sym c.entry_at-p.ensures) in search (fill-next, each-length, sym e, c.columns-row.ensures ∙ sym q)
+    let (x, e, q) = as_done (borne_row L.entry) (run L.entries _ _)
+    (sym c.entry_at-p.ensures) in search (fill_next, each_length, sym e, c.columns-row.ensures ∙ sym q)
 
 pub returns : goal.returns
 returns c =

@@ -2,17 +2,17 @@
 use mathlib.Core.Path.{◌∙◌}
 use mathlib.Core.List.{[], ◌∷◌}
 use Rattle.wire.specs.Bits.{field}
-use Rattle.wire.proofs.Fields.{fit-one}
-use Rattle.loudness.proofs.Written.{entry-checked}
+use Rattle.wire.proofs.Fields.{fit_one}
+use Rattle.loudness.proofs.Written.{entry_checked}
 use borrow.Author.Rules.{rules}
 use Rattle.loudness.proofs.writing.check_entry.Goals as goal
 
 pub run-requires : goal.run-requires
 run-requires c =
     let w = (c.byte-p2.ensures.of
-    (field 8 c.args.e.loudness_info.length ∷ []) (c.fits.ensures ∙ fit-one 8 c.args.e.loudness_info.length)).near in
+    (field 8 c.args.e.loudness_info.length ∷ []) (c.fits.ensures ∙ fit_one 8 c.args.e.loudness_info.length)).near in
     (search rules, search (rules, w))
 
 pub returns : goal.returns
 returns c =
-    search (entry-checked, rw c.id_types.ensures at c.check_scope-p1.ensures)
+    search (entry_checked, rw c.id_types.ensures at c.check_scope-p1.ensures)

@@ -1,8 +1,8 @@
 use native.Mathlib.Omega.{arith}
 use native.Mathlib.Nat.{sub-zero}
-use Rattle.wire.proofs.Writing.Passes.{rows-turn, rows_end, fill_start, fill-row, fill-turn, fill_end}
-use Rattle.wire.proofs.Writing.Plain.{filled-long}
-use Rattle.loudness.proofs.Written.{row-acts}
+use Rattle.wire.proofs.Writing.Passes.{rows_turn, rows_end, fill_start, fill_row_lem, fill_turn, fill_end}
+use Rattle.wire.proofs.Writing.Plain.{filled_long}
+use Rattle.loudness.proofs.Written.{row_acts_lem}
 use Rattle.loudness.proofs.writing.fill_entries.Goals as goal
 
 pub loop-i-init : goal.loop-i-init
@@ -15,15 +15,15 @@ of_columns-e-requires c =
 
 pub fill_entry-at-requires : goal.fill_entry-at-requires
 fill_entry-at-requires c =
-    rw (row-acts c.args.entries.now
+    rw (row_acts_lem c.args.entries.now
     c.args.store.now c.loop-i.i c.of_columns-e.ensures)
-    (fill-row _ _ c.loop-i.invariant.1 (rows-turn _ _ _ c.loop-i-test.true))
+    (fill_row_lem _ _ c.loop-i.invariant.1 (rows_turn _ _ _ c.loop-i-test.true))
 
 pub loop-i-preserved : goal.loop-i-preserved
 loop-i-preserved c =
-    let w = rw (row-acts c.args.entries.now
+    let w = rw (row_acts_lem c.args.entries.now
     c.args.store.now c.loop-i.i c.of_columns-e.ensures) at c.fill_entry-at.ensures in
-    (omega arith, fill-turn c.loop-i.invariant.1 (rows-turn _ _ _ c.loop-i-test.true) (filled-long w) w)
+    (omega arith, fill_turn c.loop-i.invariant.1 (rows_turn _ _ _ c.loop-i-test.true) (filled_long w) w)
 
 pub shape_of-out : goal.shape_of-out
 shape_of-out c =

@@ -1,23 +1,23 @@
 -- `writing::fill_entry` meets its contract: the bytes of the scope, the length, and the bytes from the store.
-use Rattle.wire.proofs.Writing.Plain.{filled-long}
-use Rattle.loudness.proofs.Written.{scope-ready, info-inside, length-ready, info-room, entry-filled}
+use Rattle.wire.proofs.Writing.Plain.{filled_long}
+use Rattle.loudness.proofs.Written.{scope_ready, info_inside, length_ready, info_room, entry_filled}
 use borrow.Author.Rules.{rules}
 use Rattle.loudness.proofs.writing.fill_entry.Goals as goal
 
 pub fill_scope-n1-requires : goal.fill_scope-n1-requires
 fill_scope-n1-requires c =
-    scope-ready c.args.store.now c.args.e c.requires
+    scope_ready c.args.store.now c.args.e c.requires
 
 pub put-n2-requires : goal.put-n2-requires
 put-n2-requires c =
-    length-ready c.args.store.now c.args.e c.requires
+    length_ready c.args.store.now c.args.e c.requires
     c.fill_scope-n1.ensures
 
 pub copy-requires : goal.copy-requires
-copy-requires c = search (rules, info-inside, info-room)
+copy-requires c = search (rules, info_inside, info_room)
 
 pub shape_of-out : goal.shape_of-out
-shape_of-out c = search (rules, filled-long, entry-filled)
+shape_of-out c = search (rules, filled_long, entry_filled)
 
 pub returns : goal.returns
-returns c = search entry-filled
+returns c = search entry_filled

@@ -1,17 +1,17 @@
 -- `mpegh_c::drc_loudness_body::mpegh_drc_loudness_measure` meets its contract.
 use Rattle.drc_kind.specs.Kind.{kind}
-use Rattle.mpegh_c.proofs.Hosted.{measures-refused, measures-unroomed, measures-sized}
+use Rattle.mpegh_c.proofs.Hosted.{measures_refused, measures_unroomed, measures_sized}
 use Rattle.mpegh_c.proofs.drc_loudness_body.mpegh_drc_loudness_measure.Goals as goal
 
 pub returns-then-rows-lt4 : goal.returns-then-rows-lt4
 returns-then-rows-lt4 c =
-    measures-unroomed kind (rw c.in-Done.is at c.measure-m.ensures) c.if-rows-lt4.true c.room_code.ensures
+    measures_unroomed kind (rw c.in-Done.is at c.measure-m.ensures) c.if-rows-lt4.true c.room_code.ensures
 
 pub returns-else-rows-lt4 : goal.returns-else-rows-lt4
 returns-else-rows-lt4 c =
-    measures-sized kind (rw c.in-Done.is at c.measure-m.ensures)
+    measures_sized kind (rw c.in-Done.is at c.measure-m.ensures)
     c.if-rows-lt4.false c.put_row.ensures c.code.ensures
 
 pub returns-in-Refused : goal.returns-in-Refused
 returns-in-Refused c =
-    measures-refused kind (rw c.in-Refused.is at c.measure-m.ensures) c.refusal_code.ensures
+    measures_refused kind (rw c.in-Refused.is at c.measure-m.ensures) c.refusal_code.ensures

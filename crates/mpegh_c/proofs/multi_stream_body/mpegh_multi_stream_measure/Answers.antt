@@ -1,17 +1,17 @@
 -- `mpegh_c::multi_stream_body::mpegh_multi_stream_measure` meets its contract.
 use Rattle.multi_stream.specs.Kind.{kind}
-use Rattle.mpegh_c.proofs.Hosted.{measures-refused, measures-unroomed, measures-sized}
+use Rattle.mpegh_c.proofs.Hosted.{measures_refused, measures_unroomed, measures_sized}
 use Rattle.mpegh_c.proofs.multi_stream_body.mpegh_multi_stream_measure.Goals as goal
 
 pub returns-then-rows-lt1 : goal.returns-then-rows-lt1
 returns-then-rows-lt1 c =
-    measures-unroomed kind (rw c.in-Done.is at c.measure-m.ensures) c.if-rows-lt1.true c.room_code.ensures
+    measures_unroomed kind (rw c.in-Done.is at c.measure-m.ensures) c.if-rows-lt1.true c.room_code.ensures
 
 pub returns-else-rows-lt1 : goal.returns-else-rows-lt1
 returns-else-rows-lt1 c =
-    measures-sized kind (rw c.in-Done.is at c.measure-m.ensures)
+    measures_sized kind (rw c.in-Done.is at c.measure-m.ensures)
     c.if-rows-lt1.false c.put_row.ensures c.code.ensures
 
 pub returns-in-Refused : goal.returns-in-Refused
 returns-in-Refused c =
-    measures-refused kind (rw c.in-Refused.is at c.measure-m.ensures) c.refusal_code.ensures
+    measures_refused kind (rw c.in-Refused.is at c.measure-m.ensures) c.refusal_code.ensures

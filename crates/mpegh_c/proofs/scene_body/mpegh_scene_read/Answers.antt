@@ -8,17 +8,17 @@ use Rattle.scene_kind.specs.Rows.{top_row}
 use Rattle.scene_kind.specs.Kind.{kind}
 use Rattle.scene.proofs.Bare.{headless}
 use Rattle.mpegh_c.specs.Code.{refused_code}
-use Rattle.mpegh_c.proofs.Hosted.{reads-neither, reads-unroomed, reads-refused, reads-done}
+use Rattle.mpegh_c.proofs.Hosted.{reads_neither, reads_unroomed, reads_refused, reads_done}
 use Rattle.mpegh_c.proofs.scene_body.mpegh_scene_read.Goals as goal
 
 pub returns-in_default : goal.returns-in_default
 returns-in_default c =
-    reads-neither kind _ top_row (headless _ c.head-a.ensures (ap ends_out c.in_default.is))
+    reads_neither kind _ top_row (headless _ c.head-a.ensures (ap ends_out c.in_default.is))
     (c.refusal_code.ensures ∙ ap (λ (x : Short). refused_code (refusal (R.Short x))) c.short.ensures)
 
 pub returns-then-top-lt-TOP_COLUMNS : goal.returns-then-top-lt-TOP_COLUMNS
 returns-then-top-lt-TOP_COLUMNS c =
-    reads-unroomed kind _ top_row c.if-top-lt-TOP_COLUMNS.true c.unread.ensures
+    reads_unroomed kind _ top_row c.if-top-lt-TOP_COLUMNS.true c.unread.ensures
 
 pub record_at-requires : goal.record_at-requires
 record_at-requires c =
@@ -30,10 +30,10 @@ put_row-requires c =
 
 pub returns-in-At-o : goal.returns-in-At-o
 returns-in-At-o c =
-    reads-done kind _ top_row c.if-top-lt-TOP_COLUMNS.false
+    reads_done kind _ top_row c.if-top-lt-TOP_COLUMNS.false
     ((rw c.in-At-o.is at c.opened-o.ensures).gives.reads c.record_at.ensures) refl
     (rw c.columns-row.ensures at c.put_row.ensures)
 
 pub returns-in-Refused : goal.returns-in-Refused
 returns-in-Refused c =
-    reads-refused kind _ top_row c.if-top-lt-TOP_COLUMNS.false (rw c.in-Refused.is at c.opened-o.ensures).gives c.refusal_code-in-Refused.ensures
+    reads_refused kind _ top_row c.if-top-lt-TOP_COLUMNS.false (rw c.in-Refused.is at c.opened-o.ensures).gives c.refusal_code-in-Refused.ensures

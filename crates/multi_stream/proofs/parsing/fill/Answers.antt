@@ -1,5 +1,5 @@
 -- `multi_stream::parsing::fill` meets its contract: the groups of the body that was measured.
-use Rattle.multi_stream.proofs.Sighted.{fillable, filled-there, filled_none}
+use Rattle.multi_stream.proofs.Sighted.{fillable, filled_there, filled_none}
 use borrow.Author.Rules.{rules}
 use Rattle.multi_stream.proofs.parsing.fill.Goals as goal
 
@@ -8,7 +8,7 @@ fill_groups-requires c =
     let f = fillable _ c.requires.0 c.if-count-gt0.true in (f.inside, f.sound, search rules)
 
 pub returns-then-count-gt0 : goal.returns-then-count-gt0
-returns-then-count-gt0 c = search filled-there
+returns-then-count-gt0 c = search filled_there
 
 pub returns-else-count-gt0 : goal.returns-else-count-gt0
 returns-else-count-gt0 c =

@@ -1,8 +1,8 @@
 use native.Mathlib.Omega.{arith}
 use native.Mathlib.Nat.{add-sub_cancel_left}
-use Rattle.wire.proofs.Writing.Passes.{rows-turn, rows_end, all-filled, fill_start, fill-row, fill-turn, fill_end}
-use Rattle.wire.proofs.Writing.Plain.{filled-long}
-use Rattle.pairs.proofs.Pairs.{pair-ready, pair-filled}
+use Rattle.wire.proofs.Writing.Passes.{rows_turn, rows_end, all_filled, fill_start, fill_row_lem, fill_turn, fill_end}
+use Rattle.wire.proofs.Writing.Plain.{filled_long}
+use Rattle.pairs.proofs.Pairs.{pair_ready, pair_filled}
 use Rattle.pairs.proofs.writing.fill_pairs.Goals as goal
 
 pub loop-i-init : goal.loop-i-init
@@ -15,15 +15,15 @@ pair_byte-requires c =
 
 pub fill_all-at-requires : goal.fill_all-at-requires
 fill_all-at-requires c =
-    pair-ready c.args.table.now c.loop-i.i
-    c.pair_byte.ensures (fill-row _ _ c.loop-i.invariant.2 (rows-turn _ _ _ c.loop-i-test.true))
+    pair_ready c.args.table.now c.loop-i.i
+    c.pair_byte.ensures (fill_row_lem _ _ c.loop-i.invariant.2 (rows_turn _ _ _ c.loop-i-test.true))
 
 pub loop-i-preserved : goal.loop-i-preserved
 loop-i-preserved c =
-    let r = fill-row _ _ c.loop-i.invariant.2 (rows-turn _ _ _ c.loop-i-test.true) in
-    let w = pair-filled c.args.table.now c.loop-i.i
+    let r = fill_row_lem _ _ c.loop-i.invariant.2 (rows_turn _ _ _ c.loop-i-test.true) in
+    let w = pair_filled c.args.table.now c.loop-i.i
     c.pair_byte.ensures r c.fill_all-at.ensures in
-    (omega arith, omega arith, search (fill-turn, rows-turn, filled-long))
+    (omega arith, omega arith, search (fill_turn, rows_turn, filled_long))
 
 pub shape_of-out : goal.shape_of-out
 shape_of-out c =
@@ -31,4 +31,4 @@ shape_of-out c =
 
 pub returns : goal.returns
 returns c =
-    all-filled _ _ _ (fill_end c.loop-i.invariant.2 (rows_end _ _ _ c.loop-i-test.false))
+    all_filled _ _ _ (fill_end c.loop-i.invariant.2 (rows_end _ _ _ c.loop-i-test.false))

@@ -1,8 +1,8 @@
 use Prim.Native.Nat.{◌+◌}
 use mathlib.Core.Path.{refl}
 use native.Mathlib.Omega.{arith}
-use Rattle.wire.proofs.Writing.Plain.{going_start, going-turn, going-odd, going_end}
-use Rattle.pairs.proofs.Pairs.{pair-plain, pair-odd}
+use Rattle.wire.proofs.Writing.Plain.{going_start, going_turn, going_odd, going_end}
+use Rattle.pairs.proofs.Pairs.{pair_plain, pair_odd}
 use borrow.Author.Rules.{rules}
 use borrow.Author.Tests.{not-false}
 use Rattle.pairs.proofs.writing.plain_pairs.Goals as goal
@@ -17,11 +17,11 @@ pair_fits-requires c =
 
 pub returns-then-not-pair_fits : goal.returns-then-not-pair_fits
 returns-then-not-pair_fits c =
-    going-odd c.loop-i.invariant (pair-odd c.args.table.now
+    going_odd c.loop-i.invariant (pair_odd c.args.table.now
     (c.args.r.first + c.loop-i.i) c.pair_fits.ensures c.if-not-pair_fits.true) refl
 
 pub loop-i-preserved : goal.loop-i-preserved
-loop-i-preserved c = search (rules, going-turn, pair-plain, not-false)
+loop-i-preserved c = search (rules, going_turn, pair_plain, not-false)
 
 pub returns : goal.returns
 returns c =

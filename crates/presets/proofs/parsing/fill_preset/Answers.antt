@@ -3,7 +3,7 @@ use mathlib.Core.Path.{refl}
 use mathlib.Core.Path.{ap}
 use native.Mathlib.Omega.{arith}
 use Rattle.presets.specs.declared.rows.GroupPreset.{GroupPreset}
-use Rattle.presets.proofs.Taken.{asked, preset-filled}
+use Rattle.presets.proofs.Taken.{asked, preset_filled}
 use Rattle.presets.proofs.parsing.fill_preset.Goals as goal
 
 pub preset_from-preset-requires : goal.preset_from-preset-requires
@@ -17,4 +17,4 @@ fill_conditions-next-requires c =
 
 pub returns : goal.returns
 returns c =
-    search (preset-filled, ap (λ (p : GroupPreset). p.conditions.count) c.preset_from-preset.ensures)
+    search (preset_filled, ap (λ (p : GroupPreset). p.conditions.count) c.preset_from-preset.ensures)

@@ -1,27 +1,27 @@
 -- `scene::parsing::fill` meets its contract: section after section.
 use mathlib.Core.Path.{ap, ◌∙◌}
 use Rattle.wire.specs.Bits.{part}
-use Rattle.scene.proofs.Found.{flags-so}
-use Rattle.scene.proofs.Stored.{groups-ask, switches-ask, presets-ask, stored}
+use Rattle.scene.proofs.Found.{flags_so}
+use Rattle.scene.proofs.Stored.{groups_ask, switches_ask, presets_ask, stored}
 use Rattle.scene.proofs.parsing.fill.Goals as goal
 
 pub fill_groups_section-requires : goal.fill_groups_section-requires
 fill_groups_section-requires c =
-    groups-ask c.requires.0
+    groups_ask c.requires.0
     c.requires.1 _ _ _ _ _
     c.requires.2
     (c.part.ensures ∙ ap (part 7 1) c.wide-flags.ensures)
 
 pub fill_switch_groups_section-requires : goal.fill_switch_groups_section-requires
 fill_switch_groups_section-requires c =
-    switches-ask c.requires.0 c.requires.1 _ _ _ _ _ c.requires.2 (c.part-s.ensures ∙ ap (part 6 1) c.wide-flags.ensures)
+    switches_ask c.requires.0 c.requires.1 _ _ _ _ _ c.requires.2 (c.part-s.ensures ∙ ap (part 6 1) c.wide-flags.ensures)
 
 pub fill_presets_section-requires : goal.fill_presets_section-requires
 fill_presets_section-requires c =
-    presets-ask c.requires.0 c.requires.1 _ _ _ _ _ c.requires.2 (c.part-q.ensures ∙ ap (part 5 1) c.wide-flags.ensures)
+    presets_ask c.requires.0 c.requires.1 _ _ _ _ _ c.requires.2 (c.part-q.ensures ∙ ap (part 5 1) c.wide-flags.ensures)
 
 pub returns : goal.returns
 returns c =
     stored c.requires.0 c.requires.1 _ _ _ _ _
-    (flags-so c.wide-flags.ensures c.part.ensures c.part-s.ensures c.part-q.ensures)
+    (flags_so c.wide-flags.ensures c.part.ensures c.part-s.ensures c.part-q.ensures)
     c.requires.2 c.fill_groups_section.ensures c.fill_switch_groups_section.ensures c.fill_presets_section.ensures

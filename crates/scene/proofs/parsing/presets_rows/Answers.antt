@@ -5,7 +5,7 @@ use lib.ListN.{length}
 use Rattle.wire.specs.Reads.{ends_out}
 use Rattle.wire.specs.Layout.{kids}
 use Rattle.presets.specs.Layout.{presets}
-use Rattle.scene.proofs.Sections.{Begun, begins, size_small, section-cut-sum, section-sum}
+use Rattle.scene.proofs.Sections.{Begun, begins, size_small, section_cut_sum, section_sum}
 use Rattle.scene.proofs.parsing.presets_rows.Goals as goal
 
 pub head-a-requires : goal.head-a-requires
@@ -13,13 +13,13 @@ head-a-requires c = (c.requires, size_small c.args.flag c.size.ensures)
 
 pub returns-in_default : goal.returns-in_default
 returns-in_default c =
-    section-cut-sum presets 3 5 7 _ _ _ (λ l. length (kids l)) c.size.ensures c.head-a.ensures
+    section_cut_sum presets 3 5 7 _ _ _ (λ l. length (kids l)) c.size.ensures c.head-a.ensures
     (ap ends_out c.in_default.is) c.short.ensures
 
 pub count_at-requires : goal.count_at-requires
 count_at-requires c =
     let began : Begun c.args.body.now c.args.flag c.args.at c.in-At.n = begins _ _ _ c.requires c.size.ensures c.head-a.ensures (ap ends_out c.in-At.is) in
-    (began.there-is, omega arith)
+    (began.there_is, omega arith)
 
 pub measure_presets-requires : goal.measure_presets-requires
 measure_presets-requires c =
@@ -29,5 +29,5 @@ measure_presets-requires c =
 pub returns : goal.returns
 returns c =
     let began : Begun c.args.body.now c.args.flag c.args.at c.in-At.n = begins _ _ _ c.requires c.size.ensures c.head-a.ensures (ap ends_out c.in-At.is) in
-    section-sum presets 3 5 7 _ _ _ (λ l. length (kids l)) began c.count_at.ensures.0 (omega (arith, c.count_at.ensures.1))
+    section_sum presets 3 5 7 _ _ _ (λ l. length (kids l)) began c.count_at.ensures.0 (omega (arith, c.count_at.ensures.1))
     c.measure_presets.ensures

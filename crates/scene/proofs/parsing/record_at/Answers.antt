@@ -2,42 +2,42 @@
 use mathlib.Core.Path.{ap, ◌∙◌}
 use native.Mathlib.Omega.{arith}
 use Rattle.wire.specs.Bits.{part}
-use Rattle.scene.proofs.Found.{at-end, groups-there, switches-there, presets-there, flags-so, recorded}
+use Rattle.scene.proofs.Found.{at_end, groups_there, switches_there, presets_there, flags_so, recorded}
 use Rattle.scene.proofs.parsing.record_at.Goals as goal
 
 pub section_at-requires : goal.section_at-requires
 section_at-requires c =
-    (groups-there c.requires.0 (c.part-g.ensures ∙ ap (part 7 1) c.wide-flags.ensures), omega arith)
+    (groups_there c.requires.0 (c.part-g.ensures ∙ ap (part 7 1) c.wide-flags.ensures), omega arith)
 
 pub reserved_at-requires : goal.reserved_at-requires
 reserved_at-requires c =
-    (switches-there c.requires.0 (c.part-s.ensures ∙ ap (part 6 1) c.wide-flags.ensures), omega arith, omega arith, omega arith)
+    (switches_there c.requires.0 (c.part-s.ensures ∙ ap (part 6 1) c.wide-flags.ensures), omega arith, omega arith, omega arith)
 
 pub section_at-requires-2 : goal.section_at-requires-2
 section_at-requires-2 c =
-    (switches-there c.requires.0 (c.part-s.ensures ∙ ap (part 6 1) c.wide-flags.ensures), omega arith)
+    (switches_there c.requires.0 (c.part-s.ensures ∙ ap (part 6 1) c.wide-flags.ensures), omega arith)
 
 pub reserved_at-requires-2 : goal.reserved_at-requires-2
 reserved_at-requires-2 c =
-    (presets-there c.requires.0 (c.part-q.ensures ∙ ap (part 5 1) c.wide-flags.ensures), omega arith, omega arith, omega arith)
+    (presets_there c.requires.0 (c.part-q.ensures ∙ ap (part 5 1) c.wide-flags.ensures), omega arith, omega arith, omega arith)
 
 pub section_at-requires-3 : goal.section_at-requires-3
 section_at-requires-3 c =
-    (presets-there c.requires.0 (c.part-q.ensures ∙ ap (part 5 1) c.wide-flags.ensures), omega arith)
+    (presets_there c.requires.0 (c.part-q.ensures ∙ ap (part 5 1) c.wide-flags.ensures), omega arith)
 
 pub reserved_at-requires-3 : goal.reserved_at-requires-3
 reserved_at-requires-3 c =
-    (groups-there c.requires.0 (c.part-g.ensures ∙ ap (part 7 1) c.wide-flags.ensures), omega arith, omega arith, omega arith)
+    (groups_there c.requires.0 (c.part-g.ensures ∙ ap (part 7 1) c.wide-flags.ensures), omega arith, omega arith, omega arith)
 
 pub trailing_run-requires : goal.trailing_run-requires
 trailing_run-requires c =
-    (at-end c.requires.0, c.requires.1)
+    (at_end c.requires.0, c.requires.1)
 
 pub returns : goal.returns
 returns c =
     recorded c.requires.0
     c.requires.1
-    (flags-so c.wide-flags.ensures c.part-g.ensures c.part-s.ensures c.part-q.ensures)
+    (flags_so c.wide-flags.ensures c.part-g.ensures c.part-s.ensures c.part-q.ensures)
     (c.part.ensures ∙ ap (part 0 5) c.wide-flags.ensures)
     (c.part-2.ensures ∙ ap (part 0 8) c.wide.ensures)
     c.section_at.ensures c.reserved_at.ensures.0

@@ -1,15 +1,15 @@
 -- `scene::parsing::reserved_at` meets its contract.
-use Rattle.scene.proofs.Sections.{byte-there, reserved-there, reserved-absent}
+use Rattle.scene.proofs.Sections.{byte_there, reserved_there, reserved_absent}
 use Rattle.scene.proofs.parsing.reserved_at.Goals as goal
 
 pub bounds-body-at : goal.bounds-body-at
 bounds-body-at c =
-    byte-there _ _ _ c.if-flag-eq1.true c.requires.0
+    byte_there _ _ _ c.if-flag-eq1.true c.requires.0
 
 pub returns-then-flag-eq1 : goal.returns-then-flag-eq1
 returns-then-flag-eq1 c =
-    reserved-there _ _ _ _ _ c.args.ones c.if-flag-eq1.true c.wide.ensures c.part.ensures c.requires.2
+    reserved_there _ _ _ _ _ c.args.ones c.if-flag-eq1.true c.wide.ensures c.part.ensures c.requires.2
 
 pub returns-else-flag-eq1 : goal.returns-else-flag-eq1
 returns-else-flag-eq1 c =
-    reserved-absent _ _ _ _ _ _ c.if-flag-eq1.false c.requires.3
+    reserved_absent _ _ _ _ _ _ c.if-flag-eq1.false c.requires.3

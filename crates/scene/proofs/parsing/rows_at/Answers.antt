@@ -1,6 +1,6 @@
 -- `scene::parsing::rows_at` meets its contract.
 use native.Mathlib.Omega.{arith}
-use Rattle.scene.proofs.Sections.{size_small, rows-at-so}
+use Rattle.scene.proofs.Sections.{size_small, rows_at_so}
 use Rattle.scene.proofs.parsing.rows_at.Goals as goal
 
 pub overflow_add-result : goal.overflow_add-result
@@ -9,4 +9,4 @@ overflow_add-result c =
 
 pub returns : goal.returns
 returns c =
-    rows-at-so _ _ c.size.ensures
+    rows_at_so _ _ c.size.ensures

@@ -3,25 +3,25 @@ use mathlib.Core.Path.{refl, ap, ◌∙◌}
 use native.Mathlib.Omega.{arith}
 use Rattle.wire.specs.Bits.{part, zeros}
 use Rattle.wire.specs.Reads.{is_done}
-use Rattle.scene.proofs.Found.{groups-stand, switches-stand, presets-stand, at-switches, at-presets, flags-so}
-use Rattle.scene.proofs.Tallied.{zeros-so}
+use Rattle.scene.proofs.Found.{groups_stand, switches_stand, presets_stand, at_switches, at_presets, flags_so}
+use Rattle.scene.proofs.Tallied.{zeros_so}
 use Rattle.scene.proofs.tallying.zero_bits.Goals as goal
 
 pub groups_zeros-g-requires : goal.groups_zeros-g-requires
 groups_zeros-g-requires c =
-    let e = c.part-2.ensures ∙ ap (part 7 1) c.wide-flags.ensures in let w = groups-stand c.requires.0 in rw e (w.there-is, ap is_done w.reads, omega arith)
+    let e = c.part-2.ensures ∙ ap (part 7 1) c.wide-flags.ensures in let w = groups_stand c.requires.0 in rw e (w.there_is, ap is_done w.reads, omega arith)
 
 pub switch_groups_zeros-s-requires : goal.switch_groups_zeros-s-requires
 switch_groups_zeros-s-requires c =
-    let e = c.part-3.ensures ∙ ap (part 6 1) c.wide-flags.ensures in let w = switches-stand c.requires.0 in rw e (w.there-is, ap is_done w.reads, omega (arith, at-switches c.requires.0, c.requires.1))
+    let e = c.part-3.ensures ∙ ap (part 6 1) c.wide-flags.ensures in let w = switches_stand c.requires.0 in rw e (w.there_is, ap is_done w.reads, omega (arith, at_switches c.requires.0, c.requires.1))
 
 pub presets_zeros-requires : goal.presets_zeros-requires
 presets_zeros-requires c =
-    let e = c.part-4.ensures ∙ ap (part 5 1) c.wide-flags.ensures in let w = presets-stand c.requires.0 in rw e (w.there-is, ap is_done w.reads, omega (arith, at-presets c.requires.0, c.requires.1))
+    let e = c.part-4.ensures ∙ ap (part 5 1) c.wide-flags.ensures in let w = presets_stand c.requires.0 in rw e (w.there_is, ap is_done w.reads, omega (arith, at_presets c.requires.0, c.requires.1))
 
 pub returns : goal.returns
 returns c =
-    zeros-so c.requires.0 c.requires.1
-    (flags-so c.wide-flags.ensures c.part-2.ensures c.part-3.ensures c.part-4.ensures) refl
+    zeros_so c.requires.0 c.requires.1
+    (flags_so c.wide-flags.ensures c.part-2.ensures c.part-3.ensures c.part-4.ensures) refl
     (c.idle_bits-top.ensures ∙ ap (zeros 5) (c.part.ensures ∙ ap (part 0 5) c.wide-flags.ensures))
     c.groups_zeros-g.ensures.0 c.switch_groups_zeros-s.ensures.0 c.presets_zeros.ensures.0

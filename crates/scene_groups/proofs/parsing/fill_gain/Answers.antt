@@ -1,18 +1,18 @@
 -- `fill_gain` stores the columns of a gain that is there; of one that is not, it stores zeros.
 use mathlib.Core.Path.{ap}
-use Rattle.wire.proofs.Layouts.Straight.{size-there}
+use Rattle.wire.proofs.Layouts.Straight.{size_there}
 use Rattle.wire.specs.Straight.{blanks}
 use Rattle.scene_groups.specs.Rows.{gain_row}
-use Rattle.scene_groups.proofs.Groups.{gain-there, put-there, put-none}
+use Rattle.scene_groups.proofs.Groups.{gain_there, put_there, put_none}
 use Rattle.scene_groups.proofs.parsing.fill_gain.Goals as goal
 
 pub gain_from-g-requires : goal.gain_from-g-requires
-gain_from-g-requires c = size-there 2 _ _ _ c.if-present-eq1.true c.requires.0
+gain_from-g-requires c = size_there 2 _ _ _ c.if-present-eq1.true c.requires.0
 
 pub returns-then-present-eq1 : goal.returns-then-present-eq1
 returns-then-present-eq1 c =
-    search (put-there, gain-there, ap gain_row c.gain_from-g.ensures)
+    search (put_there, gain_there, ap gain_row c.gain_from-g.ensures)
 
 pub returns-else-present-eq1 : goal.returns-else-present-eq1
 unfolding blanks
-returns-else-present-eq1 c = search put-none
+returns-else-present-eq1 c = search put_none

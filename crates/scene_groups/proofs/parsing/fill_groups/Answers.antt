@@ -1,5 +1,5 @@
 use mathlib.Core.Path.{refl}
-use Rattle.wire.proofs.Reading.Loops.{fill-next, fill_end, first_done}
+use Rattle.wire.proofs.Reading.Loops.{fill_next, fill_end, first_done}
 use Rattle.wire.specs.Layout.{flat}
 use Rattle.scene_groups.specs.Layout.{group}
 use borrow.Author.Rules.{rules}
@@ -17,7 +17,7 @@ fill_group-pos-requires c =
 pub loop-left-preserved : goal.loop-left-preserved
 loop-left-preserved c =
     let p = c.fill_group-pos.ensures in
-    fill-next (flat 27 group) (λ r. r) 27 _ _ _ _ 0 _ _ _ _ c.loop-left.invariant c.loop-left-test.true p.read
+    fill_next (flat 27 group) (λ r. r) 27 _ _ _ _ 0 _ _ _ _ c.loop-left.invariant c.loop-left-test.true p.read
     refl p.long refl p.stored
 
 pub returns : goal.returns

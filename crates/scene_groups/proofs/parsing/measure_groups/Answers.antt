@@ -1,7 +1,7 @@
 use mathlib.Core.Path.{refl, ap, sym, ◌∙◌}
 use Rattle.wire.specs.Reads.{ends_out}
-use Rattle.wire.proofs.Reading.Walk.{as-done, as_short}
-use Rattle.wire.proofs.Reading.Loops.{carry-turn, carry-cut, carry-end}
+use Rattle.wire.proofs.Reading.Walk.{as_done, as_short}
+use Rattle.wire.proofs.Reading.Loops.{carry_turn, carry_cut, carry_end}
 use Rattle.scene_groups.proofs.parsing.measure_groups.Goals as goal
 
 pub loop-left-init : goal.loop-left-init
@@ -15,13 +15,13 @@ group_end-a-requires c =
 pub returns-in_default : goal.returns-in_default
 returns-in_default c =
     let q = as_short (λ g. tt) _ (sym c.group_end-a.ensures ∙ ap ends_out c.in_default.is) in
-    ap ends_out c.in_default.is ∙ carry-cut c.loop-left.invariant c.loop-left-test.true q
+    ap ends_out c.in_default.is ∙ carry_cut c.loop-left.invariant c.loop-left-test.true q
 
 pub loop-left-preserved : goal.loop-left-preserved
 loop-left-preserved c =
-    let (g, e, q) = as-done (λ g. tt) _ (sym c.group_end-a.ensures ∙ ap ends_out c.in-At.is) in
-    carry-turn c.loop-left.invariant c.loop-left-test.true e (λ l. refl)
+    let (g, e, q) = as_done (λ g. tt) _ (sym c.group_end-a.ensures ∙ ap ends_out c.in-At.is) in
+    carry_turn c.loop-left.invariant c.loop-left-test.true e (λ l. refl)
 
 pub returns : goal.returns
 returns c =
-    carry-end c.loop-left.invariant c.loop-left-test.false
+    carry_end c.loop-left.invariant c.loop-left-test.false

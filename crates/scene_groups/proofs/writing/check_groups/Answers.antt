@@ -1,10 +1,10 @@
 -- `check_groups` counts the plain rows, and names the fault of the first that is not.
-use Rattle.wire.proofs.Writing.Plain.{plain-odd, plain_end}
-use Rattle.scene_groups.proofs.Writes.{row-acts}
+use Rattle.wire.proofs.Writing.Plain.{plain_odd, plain_end}
+use Rattle.scene_groups.proofs.Writes.{row_acts_lem}
 use Rattle.scene_groups.proofs.writing.check_groups.Goals as goal
 
 pub returns-then-i-count : goal.returns-then-i-count
-returns-then-i-count c = plain-odd _ 13 _ _ c.plain_rows-p.ensures c.if-i-count.true (rw row-acts at c.check_group.ensures)
+returns-then-i-count c = plain_odd _ 13 _ _ c.plain_rows-p.ensures c.if-i-count.true (rw row_acts_lem at c.check_group.ensures)
 
 pub returns-else-i-count : goal.returns-else-i-count
 returns-else-i-count c = plain_end _ 13 _ _ c.plain_rows-p.ensures c.if-i-count.false

@@ -3,9 +3,9 @@ use mathlib.Core.List.{[], ◌∷◌}
 use mathlib.Core.Path.{sym, ◌∙◌}
 use native.Mathlib.Omega.{arith}
 use Rattle.wire.proofs.Writing.Passes.{more}
-use Rattle.frame.proofs.Passes.{run-outside, all-looked}
+use Rattle.frame.proofs.Passes.{run_outside, all_looked}
 use Rattle.scene_kind.specs.Kind.{kind}
-use Rattle.scene_writing.proofs.Writes.{scene-acts}
+use Rattle.scene_writing.proofs.Writes.{scene_acts_lem}
 use Rattle.scene_writing.proofs.writing.check.Goals as goal
 
 pub payload_run-requires : goal.payload_run-requires
@@ -17,9 +17,9 @@ unfolding kind
 returns-then-in_store c =
     let e = sym c.in_store.ensures ∙ c.if-in_store.true in
     more 71345
-    (all-looked kind (scene-acts c.args.m (c.args.groups.now ∷ c.args.switch_groups.now ∷ c.args.members.now ∷ c.args.presets.now ∷ c.args.conditions.now ∷ []) c.args.store.now) e c.check_fields-p.ensures c.payload_run.ensures.0)
+    (all_looked kind (scene_acts_lem c.args.m (c.args.groups.now ∷ c.args.switch_groups.now ∷ c.args.members.now ∷ c.args.presets.now ∷ c.args.conditions.now ∷ []) c.args.store.now) e c.check_fields-p.ensures c.payload_run.ensures.0)
     (omega (arith, c.payload_run.ensures.1))
 
 pub returns-else-in_store : goal.returns-else-in_store
 unfolding kind
-returns-else-in_store c = run-outside kind c.args.m (c.args.groups.now ∷ c.args.switch_groups.now ∷ c.args.members.now ∷ c.args.presets.now ∷ c.args.conditions.now ∷ []) c.args.store.now (sym c.in_store.ensures ∙ c.if-in_store.false) _
+returns-else-in_store c = run_outside kind c.args.m (c.args.groups.now ∷ c.args.switch_groups.now ∷ c.args.members.now ∷ c.args.presets.now ∷ c.args.conditions.now ∷ []) c.args.store.now (sym c.in_store.ensures ∙ c.if-in_store.false) _

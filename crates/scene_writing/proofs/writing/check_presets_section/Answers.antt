@@ -1,7 +1,7 @@
 -- `scene_writing::writing::check_presets_section` meets its contract: the byte of the section, then its rows.
 use native.Mathlib.Omega.{arith}
-use Rattle.wire.proofs.Writing.Plain.{all-checked}
-use Rattle.wire.proofs.Writing.Parts.{part-stops, part-goes, part-absent, rows-there}
+use Rattle.wire.proofs.Writing.Plain.{all_checked}
+use Rattle.wire.proofs.Writing.Parts.{part_stops, part_goes, part_absent, rows_there}
 use Rattle.scene_writing.specs.Write.{section_acts}
 use Rattle.scene_writing.proofs.Writes.{count_fits}
 use Rattle.scene_writing.proofs.writing.check_presets_section.Goals as goal
@@ -9,19 +9,19 @@ use Rattle.scene_writing.proofs.writing.check_presets_section.Goals as goal
 pub returns-in_default : goal.returns-in_default
 unfolding section_acts
 returns-in_default c =
-    part-stops _ _ _ 3070 c.if-s.true
-    (all-checked c.count_byte.ensures c.check_all-p1.ensures) c.in_default.is (omega arith)
+    part_stops _ _ _ 3070 c.if-s.true
+    (all_checked c.count_byte.ensures c.check_all-p1.ensures) c.in_default.is (omega arith)
 
 pub check_presets-requires : goal.check_presets-requires
 check_presets-requires c =
-    let w = all-checked c.count_byte.ensures c.check_all-p1.ensures in let n = rw c.in-At.is at w.near in (rows-there _ _ 7 _ (omega arith) c.requires.0 c.if-s.true, count_fits 3 5 _ c.args.m.presets w c.in-At.is, omega (arith, n, c.requires.1))
+    let w = all_checked c.count_byte.ensures c.check_all-p1.ensures in let n = rw c.in-At.is at w.near in (rows_there _ _ 7 _ (omega arith) c.requires.0 c.if-s.true, count_fits 3 5 _ c.args.m.presets w c.in-At.is, omega (arith, n, c.requires.1))
 
 pub returns-in-At : goal.returns-in-At
 unfolding section_acts
 returns-in-At c =
-    let w = all-checked c.count_byte.ensures c.check_all-p1.ensures in part-goes _ _ _ 3070 c.if-s.true w c.in-At.is c.check_presets.ensures (omega (arith, count_fits 3 5 _ c.args.m.presets w c.in-At.is))
+    let w = all_checked c.count_byte.ensures c.check_all-p1.ensures in part_goes _ _ _ 3070 c.if-s.true w c.in-At.is c.check_presets.ensures (omega (arith, count_fits 3 5 _ c.args.m.presets w c.in-At.is))
 
 pub returns-else-s : goal.returns-else-s
 unfolding section_acts
 returns-else-s c =
-    part-absent _ _ 3070 _ c.if-s.false
+    part_absent _ _ 3070 _ c.if-s.false

@@ -4,32 +4,32 @@ use mathlib.Core.List.{List}
 use native.Mathlib.Omega.{arith}
 use Rattle.wire.specs.Act.{Act, rows}
 use Rattle.wire.specs.Layout.{family_acts}
-use Rattle.wire.proofs.Writing.Passes.{Filling, fill-last}
-use Rattle.wire.proofs.Writing.Plain.{ready-part, fill-part}
+use Rattle.wire.proofs.Writing.Passes.{Filling, fill_last}
+use Rattle.wire.proofs.Writing.Plain.{ready_part, fill_part_lem}
 use Rattle.switch_groups.specs.Layout.{member, switch_group}
 use Rattle.scene_writing.specs.Write.{section_acts, switch_groups_acts}
-use Rattle.wire.proofs.Writing.Parts.{part-empty, rows-there}
-use Rattle.scene_writing.proofs.Writes.{section-begins}
+use Rattle.wire.proofs.Writing.Parts.{part_empty, rows_there}
+use Rattle.scene_writing.proofs.Writes.{section_begins}
 use Rattle.scene_writing.proofs.writing.fill_switch_groups_section.Goals as goal
 
 pub fill_all-n1-requires : goal.fill_all-n1-requires
 fill_all-n1-requires c =
-    ready-part _ c.count_byte.ensures
-    (section-begins _ _ _ c.if-s.true c.requires.1)
+    ready_part _ c.count_byte.ensures
+    (section_begins _ _ _ c.if-s.true c.requires.1)
 
 pub fill_switch_groups-requires : goal.fill_switch_groups-requires
 fill_switch_groups-requires c =
     let row : ℕ → List Act = family_acts switch_group 2 member c.args.switch_groups.now c.args.members.now in
-    let behind : Filling (switch_groups_acts c.args.m row) (rows row 0 c.args.m.switch_groups.count) c.args.n c.args.out.now c.fill_all-n1.result c.fill_all-n1.new.out = fill-part _ c.count_byte.ensures (section-begins _ _ _ c.if-s.true c.requires.1) c.fill_all-n1.ensures in
+    let behind : Filling (switch_groups_acts c.args.m row) (rows row 0 c.args.m.switch_groups.count) c.args.n c.args.out.now c.fill_all-n1.result c.fill_all-n1.new.out = fill_part_lem _ c.count_byte.ensures (section_begins _ _ _ c.if-s.true c.requires.1) c.fill_all-n1.ensures in
     let w = behind in
-    (rows-there _ _ 9 _ (omega arith) c.requires.0 c.if-s.true, omega (arith, c.well_formed), w.ready)
+    (rows_there _ _ 9 _ (omega arith) c.requires.0 c.if-s.true, omega (arith, c.well_formed), w.ready)
 
 pub returns-then-s : goal.returns-then-s
 returns-then-s c =
     let row : ℕ → List Act = family_acts switch_group 2 member c.args.switch_groups.now c.args.members.now in
-    let behind : Filling (switch_groups_acts c.args.m row) (rows row 0 c.args.m.switch_groups.count) c.args.n c.args.out.now c.fill_all-n1.result c.fill_all-n1.new.out = fill-part _ c.count_byte.ensures (section-begins _ _ _ c.if-s.true c.requires.1) c.fill_all-n1.ensures in
-    fill-last behind c.fill_switch_groups.ensures
+    let behind : Filling (switch_groups_acts c.args.m row) (rows row 0 c.args.m.switch_groups.count) c.args.n c.args.out.now c.fill_all-n1.result c.fill_all-n1.new.out = fill_part_lem _ c.count_byte.ensures (section_begins _ _ _ c.if-s.true c.requires.1) c.fill_all-n1.ensures in
+    fill_last behind c.fill_switch_groups.ensures
 
 pub returns-else-s : goal.returns-else-s
 unfolding section_acts
-returns-else-s c = part-empty _ _ c.if-s.false
+returns-else-s c = part_empty _ _ c.if-s.false

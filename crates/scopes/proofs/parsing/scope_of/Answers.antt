@@ -4,12 +4,12 @@ use native.Mathlib.Omega.{arith}
 use borrow.Author.Tests.{eq-eqb, ne_eqb}
 use Rattle.wire.specs.Bits.{part}
 use Rattle.scopes.specs.declared.rows.DrcScope.TheVariants.{Group, Preset}
-use Rattle.scopes.proofs.Taken.{id-inside}
+use Rattle.scopes.proofs.Taken.{id_inside}
 use Rattle.scopes.proofs.parsing.scope_of.Goals as goal
 
 pub bounds-body-at : goal.bounds-body-at
 bounds-body-at c =
-    id-inside _ _ c.case_of-case.ensures c.if-case-eq1.true (omega arith) c.requires
+    id_inside _ _ c.case_of-case.ensures c.if-case-eq1.true (omega arith) c.requires
 
 pub returns-then-case-eq1 : goal.returns-then-case-eq1
 returns-then-case-eq1 c =
@@ -19,7 +19,7 @@ returns-then-case-eq1 c =
 
 pub bounds-body-at-then-case-eq2 : goal.bounds-body-at-then-case-eq2
 bounds-body-at-then-case-eq2 c =
-    id-inside _ _ c.case_of-case.ensures c.if-case-eq2.true (omega arith) c.requires
+    id_inside _ _ c.case_of-case.ensures c.if-case-eq2.true (omega arith) c.requires
 
 pub returns-then-case-eq2 : goal.returns-then-case-eq2
 returns-then-case-eq2 c =

@@ -1,6 +1,6 @@
 use mathlib.Core.Path.{refl}
 use Rattle.wire.specs.Layout.{flat}
-use Rattle.wire.proofs.Reading.Loops.{fill-next, fill_end, first_done}
+use Rattle.wire.proofs.Reading.Loops.{fill_next, fill_end, first_done}
 use Rattle.stream_groups.specs.Layout.{group}
 use Rattle.stream_groups.proofs.parsing.fill_groups.Goals as goal
 
@@ -12,7 +12,7 @@ group_at-p-requires c = (c.loop-left.invariant.inside, first_done (flat 5 group)
 
 pub loop-left-preserved : goal.loop-left-preserved
 loop-left-preserved c =
-    fill-next (flat 5 group) (λ r. r) 5 _ _ _ _ 0 _ _ _ _ c.loop-left.invariant c.loop-left-test.true c.group_at-p.ensures
+    fill_next (flat 5 group) (λ r. r) 5 _ _ _ _ 0 _ _ _ _ c.loop-left.invariant c.loop-left-test.true c.group_at-p.ensures
     refl refl c.columns-row.ensures c.put_row.ensures
 
 pub returns : goal.returns

@@ -1,7 +1,7 @@
 use Prim.Native.Nat.{◌+◌, ◌-◌}
 use mathlib.Core.Path.{refl}
 use native.Mathlib.Omega.{arith}
-use Rattle.stream_groups.proofs.Taken.{Sparing, spare-turn}
+use Rattle.stream_groups.proofs.Taken.{Sparing, spare_turn}
 use Rattle.stream_groups.proofs.parsing.quick_groups.Goals as goal
 use Rattle.stream_groups.proofs.parsing.quick_groups.Goals.{then-part-eq0+else-spare-eq0, else-part-eq0}
 
@@ -24,8 +24,8 @@ overflow_add-pos-in-loop-left c =
     let e = c.wide.ensures in
     let q = c.part.ensures in
     elim c.if-part-eq0.branch [
-      | then-part-eq0+else-spare-eq0 w ↦ spare-turn i t e q 1 (omega arith) (omega arith) w.spare-is w.pos-is
-      | else-part-eq0 w ↦ spare-turn i t e q 0 (omega arith) (omega arith) (omega arith) (omega arith)
+      | then-part-eq0+else-spare-eq0 w ↦ spare_turn i t e q 1 (omega arith) (omega arith) w.spare-is w.pos-is
+      | else-part-eq0 w ↦ spare_turn i t e q 0 (omega arith) (omega arith) (omega arith) (omega arith)
     ] in
     omega (arith, passed.room)
 
@@ -37,8 +37,8 @@ loop-left-preserved c =
     let e = c.wide.ensures in
     let q = c.part.ensures in
     elim c.if-part-eq0.branch [
-      | then-part-eq0+else-spare-eq0 w ↦ spare-turn i t e q 1 (omega arith) (omega arith) w.spare-is w.pos-is
-      | else-part-eq0 w ↦ spare-turn i t e q 0 (omega arith) (omega arith) (omega arith) (omega arith)
+      | then-part-eq0+else-spare-eq0 w ↦ spare_turn i t e q 1 (omega arith) (omega arith) w.spare-is w.pos-is
+      | else-part-eq0 w ↦ spare_turn i t e q 0 (omega arith) (omega arith) (omega arith) (omega arith)
     ] in
     passed
 

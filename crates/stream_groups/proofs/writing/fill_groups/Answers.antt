@@ -1,8 +1,8 @@
 use native.Mathlib.Omega.{arith}
 use native.Mathlib.Nat.{sub-zero}
-use Rattle.wire.proofs.Writing.Passes.{rows-turn, rows_end, fill_start, fill-row, fill-turn, fill_end}
-use Rattle.wire.proofs.Writing.Plain.{filled-long}
-use Rattle.stream_groups.proofs.Writes.{row-acts}
+use Rattle.wire.proofs.Writing.Passes.{rows_turn, rows_end, fill_start, fill_row_lem, fill_turn, fill_end}
+use Rattle.wire.proofs.Writing.Plain.{filled_long}
+use Rattle.stream_groups.proofs.Writes.{row_acts_lem}
 use Rattle.stream_groups.proofs.writing.fill_groups.Goals as goal
 
 pub loop-i-init : goal.loop-i-init
@@ -10,12 +10,12 @@ loop-i-init c = (omega arith, rw sub-zero (fill_start c.requires.2))
 
 pub fill_group-at-requires : goal.fill_group-at-requires
 fill_group-at-requires c =
-    rw (c.of_columns-g.ensures, row-acts) (fill-row _ _ c.loop-i.invariant.1 (rows-turn _ _ _ c.loop-i-test.true))
+    rw (c.of_columns-g.ensures, row_acts_lem) (fill_row_lem _ _ c.loop-i.invariant.1 (rows_turn _ _ _ c.loop-i-test.true))
 
 pub loop-i-preserved : goal.loop-i-preserved
 loop-i-preserved c =
-    let w = rw (c.of_columns-g.ensures, row-acts) at c.fill_group-at.ensures in
-    (omega arith, fill-turn c.loop-i.invariant.1 (rows-turn _ _ _ c.loop-i-test.true) (filled-long w) w)
+    let w = rw (c.of_columns-g.ensures, row_acts_lem) at c.fill_group-at.ensures in
+    (omega arith, fill_turn c.loop-i.invariant.1 (rows_turn _ _ _ c.loop-i-test.true) (filled_long w) w)
 
 pub shape_of-out : goal.shape_of-out
 shape_of-out c = c.loop-i.invariant.1.size

@@ -1,18 +1,18 @@
 use mathlib.Core.Path.{refl, ap, ◌∙◌}
 use native.Mathlib.Omega.{arith}
 use lib.Seq.{sets}
-use Rattle.wire.proofs.Layouts.Families.{families-start, family-ask, families-turn, families-end}
+use Rattle.wire.proofs.Layouts.Families.{families_start, family_ask, families_turn, families_end}
 use Rattle.switch_groups.specs.Layout.{member, switch_group}
 use Rattle.switch_groups.proofs.Switches.{fills}
 use Rattle.switch_groups.proofs.parsing.fill_switch_groups.Goals as goal
 
 pub loop-left-init : goal.loop-left-init
 loop-left-init c =
-    families-start switch_group 2 member _ _ _ _ _ c.requires.0
+    families_start switch_group 2 member _ _ _ _ _ c.requires.0
 
 pub fill_switch_group-p-requires : goal.fill_switch_group-p-requires
 fill_switch_group-p-requires c =
-    family-ask switch_group 2 member _ _ _ _ _ c.loop-left.invariant c.loop-left-test.true
+    family_ask switch_group 2 member _ _ _ _ _ c.loop-left.invariant c.loop-left-test.true
 
 pub overflow_add-to : goal.overflow_add-to
 overflow_add-to c =
@@ -21,10 +21,10 @@ overflow_add-to c =
 
 pub loop-left-preserved : goal.loop-left-preserved
 loop-left-preserved c =
-    families-turn switch_group 2 member _ _ _ _ _
+    families_turn switch_group 2 member _ _ _ _ _
     c.loop-left.invariant fills c.loop-left-test.true
     c.fill_switch_group-p.ensures (refl) (c.put_row.ensures ∙ ap (sets _ _) c.columns-row.ensures)
 
 pub returns : goal.returns
 returns c =
-    families-end switch_group 2 member _ _ _ _ _ c.loop-left.invariant c.loop-left-test.false
+    families_end switch_group 2 member _ _ _ _ _ c.loop-left.invariant c.loop-left-test.false

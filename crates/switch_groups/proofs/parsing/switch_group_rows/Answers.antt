@@ -2,11 +2,11 @@
 use mathlib.Core.Path.{ap}
 use native.Mathlib.Omega.{arith}
 use Rattle.wire.specs.Reads.{ends_out}
-use Rattle.switch_groups.proofs.Switches.{Two, two, two-lack, all-lack, all-got}
+use Rattle.switch_groups.proofs.Switches.{Two, two, two_lack, all_lack, all_got}
 use Rattle.switch_groups.proofs.parsing.switch_group_rows.Goals as goal
 
 pub returns-in_default : goal.returns-in_default
-returns-in_default c = search (two-lack, ap ends_out c.in_default.is)
+returns-in_default c = search (two_lack, ap ends_out c.in_default.is)
 
 pub bounds-body-at : goal.bounds-body-at
 bounds-body-at c =
@@ -24,10 +24,10 @@ pub returns-in_default-b : goal.returns-in_default-b
 returns-in_default-b c =
     -- behind the two bytes
     let after-1 : Two c.args.body.now c.args.at c.in-At.n = two _ _ c.requires c.head-a.ensures (ap ends_out c.in-At.is) in
-    search (all-lack, after-1, ap ends_out c.in_default-b.is)
+    search (all_lack, after-1, ap ends_out c.in_default-b.is)
 
 pub returns : goal.returns
 returns c =
     -- behind the two bytes
     let after-1 : Two c.args.body.now c.args.at c.in-At.n = two _ _ c.requires c.head-a.ensures (ap ends_out c.in-At.is) in
-    search (all-got, after-1, ap ends_out c.in-At-b.is)
+    search (all_got, after-1, ap ends_out c.in-At-b.is)

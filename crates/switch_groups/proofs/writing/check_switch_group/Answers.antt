@@ -8,7 +8,7 @@ use Rattle.wire.specs.declared.pen.Pen.TheVariants.{At}
 use Rattle.wire.proofs.Layouts.Families.{front_acts}
 use Rattle.switch_groups.specs.Layout.{switch_group}
 use Rattle.switch_groups.specs.Rows.{switch_group_cols}
-use Rattle.switch_groups.proofs.Writes.{front, front-behind, front-near, front-stopped, row-checked}
+use Rattle.switch_groups.proofs.Writes.{front, front_behind, front_near, front_stopped, row_checked}
 use Rattle.switch_groups.proofs.writing.check_switch_group.Goals as goal
 
 pub returns-in_default : goal.returns-in_default
@@ -18,7 +18,7 @@ returns-in_default c =
     (λ i. c.is_flag.ensures i && c.is_flag-2.ensures i)
     c.demand-p0.ensures c.demand-p1.ensures
     c.demand-p2.ensures c.head_bytes.ensures c.check_all-p3.ensures in
-    front-stopped c.args.members.now
+    front_stopped c.args.members.now
     c.args.g before-all
     c.in_default.is
 
@@ -29,7 +29,7 @@ check_pairs-p4-requires c =
     (λ i. c.is_flag.ensures i && c.is_flag-2.ensures i)
     c.demand-p0.ensures c.demand-p1.ensures
     c.demand-p2.ensures c.head_bytes.ensures c.check_all-p3.ensures in
-    ((front-behind c.args.members.now c.args.g before-all c.in-At.is).inside, omega (arith, front-near c.args.members.now c.args.g before-all c.in-At.is))
+    ((front_behind c.args.members.now c.args.g before-all c.in-At.is).inside, omega (arith, front_near c.args.members.now c.args.g before-all c.in-At.is))
 
 pub check_all-requires : goal.check_all-requires
 check_all-requires c =
@@ -38,7 +38,7 @@ check_all-requires c =
     (λ i. c.is_flag.ensures i && c.is_flag-2.ensures i)
     c.demand-p0.ensures c.demand-p1.ensures
     c.demand-p2.ensures c.head_bytes.ensures c.check_all-p3.ensures in
-    let h = (front-behind c.args.members.now c.args.g before-all c.in-At.is).few in (omega (arith, h, c.check_pairs-p4.ensures.near, front-near c.args.members.now c.args.g before-all c.in-At.is), omega arith)
+    let h = (front_behind c.args.members.now c.args.g before-all c.in-At.is).few in (omega (arith, h, c.check_pairs-p4.ensures.near, front_near c.args.members.now c.args.g before-all c.in-At.is), omega arith)
 
 pub returns : goal.returns
 returns c =
@@ -47,7 +47,7 @@ returns c =
     (λ i. c.is_flag.ensures i && c.is_flag-2.ensures i)
     c.demand-p0.ensures c.demand-p1.ensures
     c.demand-p2.ensures c.head_bytes.ensures c.check_all-p3.ensures in
-    row-checked
+    row_checked
     c.args.members.now
     c.args.g
     before-all c.in-At.is

@@ -3,7 +3,7 @@ use mathlib.Core.Path.{◌≡◌, sym, ap, ◌∙◌}
 use mathlib.Core.Bool.{Bool, ◌&&◌}
 use Prim.Native.Nat.{◌^◌}
 use lib.Dec.{leb, ltb}
-use Rattle.switch_groups.proofs.Writes.{id_fits, default_fits, fields-so}
+use Rattle.switch_groups.proofs.Writes.{id_fits, default_fits, fields_so}
 use Rattle.switch_groups.proofs.writing.fields_fit.Goals as goal
 use Rattle.switch_groups.proofs.writing.fields_fit.Goals.{then-four_fit, else-four_fit, then-fits, else-fits}
 
@@ -23,7 +23,7 @@ returns-then-g-le32 c =
       | else-fits w ↦ w.value-is ∙ w.if-fits.false ∙ ap (λ (x : Bool). x && leb g.members.count 32) (sym w.if-fits.false ∙ e)
     ] in
     let g = c.args.g in
-    c.two_fit.ensures ∙ ap (λ (x : Bool). x && default_fits g) (sym c.if-g-le32.true ∙ first_three) ∙ fields-so g
+    c.two_fit.ensures ∙ ap (λ (x : Bool). x && default_fits g) (sym c.if-g-le32.true ∙ first_three) ∙ fields_so g
 
 pub returns-else-g-le32 : goal.returns-else-g-le32
 returns-else-g-le32 c =
@@ -41,4 +41,4 @@ returns-else-g-le32 c =
       | else-fits w ↦ w.value-is ∙ w.if-fits.false ∙ ap (λ (x : Bool). x && leb g.members.count 32) (sym w.if-fits.false ∙ e)
     ] in
     let g = c.args.g in
-    c.if-g-le32.false ∙ ap (λ (x : Bool). x && default_fits g) (sym c.if-g-le32.false ∙ first_three) ∙ fields-so g
+    c.if-g-le32.false ∙ ap (λ (x : Bool). x && default_fits g) (sym c.if-g-le32.false ∙ first_three) ∙ fields_so g

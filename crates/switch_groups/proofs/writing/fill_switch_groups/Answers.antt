@@ -1,8 +1,8 @@
 use native.Mathlib.Omega.{arith}
 use native.Mathlib.Nat.{sub-zero}
-use Rattle.wire.proofs.Writing.Passes.{rows-turn, rows_end, fill_start, fill-row, fill-turn, fill_end}
-use Rattle.wire.proofs.Writing.Plain.{filled-long}
-use Rattle.switch_groups.proofs.Writes.{row-acts}
+use Rattle.wire.proofs.Writing.Passes.{rows_turn, rows_end, fill_start, fill_row_lem, fill_turn, fill_end}
+use Rattle.wire.proofs.Writing.Plain.{filled_long}
+use Rattle.switch_groups.proofs.Writes.{row_acts_lem}
 use Rattle.switch_groups.proofs.writing.fill_switch_groups.Goals as goal
 
 pub loop-i-init : goal.loop-i-init
@@ -11,13 +11,13 @@ loop-i-init c =
 
 pub fill_switch_group-at-requires : goal.fill_switch_group-at-requires
 fill_switch_group-at-requires c =
-    rw (c.of_columns-g.ensures, row-acts) (fill-row _ _ c.loop-i.invariant.1
-    (rows-turn _ _ _ c.loop-i-test.true))
+    rw (c.of_columns-g.ensures, row_acts_lem) (fill_row_lem _ _ c.loop-i.invariant.1
+    (rows_turn _ _ _ c.loop-i-test.true))
 
 pub loop-i-preserved : goal.loop-i-preserved
 loop-i-preserved c =
-    let w = rw (c.of_columns-g.ensures, row-acts) at c.fill_switch_group-at.ensures in
-    (omega arith, search (fill-turn, rows-turn, filled-long))
+    let w = rw (c.of_columns-g.ensures, row_acts_lem) at c.fill_switch_group-at.ensures in
+    (omega arith, search (fill_turn, rows_turn, filled_long))
 
 pub shape_of-out : goal.shape_of-out
 shape_of-out c =

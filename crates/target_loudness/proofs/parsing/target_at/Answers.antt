@@ -1,12 +1,12 @@
 -- `parsing::target_at` meets its contract.
 use Rattle.wire.specs.Straight.{blanks}
-use Rattle.wire.proofs.Layouts.Straight.{taken_none, size-there}
+use Rattle.wire.proofs.Layouts.Straight.{taken_none, size_there}
 use Rattle.target_loudness.specs.Layout.{target}
 use Rattle.target_loudness.proofs.parsing.target_at.Goals as goal
 
 pub target_from-requires : goal.target_from-requires
 target_from-requires c =
-    size-there _ _ _ _ c.if-present-eq1.true c.requires.0
+    size_there _ _ _ _ c.if-present-eq1.true c.requires.0
 
 pub returns-then-present-eq1 : goal.returns-then-present-eq1
 returns-then-present-eq1 c =

@@ -1,23 +1,23 @@
 -- `parsing::fill_language` meets its contract: its three bytes, and its three lists one after the other.
 use native.Mathlib.Omega.{arith}
-use Rattle.text_label.proofs.Filled.{groups-ask, switch-groups-ask, presets-ask, language-filled, letters-there}
+use Rattle.text_label.proofs.Filled.{groups_ask, switch_groups_ask, presets_ask, language_filled, letters_there}
 use borrow.Author.Rules.{rules}
 use Rattle.text_label.proofs.parsing.fill_language.Goals as goal
 
 pub letters_at-language-requires : goal.letters_at-language-requires
-letters_at-language-requires c = search letters-there
+letters_at-language-requires c = search letters_there
 
 pub fill_list-g-requires : goal.fill_list-g-requires
-fill_list-g-requires c = search (rules, groups-ask)
+fill_list-g-requires c = search (rules, groups_ask)
 
 pub fill_list-s-requires : goal.fill_list-s-requires
-fill_list-s-requires c = search (rules, switch-groups-ask)
+fill_list-s-requires c = search (rules, switch_groups_ask)
 
 pub fill_list-p-requires : goal.fill_list-p-requires
 fill_list-p-requires c =
-    (presets-ask _ _ _ _ c.requires c.fill_list-g.ensures c.row_after.ensures c.fill_list-s.ensures c.row_after-2.ensures, omega arith)
+    (presets_ask _ _ _ _ c.requires c.fill_list-g.ensures c.row_after.ensures c.fill_list-s.ensures c.row_after-2.ensures, omega arith)
 
 pub returns : goal.returns
 returns c =
-    language-filled _ _ _ _ c.requires c.fill_list-g.ensures c.row_after.ensures c.fill_list-s.ensures c.row_after-2.ensures
+    language_filled _ _ _ _ c.requires c.fill_list-g.ensures c.row_after.ensures c.fill_list-s.ensures c.row_after-2.ensures
     c.fill_list-p.ensures c.letters_at-language.ensures

@@ -1,13 +1,13 @@
 -- `tallying::zero_bits` meets its contract: the bits of the second byte, and those of the languages.
-use Rattle.text_label.proofs.Sighted.{two-measured, languages-done, count-few, whole-body, tallies-are}
+use Rattle.text_label.proofs.Sighted.{two_measured, languages_done, count_few, whole_body, tallies_are}
 use borrow.Author.Rules.{rules}
 use Rattle.text_label.proofs.tallying.zero_bits.Goals as goal
 
 pub bounds-body-1 : goal.bounds-body-1
-bounds-body-1 c = search (rules, two-measured)
+bounds-body-1 c = search (rules, two_measured)
 
 pub tally_languages-t-requires : goal.tally_languages-t-requires
-tally_languages-t-requires c = search (two-measured, whole-body, languages-done, count-few)
+tally_languages-t-requires c = search (two_measured, whole_body, languages_done, count_few)
 
 pub returns : goal.returns
-returns c = search tallies-are
+returns c = search tallies_are

@@ -3,9 +3,9 @@ use mathlib.Core.List.{[], ◌∷◌}
 use mathlib.Core.Path.{sym, ◌∙◌}
 use native.Mathlib.Omega.{arith}
 use Rattle.wire.proofs.Writing.Passes.{more}
-use Rattle.frame.proofs.Passes.{run-outside, all-looked}
+use Rattle.frame.proofs.Passes.{run_outside, all_looked}
 use Rattle.text_label.specs.Kind.{kind}
-use Rattle.text_label.proofs.Mirrored.{acts-are}
+use Rattle.text_label.proofs.Mirrored.{acts_are}
 use Rattle.text_label.proofs.writing.check.Goals as goal
 
 pub returns-then-in_store : goal.returns-then-in_store
@@ -13,9 +13,9 @@ unfolding kind
 returns-then-in_store c =
     let e = sym c.in_store.ensures ∙ c.if-in_store.true in
     more 794222
-    (all-looked kind (acts-are c.args.m c.args.languages.now c.args.entries.now c.args.store.now) e c.check_fields.ensures c.run.ensures)
+    (all_looked kind (acts_are c.args.m c.args.languages.now c.args.entries.now c.args.store.now) e c.check_fields.ensures c.run.ensures)
     (omega arith)
 
 pub returns-else-in_store : goal.returns-else-in_store
 unfolding kind
-returns-else-in_store c = run-outside kind c.args.m (c.args.languages.now ∷ (c.args.entries.now ∷ [])) c.args.store.now (sym c.in_store.ensures ∙ c.if-in_store.false) _
+returns-else-in_store c = run_outside kind c.args.m (c.args.languages.now ∷ (c.args.entries.now ∷ [])) c.args.store.now (sym c.in_store.ensures ∙ c.if-in_store.false) _

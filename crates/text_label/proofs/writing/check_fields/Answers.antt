@@ -2,25 +2,25 @@
 use mathlib.Core.Path.{sym, ◌∙◌}
 use native.Mathlib.Omega.{arith}
 use Rattle.wire.proofs.Writing.Passes.{then, more, passed, refused, stopped, here}
-use Rattle.wire.proofs.Writing.Plain.{all-checked}
+use Rattle.wire.proofs.Writing.Plain.{all_checked}
 use Rattle.text_label.specs.Write.{text_label_acts}
-use Rattle.text_label.proofs.Written.{languages-few, languages-there}
+use Rattle.text_label.proofs.Written.{languages_few, languages_there}
 use Rattle.text_label.proofs.writing.check_fields.Goals as goal
 
 pub returns-in_default : goal.returns-in_default
 unfolding text_label_acts
 returns-in_default c =
     rw (sym c.has_rows.ensures ∙ c.if-has_rows.true)
-    (passed _ 0 (passed _ 0 (passed _ 0 (more 728687 (then (all-checked c.head_bytes.ensures c.check_all-p.ensures) (stopped _ 0 c.in_default.is)) (omega arith)))))
+    (passed _ 0 (passed _ 0 (passed _ 0 (more 728687 (then (all_checked c.head_bytes.ensures c.check_all-p.ensures) (stopped _ 0 c.in_default.is)) (omega arith)))))
 
 pub check_languages-requires : goal.check_languages-requires
 check_languages-requires c =
-    let w = all-checked c.head_bytes.ensures c.check_all-p.ensures in let n = rw c.in-At.is at w.near in (languages-there c.args.m.languages c.args.languages.now c.has_rows.ensures c.if-has_rows.true, languages-few c.args.m w c.in-At.is, omega (arith, n))
+    let w = all_checked c.head_bytes.ensures c.check_all-p.ensures in let n = rw c.in-At.is at w.near in (languages_there c.args.m.languages c.args.languages.now c.has_rows.ensures c.if-has_rows.true, languages_few c.args.m w c.in-At.is, omega (arith, n))
 
 pub returns-in-At : goal.returns-in-At
 unfolding text_label_acts
 returns-in-At c =
-    let w = all-checked c.head_bytes.ensures c.check_all-p.ensures in let k = languages-few c.args.m w c.in-At.is in rw (sym c.has_rows.ensures ∙ c.if-has_rows.true) (passed _ 0 (passed _ 0 (passed _ 0 (more 728687 (then w (here c.in-At.is c.check_languages.ensures)) (omega (arith, k))))))
+    let w = all_checked c.head_bytes.ensures c.check_all-p.ensures in let k = languages_few c.args.m w c.in-At.is in rw (sym c.has_rows.ensures ∙ c.if-has_rows.true) (passed _ 0 (passed _ 0 (passed _ 0 (more 728687 (then w (here c.in-At.is c.check_languages.ensures)) (omega (arith, k))))))
 
 pub returns-else-has_rows : goal.returns-else-has_rows
 unfolding text_label_acts

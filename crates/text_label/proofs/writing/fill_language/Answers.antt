@@ -4,8 +4,8 @@ use mathlib.Core.Bool.{true}
 use mathlib.Core.Path.{refl}
 use native.Mathlib.Omega.{arith}
 use Rattle.wire.specs.Act.{Act, byte, when}
-use Rattle.wire.proofs.Writing.Passes.{Filling, fill_start, fill-demand, fill-row, fill-turn, fill-last, demanded}
-use Rattle.wire.proofs.Writing.Plain.{ready-part, fill-part}
+use Rattle.wire.proofs.Writing.Passes.{Filling, fill_start, fill_demand, fill_row_lem, fill_turn, fill_last, demanded}
+use Rattle.wire.proofs.Writing.Plain.{ready_part, fill_part_lem}
 use Rattle.labels.specs.Write.{list_acts}
 use Rattle.text_label.specs.Write.{letter_fields, language_acts}
 use Rattle.text_label.proofs.Written.{Within, all_three}
@@ -19,8 +19,8 @@ fill_all-n1-requires c =
     let left-3 : List Act = list_acts 5 c.args.entries.now c.args.store.now c.args.l.presets in
     let left-2 : List Act = list_acts 5 c.args.entries.now c.args.store.now c.args.l.switch_groups ++ left-3 in
     let left-1 : List Act = list_acts 7 c.args.entries.now c.args.store.now c.args.l.groups ++ left-2 in
-    let after-0 : Filling all (when true (map byte (letter_fields c.args.l.language)) ++ left-1) c.args.n c.args.out.now c.args.n c.args.out.now = fill-demand (fill-demand (fill-demand (fill_start c.requires))) in
-    ready-part _ c.letter_bytes.ensures after-0
+    let after-0 : Filling all (when true (map byte (letter_fields c.args.l.language)) ++ left-1) c.args.n c.args.out.now c.args.n c.args.out.now = fill_demand (fill_demand (fill_demand (fill_start c.requires))) in
+    ready_part _ c.letter_bytes.ensures after-0
 
 pub fill_list-n2-requires : goal.fill_list-n2-requires
 unfolding language_acts
@@ -31,9 +31,9 @@ fill_list-n2-requires c =
     let left-3 : List Act = list_acts 5 c.args.entries.now c.args.store.now c.args.l.presets in
     let left-2 : List Act = list_acts 5 c.args.entries.now c.args.store.now c.args.l.switch_groups ++ left-3 in
     let left-1 : List Act = list_acts 7 c.args.entries.now c.args.store.now c.args.l.groups ++ left-2 in
-    let after-0 : Filling all (when true (map byte (letter_fields c.args.l.language)) ++ left-1) c.args.n c.args.out.now c.args.n c.args.out.now = fill-demand (fill-demand (fill-demand (fill_start c.requires))) in
-    let after-1 : Filling all left-1 c.args.n c.args.out.now c.fill_all-n1.result c.fill_all-n1.new.out = fill-part _ c.letter_bytes.ensures after-0 c.fill_all-n1.ensures in
-    (rows.groups, fill-row _ _ after-1 refl, omega arith)
+    let after-0 : Filling all (when true (map byte (letter_fields c.args.l.language)) ++ left-1) c.args.n c.args.out.now c.args.n c.args.out.now = fill_demand (fill_demand (fill_demand (fill_start c.requires))) in
+    let after-1 : Filling all left-1 c.args.n c.args.out.now c.fill_all-n1.result c.fill_all-n1.new.out = fill_part_lem _ c.letter_bytes.ensures after-0 c.fill_all-n1.ensures in
+    (rows.groups, fill_row_lem _ _ after-1 refl, omega arith)
 
 pub fill_list-n3-requires : goal.fill_list-n3-requires
 unfolding language_acts
@@ -44,10 +44,10 @@ fill_list-n3-requires c =
     let left-3 : List Act = list_acts 5 c.args.entries.now c.args.store.now c.args.l.presets in
     let left-2 : List Act = list_acts 5 c.args.entries.now c.args.store.now c.args.l.switch_groups ++ left-3 in
     let left-1 : List Act = list_acts 7 c.args.entries.now c.args.store.now c.args.l.groups ++ left-2 in
-    let after-0 : Filling all (when true (map byte (letter_fields c.args.l.language)) ++ left-1) c.args.n c.args.out.now c.args.n c.args.out.now = fill-demand (fill-demand (fill-demand (fill_start c.requires))) in
-    let after-1 : Filling all left-1 c.args.n c.args.out.now c.fill_all-n1.result c.fill_all-n1.new.out = fill-part _ c.letter_bytes.ensures after-0 c.fill_all-n1.ensures in
-    let after-2 : Filling all left-2 c.args.n c.args.out.now c.fill_list-n2.result c.fill_list-n2.new.out = fill-turn after-1 refl c.fill_list-n2.auto.out c.fill_list-n2.ensures in
-    (rows.switch-groups, fill-row _ _ after-2 refl, omega arith)
+    let after-0 : Filling all (when true (map byte (letter_fields c.args.l.language)) ++ left-1) c.args.n c.args.out.now c.args.n c.args.out.now = fill_demand (fill_demand (fill_demand (fill_start c.requires))) in
+    let after-1 : Filling all left-1 c.args.n c.args.out.now c.fill_all-n1.result c.fill_all-n1.new.out = fill_part_lem _ c.letter_bytes.ensures after-0 c.fill_all-n1.ensures in
+    let after-2 : Filling all left-2 c.args.n c.args.out.now c.fill_list-n2.result c.fill_list-n2.new.out = fill_turn after-1 refl c.fill_list-n2.auto.out c.fill_list-n2.ensures in
+    (rows.switch_groups, fill_row_lem _ _ after-2 refl, omega arith)
 
 pub fill_list-requires : goal.fill_list-requires
 unfolding language_acts
@@ -58,10 +58,10 @@ fill_list-requires c =
     let left-3 : List Act = list_acts 5 c.args.entries.now c.args.store.now c.args.l.presets in
     let left-2 : List Act = list_acts 5 c.args.entries.now c.args.store.now c.args.l.switch_groups ++ left-3 in
     let left-1 : List Act = list_acts 7 c.args.entries.now c.args.store.now c.args.l.groups ++ left-2 in
-    let after-0 : Filling all (when true (map byte (letter_fields c.args.l.language)) ++ left-1) c.args.n c.args.out.now c.args.n c.args.out.now = fill-demand (fill-demand (fill-demand (fill_start c.requires))) in
-    let after-1 : Filling all left-1 c.args.n c.args.out.now c.fill_all-n1.result c.fill_all-n1.new.out = fill-part _ c.letter_bytes.ensures after-0 c.fill_all-n1.ensures in
-    let after-2 : Filling all left-2 c.args.n c.args.out.now c.fill_list-n2.result c.fill_list-n2.new.out = fill-turn after-1 refl c.fill_list-n2.auto.out c.fill_list-n2.ensures in
-    let after-3 : Filling all left-3 c.args.n c.args.out.now c.fill_list-n3.result c.fill_list-n3.new.out = fill-turn after-2 refl c.fill_list-n3.auto.out c.fill_list-n3.ensures in
+    let after-0 : Filling all (when true (map byte (letter_fields c.args.l.language)) ++ left-1) c.args.n c.args.out.now c.args.n c.args.out.now = fill_demand (fill_demand (fill_demand (fill_start c.requires))) in
+    let after-1 : Filling all left-1 c.args.n c.args.out.now c.fill_all-n1.result c.fill_all-n1.new.out = fill_part_lem _ c.letter_bytes.ensures after-0 c.fill_all-n1.ensures in
+    let after-2 : Filling all left-2 c.args.n c.args.out.now c.fill_list-n2.result c.fill_list-n2.new.out = fill_turn after-1 refl c.fill_list-n2.auto.out c.fill_list-n2.ensures in
+    let after-3 : Filling all left-3 c.args.n c.args.out.now c.fill_list-n3.result c.fill_list-n3.new.out = fill_turn after-2 refl c.fill_list-n3.auto.out c.fill_list-n3.ensures in
     (rows.presets, after-3.ready, omega arith)
 
 pub returns : goal.returns
@@ -72,8 +72,8 @@ returns c =
     let left-3 : List Act = list_acts 5 c.args.entries.now c.args.store.now c.args.l.presets in
     let left-2 : List Act = list_acts 5 c.args.entries.now c.args.store.now c.args.l.switch_groups ++ left-3 in
     let left-1 : List Act = list_acts 7 c.args.entries.now c.args.store.now c.args.l.groups ++ left-2 in
-    let after-0 : Filling all (when true (map byte (letter_fields c.args.l.language)) ++ left-1) c.args.n c.args.out.now c.args.n c.args.out.now = fill-demand (fill-demand (fill-demand (fill_start c.requires))) in
-    let after-1 : Filling all left-1 c.args.n c.args.out.now c.fill_all-n1.result c.fill_all-n1.new.out = fill-part _ c.letter_bytes.ensures after-0 c.fill_all-n1.ensures in
-    let after-2 : Filling all left-2 c.args.n c.args.out.now c.fill_list-n2.result c.fill_list-n2.new.out = fill-turn after-1 refl c.fill_list-n2.auto.out c.fill_list-n2.ensures in
-    let after-3 : Filling all left-3 c.args.n c.args.out.now c.fill_list-n3.result c.fill_list-n3.new.out = fill-turn after-2 refl c.fill_list-n3.auto.out c.fill_list-n3.ensures in
-    fill-last after-3 c.fill_list.ensures
+    let after-0 : Filling all (when true (map byte (letter_fields c.args.l.language)) ++ left-1) c.args.n c.args.out.now c.args.n c.args.out.now = fill_demand (fill_demand (fill_demand (fill_start c.requires))) in
+    let after-1 : Filling all left-1 c.args.n c.args.out.now c.fill_all-n1.result c.fill_all-n1.new.out = fill_part_lem _ c.letter_bytes.ensures after-0 c.fill_all-n1.ensures in
+    let after-2 : Filling all left-2 c.args.n c.args.out.now c.fill_list-n2.result c.fill_list-n2.new.out = fill_turn after-1 refl c.fill_list-n2.auto.out c.fill_list-n2.ensures in
+    let after-3 : Filling all left-3 c.args.n c.args.out.now c.fill_list-n3.result c.fill_list-n3.new.out = fill_turn after-2 refl c.fill_list-n3.auto.out c.fill_list-n3.ensures in
+    fill_last after-3 c.fill_list.ensures

@@ -2,7 +2,7 @@
 use Prim.Native.Nat.{◌≤◌, ◌^◌}
 use native.Mathlib.Omega.{arith}
 use native.Mathlib.Nat.{mul-le-mul_right}
-use Rattle.wire.proofs.Reading.Steps.{whole-rows}
+use Rattle.wire.proofs.Reading.Steps.{whole_rows}
 use Rattle.wire.proofs.rows.has_rows.Goals as goal
 
 pub overflow_mul-result : goal.overflow_mul-result
@@ -11,4 +11,4 @@ overflow_mul-result c =
     record { fits = omega (arith, mul-le-mul_right c.args.columns h) }
 
 pub returns : goal.returns
-returns c = whole-rows _ _ _ c.requires.0
+returns c = whole_rows _ _ _ c.requires.0
