@@ -1,5 +1,5 @@
 -- Each test of the code is one of the definition.
-use Rattle.std.proofs.Common.{sym, ◌∙◌, arith}
+use Rattle.std.proofs.Common.{rules, sym, ◌∙◌, arith}
 use Rattle.bench.proofs.Decided.{nothing, as_base, as_scene, as_text_label, as_multi_stream, as_drc_loudness, unknown}
 use Rattle.bench.proofs.line.decide.Goals as goal
 
@@ -22,7 +22,7 @@ returns-then-kind-eq4 c =
 
 pub returns-then-kind-eq5 : goal.returns-then-kind-eq5
 returns-then-kind-eq5 c =
-    as_drc_loudness _ (omega arith) c.wide-kind.ensures c.if-kind-eq1.false c.if-kind-eq2.false c.if-kind-eq3.false c.if-kind-eq4.false c.if-kind-eq5.true c.drc_loudness_line.ensures
+    as_drc_loudness _ (omega arith) c.wide-kind.ensures c.if-kind-eq1.false c.if-kind-eq2.false c.if-kind-eq3.false c.if-kind-eq4.false c.if-kind-eq5.true (search rules)
 
 pub returns : goal.returns
 returns c =
