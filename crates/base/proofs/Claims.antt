@@ -15,24 +15,22 @@ use Rattle.wire.specs.Act.{pick}
 use Rattle.wire.specs.Layout.{put, puts, reads, shown, cells, tally, has}
 use Rattle.wire.specs.declared.rows.Payload.{Payload}
 use Rattle.wire.proofs.Fields.{part_below}
-use Rattle.frame.specs.Numbers.{accepted, refuses}
-use Rattle.frame.specs.Entry.{leaves, onto, into, Sound, Sizes, needs, lacking, filled, judging, sizes, placing, reading, measuring, tallying, gives, trail, writing}
+use Rattle.frame.specs.Numbers.{accepted, refuses, answer_of}
+use Rattle.frame.specs.Entry.{leaves, onto, into, Sound, needs, lacking, filled, judging, sizes, placing, reading, measuring, tallying, gives, trail, writing}
+use Rattle.frame.specs.Entry as E
 use Rattle.frame.specs.Body as B
 use Rattle.frame.specs.Body.{layouts, carried, parse, with_place, given, tables, zeros, heeds, heeded_rows}
 use Rattle.frame.specs.Claims.{none_read, Claims, Fixed}
-use Rattle.frame.proofs.Numbers.{refused_back, answer_by, fixes}
+use Rattle.frame.proofs.Numbers.{fixes}
 use Rattle.frame.proofs.Judged.{was, ran_well}
 use Rattle.frame.proofs.Lawful.{Samples}
 use Rattle.frame.proofs.Proofs as P
 use Rattle.base.specs.declared.rows.MpegH3dAudio.{MpegH3dAudio}
-use Rattle.base.specs.declared.Reading.{Reading}
-use Rattle.base.specs.declared.Reading.TheVariants as R
-use Rattle.base.specs.declared.Measured.{Measured}
-use Rattle.base.specs.declared.Measured.TheVariants as M
+use Rattle.base.specs.declared.Sizes.{Sizes}
 use Rattle.base.specs.Layout.{head}
 use Rattle.base.specs.Rows.{Tree, sets_of}
 use Rattle.base.specs.Kind.{kind}
-use Rattle.base.specs.Contract.{read, measured}
+use Rattle.base.specs.Contract.{sized, measured}
 use Rattle.base.proofs.Bodies.{no_sets, none_listed}
 use Rattle.base.proofs.Lawful.{lawful}
 use Rattle.base.proofs.Mirrored.{turned}
@@ -55,7 +53,7 @@ samples = record {
   size' = record { tables = []; before = 3 };
   measures = refl;
   measures' = refl;
-  sizes_differ = λ e. let z : ◌≡◌ {A = ℕ} 4 3 = ap (λ (s : Sizes). s.before) e in omega arith;
+  sizes_differ = λ e. let z : ◌≡◌ {A = ℕ} 4 3 = ap (λ (s : E.Sizes). s.before) e in omega arith;
   count = 0;
   count' = 8;
   tallies = refl;
@@ -136,17 +134,12 @@ flag body m e =
 
 -- ---- the promises fix the answers themselves
 
-read_back : (r : Reading) → answer_by R.Done R.Refused (read r) ≡ r
-read_back (R.Done m) = refl
-read_back (R.Refused x) = ap R.Refused (refused_back x)
+measure_of : E.Sizes → Sizes
+measure_of z = record { k = z.before }
 
-measure_of : Sizes → Measured
-measure_of z = M.Done (record { k = z.before })
-
-measured_back : (r : Measured) → answer_by measure_of M.Refused (measured r) ≡ r
+measured_back : (s : Sizes) → measure_of (sized s.k) ≡ s
 unfolding measure_of
-measured_back (M.Done s) = refl
-measured_back (M.Refused x) = ap M.Refused (refused_back x)
+measured_back s = refl
 
-pub fixed : Fixed kind read measured
-fixed = fixes claims read R.Done R.Refused read_back measured measure_of M.Refused measured_back
+pub fixed : Fixed kind answer_of measured
+fixed = fixes claims (λ s. sized s.k) measure_of measured_back

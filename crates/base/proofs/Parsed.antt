@@ -1,7 +1,7 @@
 -- The reading program of the base body: what is left of it behind its three bytes, what a run that is done says of the body, and what is known of a body that was
 -- measured.
 use Prim.Native.Nat.{ℕ, ◌+◌, ◌≤◌, ◌<◌}
-use mathlib.Core.Path.{◌≡◌, refl, sym, ap, subst, ◌∙◌}
+use mathlib.Core.Path.{◌≡◌, refl, sym, ap, ◌∙◌}
 use mathlib.Core.List.{List}
 use mathlib.Core.Bool.{Bool, true, false, not}
 use mathlib.Core.Option.{Option, some}
@@ -11,7 +11,7 @@ use lib.Dec.{eqb}
 use Rattle.wire.specs.Lists.{each}
 use Rattle.wire.specs.Bits.{part, total}
 use Rattle.wire.specs.Prog.{Prog, Out, ret, u8, pass, ◌>>=◌, done, short, run, span}
-use Rattle.wire.specs.Reads.{map_out, short_of, end_of, is_done, pos_of}
+use Rattle.wire.specs.Reads.{map_out, end_of, is_done, pos_of}
 use Rattle.wire.specs.Layout.{blank, reads}
 use Rattle.wire.specs.Straight.{ends, ones, took, taken}
 use Rattle.wire.specs.declared.reads.Short.{Short}
@@ -42,8 +42,8 @@ end_last : {A B : Type 0} (p : Prog A) (g : A → B) {whole : Prog B} {s : List 
 end_last {A} p g {whole} {s} {start} {at} w = go (run p s at) refl
   where
     go : (o : Out A) → run p s at ≡ o → end_of o ≡ end_of (run whole s start)
-    go (done a n) e = ap end_of (finished (onward p (λ a. ret (g a)) w refl e) refl)
-    go (short x) e = ap end_of (cut_off p (λ a. ret (g a)) w refl e (sym (ap short_of e)))
+    go (done a n) e = ap end_of (finished (onward p (λ a. ret (g a)) w (sym e)) refl)
+    go (short x) e = ap end_of (cut_off p (λ a. ret (g a)) w (sym e))
 
 -- ---- the compatible sets
 
@@ -142,23 +142,22 @@ sizes_are t k = refl
 
 -- ---- the first three bytes, as code finds them
 
-module _ (s : List ℕ) {o : Out (Unit {0})} (e : o ≡ ends (ones 3) s 0) where
-  pub three_cut : {x : Short} → o ≡ short x → o ≡ end_of (run kind.program s 0)
-  unfolding kind parse head took ones
-  three_cut d =
-      let q = read_so head blank s 0 ∙ ap (map_out (λ (u : Unit {0}). taken head blank s 0)) (sym e ∙ d) in
-      d ∙ ap end_of (cut_off (reads head blank) _ (begun kind.program s 0 (omega arith)) refl q (sym (ap short_of q)))
+module _ (s : List ℕ) where
+  module _ {x : Short} (e : short x ≡ ends (ones 3) s 0) where
+    pub three_cut : short x ≡ end_of (run kind.program s 0)
+    unfolding kind parse head took ones
+    three_cut =
+        let q = read_so head blank s 0 ∙ ap (map_out (λ (u : Unit {0}). taken head blank s 0)) (sym e) in
+        ap end_of (cut_off (reads head blank) _ (begun kind.program s 0 (omega arith)) (sym q))
 
-  -- such a body is refused before anything else is asked
-  pub headless : {x : Short} → o ≡ short x → Measures kind s (too_short (short_of o))
-  unfolding ones total
-  headless d =
-      let q = as_short (λ u. tt) (run kind.program s 0) (sym (three_cut d) ∙ d) in
-      subst (λ (y : Short). Measures kind s (too_short y)) (sym (ap short_of d)) (measures_short kind s (omega (arith, ends_few (ones 3) s 0 (sym e ∙ d))) q)
+    -- such a body is refused before anything else is asked
+    pub headless : Measures kind s (too_short x)
+    unfolding ones total
+    headless = measures_short kind s (omega (arith, ends_few (ones 3) s 0 (sym e))) (as_short (λ u. tt) (run kind.program s 0) (sym three_cut))
 
-  module _ {n : ℕ} (d : o ≡ done tt n) where
+  module _ {n : ℕ} (e : done tt n ≡ ends (ones 3) s 0) where
     pub three_there : Past s 0 3 n
-    three_there = ones_past 3 s 0 (omega arith) e d
+    three_there = ones_past 3 s 0 (omega arith) e
 
     -- and the sets behind them
     pub three_sets : {r : Out (Unit {0})} {v : ℕ} → v ≡ flag_of s → r ≡ end_of (run (sets (eqb v 1)) s n) → r ≡ end_of (run kind.program s 0)

@@ -5,7 +5,7 @@ use Rattle.wire.specs.Bits.{bit, Field, field}
 use Rattle.wire.specs.Act.{Act, demand, byte, copy, when, pick}
 use Rattle.wire.specs.Pen.{Checked}
 use Rattle.wire.specs.declared.pen.Fault.TheVariants as F
-use Rattle.wire.specs.declared.pen.Pen.{Pen}
+use Rattle.wire.specs.Pen.{Pen}
 use Rattle.base.specs.declared.rows.CompatibleSets.{CompatibleSets}
 use Rattle.base.specs.declared.rows.MpegH3dAudio.{MpegH3dAudio}
 

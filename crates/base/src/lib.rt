@@ -6,72 +6,49 @@ pub mod rows;
 mod writing;
 
 ghost use Rattle.std.specs.Prelude.{◌≡◌, []};
-ghost use Rattle.frame.specs.Numbers.{tallied, written};
+ghost use Rattle.frame.specs.Numbers.{answer_of, written};
 ghost use Rattle.frame.specs.Entry.{Reads, Measures, Tallies, Writes};
 ghost use Rattle.frame.specs.Body.{layouts};
 ghost use Rattle.wire.specs.Layout.{of, tally};
 ghost use Rattle.base.specs.Rows.{fields};
 ghost use Rattle.base.specs.Kind.{pieces, kind};
-ghost use Rattle.base.specs.Contract.{read, measured};
+ghost use Rattle.base.specs.Contract.{measured};
 
-use frame::{Refusal, Tallied, Written, write_bare};
+use frame::{Refusal, Unwritten, write_bare};
 use rows::MpegH3dAudio;
 use wire::bits::{idle_bits, wide};
-use wire::reads::Ends;
-
-// What reading answers: the top record, its trailing run included.
-#[derive(Clone, Copy)]
-pub enum Reading {
-    Done(MpegH3dAudio),
-    Refused(Refusal),
-}
 
 // What a body needs: the base has no tables, so only k, the bytes before the trailing run.
-#[derive(Clone, Copy)]
+#[derive(Clone, Copy, PartialEq, Eq)]
 pub struct Sizes {
     pub k: usize,
 }
 
-#[derive(Clone, Copy)]
-pub enum Measured {
-    Done(Sizes),
-    Refused(Refusal),
-}
-
 // What the body needs, or 2, or 1.
-pub fn measure(body: &[u8]) -> Measured
+pub fn measure(body: &[u8]) -> Result<Sizes, Refusal>
     ensures { Measures kind body.now (measured result) }
 {
     if 65535 < body.len() {
-        return Measured::Refused(Refusal::TooLong(body.len()));
+        return Err(Refusal::TooLong(body.len()));
     }
-    let e = parsing::end(body);
-    match e {
-        Ends::At(k) => Measured::Done(Sizes { k }),
-        Ends::Short(x) => Measured::Refused(Refusal::Short(x)),
-    }
+    let k = parsing::end(body)?;
+    Ok(Sizes { k })
 }
 
-// The record of a body, or 2, or 1.
-pub fn read(body: &[u8]) -> Reading
-    ensures { Reads kind body.now [] (read result) [] }
+// The record of a body, its trailing run included; or 2, or 1.
+pub fn read(body: &[u8]) -> Result<MpegH3dAudio, Refusal>
+    ensures { Reads kind body.now [] (answer_of result) [] }
 {
-    let m = measure(body);
-    match m {
-        Measured::Done(s) => Reading::Done(parsing::record_at(body, s)),
-        Measured::Refused(r) => Reading::Refused(r),
-    }
+    let s = measure(body)?;
+    Ok(parsing::record_at(body, s))
 }
 
 // The reserved bits at 0, or 2, or 1: all of them stand in the record.
-pub fn tally(body: &[u8]) -> Tallied
-    ensures { Tallies kind body.now (tallied result) }
+pub fn tally(body: &[u8]) -> Result<usize, Refusal>
+    ensures { Tallies kind body.now (answer_of result) }
 {
-    let m = measure(body);
-    match m {
-        Measured::Done(s) => Tallied::Done(zero_bits(parsing::record_at(body, s))),
-        Measured::Refused(r) => Tallied::Refused(r),
-    }
+    let s = measure(body)?;
+    Ok(zero_bits(parsing::record_at(body, s)))
 }
 
 fn zero_bits(m: MpegH3dAudio) -> usize
@@ -83,16 +60,13 @@ fn zero_bits(m: MpegH3dAudio) -> usize
 }
 
 // Writes the value at the front of the output, its payloads taken from the store: first the faults, then 10, then 4.
-pub fn write(m: MpegH3dAudio, store: &[u8], out: &mut [u8]) -> Written
+pub fn write(m: MpegH3dAudio, store: &[u8], out: &mut [u8]) -> Result<usize, Unwritten>
     ensures { Writes kind m [] store.now out.old (written result) out.new }
 {
     if !m.compatible_sets.present {
         return write_bare(&writing::head_bytes(m), m.trailing, store, out);
     }
-    let w = frame::judge(writing::check(m, store), out.len());
-    let Written::Done(_) = w else {
-        return w;
-    };
+    let n = frame::judge(writing::check(m, store), out.len())?;
     writing::fill(m, store, out);
-    w
+    Ok(n)
 }

@@ -14,45 +14,36 @@ ghost use Rattle.base.specs.Contract.{sized};
 use super::Sizes;
 use super::rows::{CompatibleSets, MpegH3dAudio};
 use wire::bits::{part, wide};
-use wire::reads::{Byte, Ends, Run, byte_at, head, run_at};
+use wire::reads::{Short, byte_at, head, run_at};
 use wire::rows::{Payload, trailing_run};
 
 // ---- measuring
 
 // Where the compatible sets end, which are there unless the flag says that they are absent.
-fn sets_end(body: &[u8], at: usize, absent: bool) -> Ends
+fn sets_end(body: &[u8], at: usize, absent: bool) -> Result<usize, Short>
     requires { at ≤ length body.now }
     ensures { ends_out result ≡ end_of (run (sets absent) body.now at) }
 {
     if absent {
-        return Ends::At(at);
+        return Ok(at);
     }
-    let a = byte_at(body, at);
-    let Byte::Got(count, first) = a else {
-        return Ends::Short(a.short());
-    };
-    let b = run_at(body, first, count as usize);
-    let Run::Got(_, next) = b else {
-        return Ends::Short(b.short());
-    };
-    Ends::At(next)
+    let (count, first) = byte_at(body, at)?;
+    let (_, next) = run_at(body, first, count as usize)?;
+    Ok(next)
 }
 
 // Where the three bytes before the sets end.
-pub fn head_end(body: &[u8]) -> Ends
+pub fn head_end(body: &[u8]) -> Result<usize, Short>
     ensures { ends_out result ≡ ends (ones 3) body.now 0 }
 {
     head(body, 0, 3)
 }
 
 // Where the trailing run begins: k.
-pub fn end(body: &[u8]) -> Ends
+pub fn end(body: &[u8]) -> Result<usize, Short>
     ensures { ends_out result ≡ end_of (run kind.program body.now 0) }
 {
-    let a = head_end(body);
-    let Ends::At(n) = a else {
-        return Ends::Short(a.short());
-    };
+    let n = head_end(body)?;
     sets_end(body, n, part(wide(body[1]), 6, 1) == 1)
 }
 

@@ -7,7 +7,7 @@ use wire::bits::{flag, ones};
 use wire::rows::Payload;
 
 // The CompatibleSetIndication list, where there is one.
-#[derive(Clone, Copy)]
+#[derive(Clone, Copy, PartialEq, Eq)]
 pub struct CompatibleSets {
     pub present: bool,
     pub indications: Payload,
@@ -36,7 +36,7 @@ impl CompatibleSets {
     }
 }
 
-#[derive(Clone, Copy)]
+#[derive(Clone, Copy, PartialEq, Eq)]
 pub struct MpegH3dAudio {
     pub profile_level_indication: u8,
     pub interactivity_enabled: bool,

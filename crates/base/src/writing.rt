@@ -1,7 +1,7 @@
 // Writing the base body in two passes, each in the Rust's order: the check pass names the first fault or the length, the fill pass stores the bytes.
 ghost use Rattle.std.specs.Prelude.{◌≡◌, true, [], ◌<◌, ◌^◌};
 ghost use Rattle.wire.specs.Pen.{reach, Checked, Ready, Filled};
-ghost use Rattle.wire.specs.declared.pen.Pen.TheVariants.{At};
+ghost use Rattle.wire.specs.Pen.{At};
 ghost use Rattle.frame.specs.Entry.{all_acts};
 ghost use Rattle.wire.specs.Spell.{Spells, Spelt};
 ghost use Rattle.base.specs.Kind.{kind};
@@ -10,7 +10,7 @@ ghost use Rattle.base.specs.Write.{flags_byte, head_fields, inside, listed, sets
 use super::rows::{CompatibleSets, MpegH3dAudio};
 use wire::bits::{fits, flag, wide};
 use wire::pen;
-use wire::pen::{Fault, Pen};
+use wire::pen::{Fault, Pen, Stopped};
 use wire::rows::in_store;
 use wire::spell::{Joined, check_all, fill_all, one, two};
 
@@ -75,10 +75,10 @@ fn check_fields(m: MpegH3dAudio, store: &[u8]) -> Pen
 {
     let sets = m.compatible_sets;
     if sets_inside(sets, store) {
-        let p = check_all(Pen::At(0), true, &head_bytes(m));
+        let p = check_all(Ok(0), true, &head_bytes(m));
         check_sets(p, sets)
     } else {
-        Pen::Stop(Fault::Range, 0)
+        Err(Stopped(Fault::Range, 0))
     }
 }
 
@@ -91,7 +91,7 @@ pub fn check(m: MpegH3dAudio, store: &[u8]) -> Pen
         let count = trailing.length;
         pen::run(check_fields(m, store), count as usize)
     } else {
-        Pen::Stop(Fault::Range, 0)
+        Err(Stopped(Fault::Range, 0))
     }
 }
 

@@ -1,6 +1,7 @@
 -- The bench program's line (document 01): number, first returned number, k and tally, of an input of one kind byte and a body.
-use Rattle.std.specs.Prelude.{ℕ, List, [], ◌∷◌, true, false, length, get_or, leb, eqb}
-use Rattle.frame.specs.Numbers.{Numbered, numbered, Answer, accepted, refused}
+use Rattle.std.specs.Prelude.{Result, Ok, Err, ℕ, List, [], ◌∷◌, true, false, length, get_or, leb, eqb}
+use Rattle.frame.specs.Numbers.{Numbered, numbered, Answer, accepted, refused, refusal}
+use Rattle.frame.specs.declared.Refusal.{Refusal}
 use Rattle.frame.specs.Kind.{Kind}
 use Rattle.frame.specs.Entry.{Sizes, measuring, tallying}
 use Rattle.base.specs.Kind as Base
@@ -13,6 +14,10 @@ use Rattle.bench.specs.declared.line.Line.{Line}
 -- k and tally are 0 on refusal
 abbrev pub refused_line : Numbered → Line
 refused_line x = record { number = x.number; first = get_or x.values 0 0; k = 0; tally = 0 }
+
+abbrev pub shown : Result Line Refusal → Line
+shown (Ok l) = l
+shown (Err r) = refused_line (refusal r)
 
 -- of a body that was measured
 abbrev pub tallied_line : ℕ → Answer ℕ → Line

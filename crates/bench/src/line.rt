@@ -1,12 +1,20 @@
 // The four numbers that the bench program prints (document 01, "The bench program"), decided from its input: one kind byte, then the body.
 ghost use Rattle.std.specs.Prelude.{◌≡◌};
-ghost use Rattle.frame.specs.Numbers.{refusal, tallied};
-ghost use Rattle.bench.specs.Line.{line_of, base_line, scene_line, text_label_line, multi_stream_line, drc_loudness_line, tallied_line, refused_line, too_long_line};
+ghost use Rattle.frame.specs.Numbers.{refusal};
+ghost use Rattle.frame.specs.Entry.{measuring, tallying};
+ghost use Rattle.base.specs.Kind as Base;
+ghost use Rattle.scene_kind.specs.Kind as Scene;
+ghost use Rattle.text_label.specs.Kind as TextLabel;
+ghost use Rattle.multi_stream.specs.Kind as MultiStream;
+ghost use Rattle.drc_kind.specs.Kind as DrcLoudness;
+ghost use Rattle.bench.specs.Kinds.{number_of};
+ghost use Rattle.bench.specs.Line.{line_of, kind_line, judged_line, refused_line, shown};
 
-use frame::{Refusal, Tallied};
+use super::kind::Kind;
+use frame::Refusal;
 
 // number, first returned number, k, tally
-#[derive(Clone, Copy)]
+#[derive(Clone, Copy, PartialEq, Eq)]
 pub struct Line {
     pub number: u16,
     pub first: usize,
@@ -14,131 +22,95 @@ pub struct Line {
     pub tally: usize,
 }
 
-// The kind is judged first.
+impl From<Refusal> for Line {
+    ghost from_gives = { λ r l. l ≡ refused_line (refusal r) };
+
+    fn from(r: Refusal) -> Line {
+        match r {
+            Refusal::Short(s) => refused(1, s.need),
+            Refusal::TooLong(n) => refused(2, n),
+            Refusal::NoRoom(table, _) => refused(3, table as usize),
+        }
+    }
+}
+
+// The kind is judged first; an empty input is kind 0.
 pub fn decide(input: &[u8]) -> Line
     ensures { result ≡ line_of input.now }
 {
-    if input.len() == 0 {
+    let Some((number, body)) = input.split_first() else {
         return refused(11, 0);
-    }
-    let kind = wire::bits::wide(input[0]);
-    if kind == 1 {
-        return base_line(&input[1..]);
-    }
-    if kind == 2 {
-        return scene_line(&input[1..]);
-    }
-    if kind == 3 {
-        return text_label_line(&input[1..]);
-    }
-    if kind == 4 {
-        return multi_stream_line(&input[1..]);
-    }
-    if kind == 5 {
-        return drc_loudness_line(&input[1..]);
-    }
-    refused(11, kind as usize)
-}
-
-// ---- a body of each kind: what measuring and tallying say; one over 4,096 bytes counts as one of 4,097
-
-fn base_line(body: &[u8]) -> Line
-    ensures { result ≡ base_line body.now }
-{
-    if 4096 < body.len() {
-        return too_long();
-    }
-    let m = base::measure(body);
-    let t = base::tally(body);
-    match m {
-        base::Measured::Refused(r) => refusal_line(r),
-        base::Measured::Done(s) => tallied_line(s.k, t),
-    }
-}
-
-fn scene_line(body: &[u8]) -> Line
-    ensures { result ≡ scene_line body.now }
-{
-    if 4096 < body.len() {
-        return too_long();
-    }
-    let m = scene::measure(body);
-    let t = scene::tally(body);
-    match m {
-        scene::Measured::Refused(r) => refusal_line(r),
-        scene::Measured::Done(s) => tallied_line(s.k, t),
-    }
-}
-
-fn text_label_line(body: &[u8]) -> Line
-    ensures { result ≡ text_label_line body.now }
-{
-    if 4096 < body.len() {
-        return too_long();
-    }
-    let m = text_label::measure(body);
-    let t = text_label::tally(body);
-    match m {
-        text_label::Measured::Refused(r) => refusal_line(r),
-        text_label::Measured::Done(s) => tallied_line(s.k, t),
-    }
-}
-
-fn multi_stream_line(body: &[u8]) -> Line
-    ensures { result ≡ multi_stream_line body.now }
-{
-    if 4096 < body.len() {
-        return too_long();
-    }
-    let m = multi_stream::measure(body);
-    let t = multi_stream::tally(body);
-    match m {
-        multi_stream::Measured::Refused(r) => refusal_line(r),
-        multi_stream::Measured::Done(s) => tallied_line(s.k, t),
-    }
-}
-
-fn drc_loudness_line(body: &[u8]) -> Line
-    ensures { result ≡ drc_loudness_line body.now }
-{
-    if 4096 < body.len() {
-        return too_long();
-    }
-    let m = drc_loudness::measure(body);
-    let t = drc_loudness::tally(body);
-    match m {
-        drc_loudness::Measured::Refused(r) => refusal_line(r),
-        drc_loudness::Measured::Done(s) => tallied_line(s.k, t),
-    }
-}
-
-fn too_long() -> Line
-    ensures { result ≡ too_long_line }
-{
-    refused(2, 4097)
-}
-
-fn tallied_line(k: usize, t: Tallied) -> Line
-    ensures { result ≡ tallied_line k (tallied t) }
-{
-    match t {
-        Tallied::Refused(r) => refusal_line(r),
-        Tallied::Done(n) => Line {
-            number: 0,
-            first: 0,
-            k,
-            tally: n,
+    };
+    match Kind::try_from(*number) {
+        Ok(kind) => match judged(kind, body) {
+            Ok(line) => line,
+            Err(r) => Line::from(r),
         },
+        Err(x) => refused(11, x.0 as usize),
     }
 }
 
-fn refusal_line(r: Refusal) -> Line
-    ensures { result ≡ refused_line (refusal r) }
+// A body over 4,096 bytes counts as one of 4,097.
+fn judged(kind: Kind, body: &[u8]) -> Result<Line, Refusal>
+    ensures { shown result ≡ kind_line (number_of kind) body.now }
 {
-    match r {
-        Refusal::Short(s) => refused(1, s.need),
-        Refusal::TooLong(n) => refused(2, n),
-        Refusal::NoRoom(table, _) => refused(3, table as usize),
+    if 4096 < body.len() {
+        return Err(Refusal::TooLong(4097));
+    }
+    match kind {
+        Kind::Base => base_line(body),
+        Kind::Scene => scene_line(body),
+        Kind::TextLabel => text_label_line(body),
+        Kind::MultiStream => multi_stream_line(body),
+        Kind::DrcLoudness => drc_loudness_line(body),
+    }
+}
+
+// ---- a body of each kind: what measuring and tallying say
+
+fn base_line(body: &[u8]) -> Result<Line, Refusal>
+    ensures { shown result ≡ judged_line (measuring Base.kind body.now) (tallying Base.kind body.now) }
+{
+    let s = base::measure(body)?;
+    Ok(told(s.k, base::tally(body)?))
+}
+
+fn scene_line(body: &[u8]) -> Result<Line, Refusal>
+    ensures { shown result ≡ judged_line (measuring Scene.kind body.now) (tallying Scene.kind body.now) }
+{
+    let s = scene::measure(body)?;
+    Ok(told(s.k, scene::tally(body)?))
+}
+
+fn text_label_line(body: &[u8]) -> Result<Line, Refusal>
+    ensures { shown result ≡ judged_line (measuring TextLabel.kind body.now) (tallying TextLabel.kind body.now) }
+{
+    let s = text_label::measure(body)?;
+    Ok(told(s.k, text_label::tally(body)?))
+}
+
+fn multi_stream_line(body: &[u8]) -> Result<Line, Refusal>
+    ensures { shown result ≡ judged_line (measuring MultiStream.kind body.now) (tallying MultiStream.kind body.now) }
+{
+    let s = multi_stream::measure(body)?;
+    Ok(told(s.k, multi_stream::tally(body)?))
+}
+
+fn drc_loudness_line(body: &[u8]) -> Result<Line, Refusal>
+    ensures { shown result ≡ judged_line (measuring DrcLoudness.kind body.now) (tallying DrcLoudness.kind body.now) }
+{
+    let s = drc_loudness::measure(body)?;
+    Ok(told(s.k, drc_loudness::tally(body)?))
+}
+
+fn told(k: usize, tally: usize) -> Line
+    ensures { result ≡ record { number = 0; first = 0; k = k; tally = tally } }
+{
+    Line {
+        number: 0,
+        first: 0,
+        k,
+        tally,
     }
 }
 

@@ -1,13 +1,13 @@
 // The bench program: reads one kind byte and a body from standard input, and prints number, first returned number, k and tally.
 #![tactic(auto)]
 
+mod kind;
 mod line;
 
-ghost use Rattle.std.specs.Prelude.{◌≤◌, length, IfOk, Some};
+ghost use Rattle.std.specs.Prelude.{Some};
 ghost use Rattle.bench.specs.Text.{line_text};
 
 use line::Line;
-use std::io::{Read, Stdin};
 use std::{fmt, io};
 
 impl fmt::Display for Line {
@@ -22,24 +22,9 @@ impl fmt::Display for Line {
     }
 }
 
-// Reads until the buffer is full or the input ends, and returns how many bytes it put at the start.
-fn fill(input: &mut Stdin, buffer: &mut [u8]) -> io::Result<usize>
-    ensures { IfOk result (λ n. n ≤ length buffer.new) }
-{
-    let mut n: usize = 0;
-    while n < buffer.len() {
-        let more = input.read(&mut buffer[n..])?;
-        if more == 0 {
-            break;
-        }
-        n += more;
-    }
-    Ok(n)
-}
-
 fn main(rt: HostRuntime) -> io::Result<()> {
-    let mut input = [0u8; 4098];
-    let n = fill(&mut rt.stdin(), &mut input)?;
-    let l = line::decide(&input[..n]);
+    let mut buffer = [0u8; 4098];
+    let n = input::fill(&mut rt.stdin(), &mut buffer)?;
+    let l = line::decide(&buffer[..n]);
     println!(rt; "{l}")
 }

@@ -2,25 +2,61 @@
 use super::tables;
 use super::tables::{Bytes, Columns};
 
+// The kind of a body, by document 01's numbers; another number names none.
+#[derive(Clone, Copy, PartialEq, Eq)]
+pub enum Kind {
+    Base,
+    Scene,
+    TextLabel,
+    MultiStream,
+    DrcLoudness,
+    Other,
+}
+
+impl From<usize> for Kind {
+    fn from(number: usize) -> Kind {
+        match number {
+            1 => Kind::Base,
+            2 => Kind::Scene,
+            3 => Kind::TextLabel,
+            4 => Kind::MultiStream,
+            5 => Kind::DrcLoudness,
+            _ => Kind::Other,
+        }
+    }
+}
+
 // The bytes of the line so far, the kind, the bytes of the body, the columns that are lent of the top record and the five tables, and the bytes of the output.
-#[derive(Clone, Copy)]
+#[derive(Clone, Copy, PartialEq, Eq)]
 pub struct State {
     pub line: usize,
-    pub kind: usize,
+    pub kind: Kind,
     pub length: usize,
     pub lent: [usize; 6],
     pub out: usize,
 }
 
-// What a line sets or asks: 0 the body, 1 columns, 2 numbers, 3 a value that is written, 4 bodies that are read, 5 nothing.
-pub fn part(letter: u8) -> usize {
-    match letter {
-        b'a' | b'b' | b'f' => 0,
-        b't' | b'1'..=b'5' => 1,
-        b'k' | b'l' | b'o' => 2,
-        b'w' | b'x' | b'y' => 3,
-        b'r' | b'n' | b'c' | b'd' | b's' => 4,
-        _ => 5,
+// What a line sets or asks: the body, columns, numbers, a value that is written, bodies that are read, or nothing.
+#[derive(Clone, Copy, PartialEq, Eq)]
+pub enum Command {
+    Body,
+    Columns,
+    Numbers,
+    Written,
+    Read,
+    Nothing,
+}
+
+impl From<u8> for Command {
+    fn from(letter: u8) -> Command {
+        match letter {
+            b'a' | b'b' | b'f' => Command::Body,
+            b't' | b'1'..=b'5' => Command::Columns,
+            b'k' | b'l' | b'o' => Command::Numbers,
+            b'w' | b'x' | b'y' => Command::Written,
+            b'r' | b'n' | b'c' | b'd' | b's' => Command::Read,
+            _ => Command::Nothing,
+        }
     }
 }
 
@@ -29,18 +65,18 @@ pub fn is_hex(letter: u8) -> bool {
 }
 
 // A number that is being read, and how many were read before.
-#[derive(Clone, Copy)]
+#[derive(Clone, Copy, PartialEq, Eq)]
 struct Digits {
     value: usize,
     digits: usize,
     count: usize,
 }
 
-fn digit(b: u8) -> usize {
+fn digit(b: u8) -> Option<usize> {
     match b {
-        b'0'..=b'9' => (b - 48) as usize,
-        b'A'..=b'F' => (b - 55) as usize,
-        _ => 16,
+        b'0'..=b'9' => Some((b - 48) as usize),
+        b'A'..=b'F' => Some((b - 55) as usize),
+        _ => None,
     }
 }
 
@@ -64,10 +100,9 @@ fn ended(d: Digits, out: &mut [usize]) -> Digits {
 }
 
 fn next(d: Digits, b: u8, hex: bool, out: &mut [usize]) -> Digits {
-    let x = digit(b);
-    if x == 16 {
+    let Some(x) = digit(b) else {
         return ended(d, out);
-    }
+    };
     if !hex {
         return Digits {
             value: (d.value % 1000000) * 10 + x % 16,
@@ -94,10 +129,8 @@ pub fn numbers(line: &[u8], hex: bool, out: &mut [usize]) -> usize {
         digits: 0,
         count: 0,
     };
-    let mut i: usize = 1;
-    while i < line.len() {
-        d = next(d, line[i], hex, out);
-        i += 1;
+    for b in line.iter().skip(1) {
+        d = next(d, *b, hex, out);
     }
     d = ended(d, out);
     d.count
@@ -108,7 +141,7 @@ pub fn numbers(line: &[u8], hex: bool, out: &mut [usize]) -> usize {
 pub fn with_numbers(s: State, letter: u8, v: &[usize; 4096]) -> State {
     let mut t = s;
     if letter == b'k' {
-        t.kind = v[0];
+        t.kind = Kind::from(v[0]);
         return t;
     }
     if letter == b'o' {

@@ -1,7 +1,7 @@
 // Bytes and columns that are put, changed, set to a fixed pattern and summed up to a digest.
 ghost use Rattle.std.specs.Prelude.{◌<◌};
 
-use super::list::State;
+use super::list::{Kind, State};
 
 // A body, or a line of the list.
 pub type Bytes = [u8; 65536];
@@ -29,10 +29,10 @@ pub fn place(table: usize, at: usize) -> usize {
 }
 
 // What measuring is lent: a column more than it needs, and three for the kinds with fewer tables.
-pub fn rows_lent(kind: usize) -> usize {
+pub fn rows_lent(kind: Kind) -> usize {
     match kind {
-        2 => 6,
-        5 => 5,
+        Kind::Scene => 6,
+        Kind::DrcLoudness => 5,
         _ => 3,
     }
 }
@@ -56,51 +56,39 @@ pub fn low_column(x: usize) -> u16 {
 // Where the bytes end.
 pub fn put_bytes(body: &mut Bytes, at: usize, n: usize, v: &[usize; 4096]) -> usize {
     let mut to = at;
-    let mut i: usize = 0;
-    while i < n {
+    for x in v.iter().take(n) {
         if 65536 <= to {
             return to;
         }
-        if 4096 <= i {
-            return to;
-        }
-        body[to] = low_byte(v[i]);
+        body[to] = low_byte(*x);
         to += 1;
-        i += 1;
     }
     to
 }
 
 pub fn put_run(body: &mut Bytes, at: usize, count: usize, byte: usize) -> usize {
     let mut to = at;
-    let mut left = count;
-    while 0 < left {
+    for _ in 0..count {
         if 65536 <= to {
             return to;
         }
         body[to] = low_byte(byte);
         to += 1;
-        left -= 1;
     }
     to
 }
 
 // How many columns there are.
 pub fn put_columns(columns: &mut Columns, table: usize, n: usize, v: &[usize; 4096]) -> usize {
-    let mut to = start(table);
-    let mut i: usize = 0;
-    while i < n {
-        if 40960 <= to {
+    let first = start(table);
+    let count = n.min(4096);
+    for i in 0..count {
+        if 40960 <= first + i {
             return i;
         }
-        if 4096 <= i {
-            return i;
-        }
-        columns[to] = low_column(v[i]);
-        to += 1;
-        i += 1;
+        columns[first + i] = low_column(v[i]);
     }
-    i
+    count
 }
 
 // What was there before.
@@ -151,15 +139,8 @@ pub fn front_bytes(bytes: &[u8], n: usize) -> &[u8] {
 // ---- before a call
 
 fn fill_part(columns: &mut Columns, table: usize, n: usize) {
-    let mut to = start(table);
-    let mut left = n;
-    while 0 < left {
-        if 40960 <= to {
-            return;
-        }
-        columns[to] = 43981;
-        to += 1;
-        left -= 1;
+    for c in columns[start(table)..].iter_mut().take(n) {
+        *c = 43981;
     }
 }
 
@@ -179,18 +160,9 @@ pub fn fill_columns(s: State, columns: &mut Columns) {
 
 // The first n columns of a table.
 pub fn copy_columns(columns: &mut Columns, table: usize, from: &[u16], n: usize) {
-    let mut to = start(table);
-    let mut i: usize = 0;
-    while i < n {
-        if from.len() <= i {
-            return;
-        }
-        if 40960 <= to {
-            return;
-        }
-        columns[to] = from[i];
-        to += 1;
-        i += 1;
+    let to = columns[start(table)..].iter_mut();
+    for (c, x) in to.zip(from.iter().take(n)) {
+        *c = *x;
     }
 }
 
@@ -198,37 +170,13 @@ pub fn mix(digest: u64, x: u64) -> u64 {
     ((digest % 4294967291) * 65599 + x % 4294967291) % 4294967291
 }
 
-fn mix_byte(digest: u64, x: u8) -> u64 {
-    mix(digest, x as u64)
-}
-
-fn mix_column(digest: u64, x: u16) -> u64 {
-    mix(digest, x as u64)
-}
-
 pub fn mix_bytes(digest: u64, bytes: &[u8]) -> u64 {
-    let mut d = digest;
-    let mut i: usize = 0;
-    while i < bytes.len() {
-        d = mix_byte(d, bytes[i]);
-        i += 1;
-    }
-    d
+    bytes.iter().fold(digest, |d, b| mix(d, *b as u64))
 }
 
 fn mix_columns(digest: u64, columns: &Columns, table: usize, n: usize) -> u64 {
-    let mut d = digest;
-    let mut i = start(table);
-    let mut left = n;
-    while 0 < left {
-        if 40960 <= i {
-            return d;
-        }
-        d = mix_column(d, columns[i]);
-        i += 1;
-        left -= 1;
-    }
-    d
+    let all = columns[start(table)..].iter();
+    all.take(n).fold(digest, |d, c| mix(d, *c as u64))
 }
 
 // Of all lent columns.

@@ -1,4 +1,3 @@
 pub mod Taken
 pub mod Tallied
 pub mod Writes
-pub mod Counted

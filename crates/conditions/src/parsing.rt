@@ -1,9 +1,7 @@
 // Reading conditions: one pass measures, one takes what was measured and tests nothing.
-ghost use Rattle.std.specs.Prelude.{◌≡◌, true, ◌+◌, ◌*◌, ◌≤◌, length, get_or};
-ghost use mathlib.Core.List.{flat_map};
-ghost use Rattle.std.proofs.lemmas.List.Edits.{sets};
-ghost use Rattle.wire.specs.Prog.{done, run, many};
-ghost use Rattle.wire.specs.Reads.{end_of, is_done, pos_of, rows_of, ends_out};
+ghost use Rattle.std.specs.Prelude.{ℕ, List, ◌≡◌, true, ◌+◌, ◌*◌, ◌≤◌, length, get_or};
+ghost use Rattle.wire.specs.Prog.{done, run};
+ghost use Rattle.wire.specs.Reads.{is_done, ends_out};
 ghost use Rattle.wire.specs.Layout.{flat};
 ghost use Rattle.wire.specs.Straight.{ends, ones, PartTaken, blanks};
 ghost use Rattle.conditions.specs.Layout.{condition, detail, position};
@@ -14,7 +12,8 @@ use super::rows::{
 };
 use wire::bits::{part, wide};
 use wire::ids::GroupId;
-use wire::reads::{Ends, head};
+use wire::list::{Measure, Store};
+use wire::reads::{Short, head};
 use wire::rows::put_row;
 
 // The bytes behind the flags of a detail: a gain is one, a position three.
@@ -25,49 +24,31 @@ fn behind(flags: u16) -> usize
 }
 
 // Where a detail ends that is there.
-fn detail_end(body: &[u8], at: usize) -> Ends
+fn detail_end(body: &[u8], at: usize) -> Result<usize, Short>
     requires { at ≤ length body.now }
     ensures { ends_out result ≡ ends (ones (1 + behind (get_or body.now at 0))) body.now at }
 {
-    let a = head(body, at, 1);
-    let Ends::At(n) = a else {
-        return a;
-    };
+    let n = head(body, at, 1)?;
     head(body, n, behind(wide(body[at])))
 }
 
-// Where a condition ends.
-fn condition_end(body: &[u8], at: usize) -> Ends
-    requires { at ≤ length body.now }
-    ensures { ends_out result ≡ end_of (run (flat 13 condition) body.now at) }
-{
-    let a = head(body, at, 1);
-    let Ends::At(n) = a else {
-        return a;
-    };
-    if part(wide(body[at]), 0, 1) == 1 {
-        detail_end(body, n)
-    } else {
-        a
-    }
-}
+// A row of table 5, as a list of them is measured, stored and tallied.
+pub struct Condition;
 
-// Where `count` conditions end.
-pub fn measure_conditions(body: &[u8], at: usize, count: usize) -> Ends
-    requires { at ≤ length body.now }
-    ensures { ends_out result ≡ end_of (run (many count (flat 13 condition)) body.now at) }
-{
-    let mut pos = at;
-    let mut left = count;
-    while 0 < left {
-        let a = condition_end(body, pos);
-        let Ends::At(next) = a else {
-            return a;
-        };
-        pos = next;
-        left -= 1;
+// A detail follows exactly if its flag is 1.
+impl Measure for Condition {
+    ghost Read = { List ℕ };
+
+    ghost reads = { λ _. flat 13 condition };
+
+    fn end(&self, body: &[u8], at: usize) -> Result<usize, Short> {
+        let n = head(body, at, 1)?;
+        if part(wide(body[at]), 0, 1) == 1 {
+            detail_end(body, n)
+        } else {
+            Ok(n)
+        }
     }
-    Ends::At(pos)
 }
 
 // ---- taken, once measured
@@ -133,7 +114,7 @@ fn detail_from(body: &[u8], at: usize) -> PresetConditionDetail
 }
 
 // A condition, and the next position.
-#[derive(Clone, Copy)]
+#[derive(Clone, Copy, PartialEq, Eq)]
 pub struct Placed {
     pub condition: PresetCondition,
     pub next: usize,
@@ -161,27 +142,22 @@ pub fn condition_at(body: &[u8], at: usize) -> Placed
     }
 }
 
-// Stores `count` conditions that were measured as rows of table 5, from the column `to` on, and answers the next position.
-pub fn fill_conditions(
-    body: &[u8],
-    at: usize,
-    count: usize,
-    conditions: &mut [u16],
-    to: usize,
-) -> usize
-    requires { (at ≤ length body.now) × (is_done (run (many count (flat 13 condition)) body.now at) ≡ true) × (to + 13 * count ≤ length conditions.old) }
-    ensures { (result ≡ pos_of (run (many count (flat 13 condition)) body.now at)) × (conditions.new ≡ sets conditions.old to (flat_map (λ r. r) (rows_of (run (many count (flat 13 condition)) body.now at)))) }
-{
-    let mut pos = at;
-    let mut left = count;
-    let mut into = to;
-    while 0 < left {
-        let p = condition_at(body, pos);
-        let row = p.condition.columns();
-        put_row(conditions, into, &row);
-        pos = p.next;
-        left -= 1;
-        into += CONDITION_COLUMNS;
+impl Store for Condition {
+    ghost Read = { List ℕ };
+
+    ghost reads = { λ _. flat 13 condition };
+
+    ghost may = { λ _ _. Unit {0} };
+
+    ghost COLUMNS = { 13 };
+
+    ghost columns = { λ _ r. r };
+
+    const COLUMNS: usize = CONDITION_COLUMNS;
+
+    fn store(&self, body: &[u8], at: usize, table: &mut [u16], to: usize) -> usize {
+        let p = condition_at(body, at);
+        put_row(table, to, &p.condition.columns());
+        p.next
     }
-    pos
 }

@@ -7,7 +7,7 @@ use wire::bits::flag;
 use wire::ids::GroupId;
 
 // mae_groupPresetAzOffset, ElOffset and DistFactor, where they are there.
-#[derive(Clone, Copy)]
+#[derive(Clone, Copy, PartialEq, Eq)]
 pub struct PresetPosition {
     pub present: u16,
     pub az_offset: u16,
@@ -47,7 +47,7 @@ impl PresetPosition {
 }
 
 // mae_groupPresetGain, where it is there.
-#[derive(Clone, Copy)]
+#[derive(Clone, Copy, PartialEq, Eq)]
 pub struct PresetGain {
     pub present: u16,
     pub gain: u16,
@@ -71,7 +71,7 @@ impl PresetGain {
 }
 
 // What a condition says of its group, where mae_groupPresetConditionOnOff is 1.
-#[derive(Clone, Copy)]
+#[derive(Clone, Copy, PartialEq, Eq)]
 pub struct PresetConditionDetail {
     pub present: u16,
     pub reserved: u16,
@@ -116,7 +116,7 @@ impl PresetConditionDetail {
 }
 
 // A row of table 5: one condition of a preset.
-#[derive(Clone, Copy)]
+#[derive(Clone, Copy, PartialEq, Eq)]
 pub struct PresetCondition {
     pub group_id: GroupId,
     pub detail: PresetConditionDetail,

@@ -1,11 +1,11 @@
 // Writing conditions: their bytes as numbers, the check pass with a quick test of a plain row, and the fill pass.
 ghost use Rattle.std.specs.Prelude.{◌≡◌, true, [], ◌∷◌, map, ◌+◌, ◌-◌, ◌*◌, ◌<◌, ◌≤◌, ◌^◌, length};
 ghost use Rattle.wire.specs.Bits.{field, fit};
-ghost use Rattle.wire.specs.Act.{byte, rows, when, pick};
+ghost use Rattle.wire.specs.Act.{byte, when, pick};
 ghost use Rattle.wire.specs.Layout.{field_of, flat_acts};
 ghost use Rattle.wire.specs.Pen.{reach, Checked, Quick, Ready, Filled};
-ghost use Rattle.wire.specs.Spell.{Spells, Spelt, PlainRows, PlainRun, fields_of, fit_all};
-ghost use Rattle.wire.specs.declared.pen.Pen.TheVariants.{At};
+ghost use Rattle.wire.specs.Spell.{Spells, Spelt, fields_of, fit_all};
+ghost use Rattle.wire.specs.Pen.{At};
 ghost use Rattle.conditions.specs.Layout.{condition};
 ghost use Rattle.conditions.specs.Rows.{flag_cells, gain_cells, position_cells};
 ghost use Rattle.conditions.specs.Write.{detail_cols, position_fields, flags_of, detail_acts, detail_long, condition_acts, cols_at, row_acts};
@@ -13,8 +13,9 @@ ghost use Rattle.conditions.specs.Write.{detail_cols, position_fields, flags_of,
 use super::rows::{CONDITION_COLUMNS, PresetCondition, PresetConditionDetail, PresetPosition};
 use wire::bits::{fits, four_fit, is_flag, two_fit};
 use wire::pen;
-use wire::pen::{Fault, Passed, Pen};
+use wire::pen::{Fault, Pen};
 use wire::spell::{Joined, check_all, fill_all, one, two};
+use wire::written::Rows;
 
 // ---- the bytes
 
@@ -84,7 +85,7 @@ fn check_condition(n: usize, c: PresetCondition) -> Pen
     ensures { Checked (condition_acts c) 6 (At n) result }
 {
     let d = c.detail;
-    let p0 = pen::demand(Pen::At(n), Fault::Field, flags_hold(d));
+    let p0 = pen::demand(Ok(n), Fault::Field, flags_hold(d));
     let p1 = check_all(p0, true, &[two(c.group_id.0, 7, d.present, 1)]);
     if d.present == 1 {
         check_detail(p1, d)
@@ -200,64 +201,6 @@ fn plain_bytes(conditions: &[u16], b: usize) -> usize
     }
 }
 
-// The plain rows before the first that is not, and their bytes: of `count` rows, from the row `first` on.
-pub fn plain_rows(conditions: &[u16], first: usize, count: usize) -> Passed
-    requires { ((first + count) * 13 ≤ length conditions.now) × (first + count < 2 ^ 20) }
-    ensures { PlainRows (λ j. row_acts conditions.now (first + j)) 6 count result.rows result.bytes }
-{
-    let mut bytes: usize = 0;
-    let mut left = count;
-    let mut b = first * CONDITION_COLUMNS;
-    while 0 < left {
-        let k = plain_bytes(conditions, b);
-        if k == 0 {
-            return Passed {
-                rows: count - left,
-                bytes,
-            };
-        }
-        bytes += k;
-        left -= 1;
-        b += CONDITION_COLUMNS;
-    }
-    Passed { rows: count, bytes }
-}
-
-// The bytes of the rows from `first` to `end`, or 0 if one has a fault. It does not say which: so the loop has but one count to keep.
-pub fn plain_run(conditions: &[u16], first: usize, end: usize) -> usize
-    requires { (first < end) × (end * 13 ≤ length conditions.now) × (end < 2 ^ 20) }
-    ensures { PlainRun (λ j. row_acts conditions.now (first + j)) 6 (end - first) result }
-{
-    let mut bytes: usize = 0;
-    let mut b = first * CONDITION_COLUMNS;
-    let last = end * CONDITION_COLUMNS;
-    while b < last {
-        let k = plain_bytes(conditions, b);
-        if k == 0 {
-            return 0;
-        }
-        bytes += k;
-        b += CONDITION_COLUMNS;
-    }
-    bytes
-}
-
-// `count` rows from the row `first` on; the row that is not plain is looked at again to name its fault.
-pub fn check_conditions(n: usize, conditions: &[u16], first: usize, count: usize) -> Pen
-    requires { ((first + count) * 13 ≤ length conditions.now) × (first + count < 2 ^ 20) × (n < 2 ^ 20) }
-    ensures { Checked (rows (row_acts conditions.now) first count) (6 * count) (At n) result }
-{
-    let p = plain_rows(conditions, first, count);
-    let i = p.rows;
-    let at = n + p.bytes;
-    if i < count {
-        let row = (first + i) * CONDITION_COLUMNS;
-        check_condition(at, PresetCondition::of_columns(conditions, row))
-    } else {
-        Pen::At(at)
-    }
-}
-
 // ---- the fill pass
 
 // The gain of the row whose first column is `b`, if it is there.
@@ -313,23 +256,37 @@ fn fill_condition(conditions: &[u16], b: usize, out: &mut [u8], n: usize) -> usi
     }
 }
 
-// `count` rows from the row `first` on.
-pub fn fill_conditions(
-    conditions: &[u16],
-    first: usize,
-    count: usize,
-    out: &mut [u8],
-    n: usize,
-) -> usize
-    requires { ((first + count) * 13 ≤ length conditions.now) × (first + count < 2 ^ 20) × Ready (rows (row_acts conditions.now) first count) n out.old }
-    ensures { Filled (rows (row_acts conditions.now) first count) n out.old result out.new }
-{
-    let mut at = n;
-    let mut b = first * CONDITION_COLUMNS;
-    let end = (first + count) * CONDITION_COLUMNS;
-    while b < end {
-        at = fill_condition(conditions, b, out, at);
-        b += CONDITION_COLUMNS;
+// ---- the rows of table 5
+
+// The rows that are written.
+#[derive(Clone, Copy)]
+pub struct Conditions<'a> {
+    pub conditions: &'a [u16],
+}
+
+impl Rows for Conditions<'_> {
+    ghost columns = { 13 };
+
+    ghost table = { λ t. t.conditions.now };
+
+    ghost acts = { λ t i. row_acts t.conditions.now i };
+
+    ghost most = { 6 };
+
+    ghost may = { λ _. Unit {0} };
+
+    fn plain(&self, i: usize) -> usize {
+        plain_bytes(self.conditions, i * CONDITION_COLUMNS)
     }
-    at
+
+    fn check(&self, n: usize, i: usize) -> Pen {
+        check_condition(
+            n,
+            PresetCondition::of_columns(self.conditions, i * CONDITION_COLUMNS),
+        )
+    }
+
+    fn fill(&self, i: usize, out: &mut [u8], n: usize) -> usize {
+        fill_condition(self.conditions, i * CONDITION_COLUMNS, out, n)
+    }
 }

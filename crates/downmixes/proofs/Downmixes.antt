@@ -1,5 +1,5 @@
 -- A downmix definition is two bytes: read, tallied and written, with no demand that can fail.
-use Prim.Native.Nat.{ℕ, ◌+◌, ◌*◌, ◌≤◌, ◌<◌}
+use Prim.Native.Nat.{ℕ, ◌+◌, ◌*◌, ◌≤◌}
 use mathlib.Core.Path.{◌≡◌, refl, sym, ◌∙◌}
 use mathlib.Core.List.{List, [], ◌∷◌, flatten}
 use mathlib.Core.Bool.{Bool, true, false}
@@ -14,8 +14,7 @@ use Rattle.wire.specs.Pen.{Checked, Quick, Ready, Filled}
 use Rattle.wire.specs.Layout.{of, put, blank, flat, writes, shown, cells, matches, matched, every, tally}
 use Rattle.wire.specs.Straight.{ends, ones, puts_at, took, spans}
 use Rattle.wire.specs.Spell.{Spelt, FitsAll, ChecksAll, ReadyAll, FillsAll}
-use Rattle.wire.specs.declared.pen.Pen.{Pen}
-use Rattle.wire.proofs.Reading.Loops.{first_done}
+use Rattle.wire.specs.Pen.{Pen}
 use Rattle.wire.proofs.Layouts.Straight.{Whole, flat_done}
 use Rattle.wire.proofs.Layouts.Families.{lines_end}
 use Rattle.wire.proofs.Writing.Plain.{line_acts, line_plain, line_odd, line_checked, line_ready, line_filled}
@@ -34,17 +33,17 @@ pub downmixes_end : (s : List ℕ) (at count : ℕ) → ends (ones (2 * count)) 
 downmixes_end s at count = sym (lines_end 4 downmix 2 downmix_two s count at)
 
 -- a row that was measured: its bytes are there, and what they give
-module _ (s : List ℕ) (left pos : ℕ) (h : pos ≤ length s) (l : 0 < left) (q : is_done (run (many left (flat 4 downmix)) s pos) ≡ true) where
+module _ (s : List ℕ) (pos : ℕ) (h : pos ≤ length s) (q : is_done (run (flat 4 downmix) s pos) ≡ true) where
   whole : Whole 4 downmix s pos
-  whole = flat_done 4 downmix s pos h (first_done (flat 4 downmix) s left pos l q)
+  whole = flat_done 4 downmix s pos h q
 
   pub downmix_there : pos + 2 ≤ length s
   unfolding downmix took total
   downmix_there = whole.there
 
-  pub downmix_run : done (downmix_row (downmix_from (get_or s pos 0) (get_or s (pos + 1) 0))) (pos + 2) ≡ run (flat 4 downmix) s pos
+  pub downmix_run : run (flat 4 downmix) s pos ≡ done (downmix_row (downmix_from (get_or s pos 0) (get_or s (pos + 1) 0))) (pos + 2)
   unfolding downmix took puts_at put split total each
-  downmix_run = sym whole.is
+  downmix_run = whole.is
 
 pub downmix_tally : (id kind : ℕ) → tally (downmix ∷ []) (of (downmix_row (downmix_from id kind))) ≡ zeros 1 (part 7 1 id)
 unfolding tally cells shown downmix sum flatten

@@ -3,5 +3,4 @@
 
 pub mod parsing;
 pub mod rows;
-pub mod tallying;
 pub mod writing;

@@ -1,20 +1,19 @@
 // Reading downmix definitions: one comparison measures them all, and what was measured is taken without a test.
-ghost use Rattle.std.specs.Prelude.{◌≡◌, true, ◌+◌, ◌*◌, ◌<◌, ◌≤◌, length, get_or};
-ghost use mathlib.Core.List.{flat_map};
-ghost use Rattle.std.proofs.lemmas.List.Edits.{sets};
+ghost use Rattle.std.specs.Prelude.{ℕ, ◌≡◌, true, [], ◌∷◌, ◌+◌, ◌*◌, ◌<◌, ◌≤◌, List, length, get_or};
 ghost use Rattle.wire.specs.Prog.{run, many};
-ghost use Rattle.wire.specs.Reads.{end_of, is_done, rows_of, ends_out};
-ghost use Rattle.wire.specs.Layout.{flat};
+ghost use Rattle.wire.specs.Reads.{end_of, ends_out};
+ghost use Rattle.wire.specs.Layout.{flat, of, tally};
 ghost use Rattle.downmixes.specs.Layout.{downmix};
 ghost use Rattle.downmixes.specs.Rows.{downmix_from};
 
 use super::rows::{DOWNMIX_COLUMNS, DownmixDefinition};
-use wire::bits::{part, wide};
-use wire::reads::{Ends, head};
+use wire::bits::{idle_bits, part, wide};
+use wire::list::{Store, Tally, Zeros};
+use wire::reads::{Short, head};
 use wire::rows::put_row;
 
 // Where `count` downmix definitions end: each is two reads of one byte.
-pub fn measure_downmixes(body: &[u8], at: usize, count: usize) -> Ends
+pub fn measure_downmixes(body: &[u8], at: usize, count: usize) -> Result<usize, Short>
     requires { (at ≤ length body.now) × (count < 32) }
     ensures { ends_out result ≡ end_of (run (many count (flat 4 downmix)) body.now at) }
 {
@@ -37,20 +36,43 @@ fn downmix_at(body: &[u8], at: usize) -> DownmixDefinition
     }
 }
 
-// Stores `count` downmix definitions that were measured as the first rows of table 12.
-pub fn fill_downmixes(body: &[u8], at: usize, count: usize, downmixes: &mut [u16])
-    requires { (at ≤ length body.now) × (is_done (run (many count (flat 4 downmix)) body.now at) ≡ true) × (4 * count ≤ length downmixes.old) }
-    ensures { downmixes.new ≡ sets downmixes.old 0 (flat_map (λ r. r) (rows_of (run (many count (flat 4 downmix)) body.now at))) }
-{
-    let mut pos = at;
-    let mut left = count;
-    let mut to = 0;
-    while 0 < left {
-        let d = downmix_at(body, pos);
-        let row = d.columns();
-        put_row(downmixes, to, &row);
-        pos += 2;
-        left -= 1;
-        to += DOWNMIX_COLUMNS;
+// A row of table 12, as a list of them is stored and tallied.
+pub struct Downmix;
+
+impl Store for Downmix {
+    ghost Read = { List ℕ };
+
+    ghost reads = { λ _. flat 4 downmix };
+
+    ghost may = { λ _ _. Unit {0} };
+
+    ghost COLUMNS = { 4 };
+
+    ghost columns = { λ _ r. r };
+
+    const COLUMNS: usize = DOWNMIX_COLUMNS;
+
+    fn store(&self, body: &[u8], at: usize, table: &mut [u16], to: usize) -> usize {
+        put_row(table, to, &downmix_at(body, at).columns());
+        at + 2
+    }
+}
+
+impl Tally for Downmix {
+    ghost Read = { List ℕ };
+
+    ghost reads = { λ _. flat 4 downmix };
+
+    ghost may = { λ _ _. Unit {0} };
+
+    ghost zeros = { λ _ r. tally (downmix ∷ []) (of r) };
+
+    ghost most = { 1 };
+
+    fn zeros(&self, body: &[u8], at: usize) -> Zeros {
+        Zeros {
+            zeros: idle_bits(part(wide(body[at]), 7, 1), 1),
+            next: at + 2,
+        }
     }
 }

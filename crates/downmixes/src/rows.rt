@@ -5,7 +5,7 @@ ghost use Rattle.downmixes.specs.Rows.{downmix_row, downmix_of};
 use wire::bits::{ones, wide};
 
 // One downmix ID, and what it stands for.
-#[derive(Clone, Copy)]
+#[derive(Clone, Copy, PartialEq, Eq)]
 pub struct DownmixDefinition {
     pub reserved: u16,
     pub downmix_id: u16,

@@ -1,14 +1,14 @@
 // Writing downmix definitions: their bytes as numbers, the check pass, which counts plain rows, and the fill pass.
 ghost use Rattle.std.specs.Prelude.{◌*◌, ◌<◌, ◌≤◌, ◌^◌, length};
 ghost use Rattle.wire.specs.Act.{rows};
-ghost use Rattle.wire.specs.Pen.{Checked, Ready, Filled};
+ghost use Rattle.wire.specs.Pen.{Checked, Ready, Filled, At};
 ghost use Rattle.wire.specs.Spell.{Spelt, PlainRows};
-ghost use Rattle.wire.specs.declared.pen.Pen.TheVariants.{At};
 ghost use Rattle.downmixes.specs.Write.{downmix_fields, row_acts};
 
 use super::rows::{DOWNMIX_COLUMNS, DownmixDefinition};
 use wire::pen::Pen;
 use wire::spell::{check_all, fill_all, fits_all, two};
+use wire::written::Rows;
 
 fn downmix_bytes(d: DownmixDefinition) -> [u32; 2]
     ensures { Spelt (downmix_fields d) result }
@@ -19,48 +19,35 @@ fn downmix_bytes(d: DownmixDefinition) -> [u32; 2]
     ]
 }
 
-// The plain rows before the first that is not; each is two bytes.
-fn plain_rows(downmixes: &[u16], count: usize) -> usize
-    requires { (count * 4 ≤ length downmixes.now) × (count < 2 ^ 16) }
-    ensures { PlainRows (row_acts downmixes.now) 2 count result (2 * result) }
-{
-    let mut i: usize = 0;
-    while i < count {
-        let d = DownmixDefinition::of_columns(downmixes, i * DOWNMIX_COLUMNS);
-        if !fits_all(&downmix_bytes(d)) {
-            return i;
-        }
-        i += 1;
-    }
-    i
+// The rows of table 12 that are written.
+#[derive(Clone, Copy)]
+pub struct Downmixes<'a> {
+    pub downmixes: &'a [u16],
 }
 
-// The rows of table 12 from the first; the row that is not plain is looked at again to name its fault.
-pub fn check_downmixes(n: usize, downmixes: &[u16], count: usize) -> Pen
-    requires { (count * 4 ≤ length downmixes.now) × (count < 2 ^ 16) × (n < 2 ^ 16) }
-    ensures { Checked (rows (row_acts downmixes.now) 0 count) (2 * count) (At n) result }
-{
-    let i = plain_rows(downmixes, count);
-    let p = Pen::At(n + 2 * i);
-    if i < count {
-        let d = DownmixDefinition::of_columns(downmixes, i * DOWNMIX_COLUMNS);
-        check_all(p, true, &downmix_bytes(d))
-    } else {
-        p
-    }
-}
+impl Rows for Downmixes<'_> {
+    ghost columns = { 4 };
 
-// The rows of table 12, from the first.
-pub fn fill_downmixes(downmixes: &[u16], count: usize, out: &mut [u8], n: usize) -> usize
-    requires { (count * 4 ≤ length downmixes.now) × (count < 2 ^ 16) × Ready (rows (row_acts downmixes.now) 0 count) n out.old }
-    ensures { Filled (rows (row_acts downmixes.now) 0 count) n out.old result out.new }
-{
-    let mut at = n;
-    let mut i: usize = 0;
-    while i < count {
-        let d = DownmixDefinition::of_columns(downmixes, i * DOWNMIX_COLUMNS);
-        at = fill_all(out, at, true, &downmix_bytes(d));
-        i += 1;
+    ghost table = { λ t. t.downmixes.now };
+
+    ghost acts = { λ t i. row_acts t.downmixes.now i };
+
+    ghost most = { 2 };
+
+    ghost may = { λ _. Unit {0} };
+
+    fn plain(&self, i: usize) -> usize {
+        let d = DownmixDefinition::of_columns(self.downmixes, i * DOWNMIX_COLUMNS);
+        if fits_all(&downmix_bytes(d)) { 2 } else { 0 }
     }
-    at
+
+    fn check(&self, n: usize, i: usize) -> Pen {
+        let d = DownmixDefinition::of_columns(self.downmixes, i * DOWNMIX_COLUMNS);
+        check_all(Ok(n), true, &downmix_bytes(d))
+    }
+
+    fn fill(&self, i: usize, out: &mut [u8], n: usize) -> usize {
+        let d = DownmixDefinition::of_columns(self.downmixes, i * DOWNMIX_COLUMNS);
+        fill_all(out, n, true, &downmix_bytes(d))
+    }
 }

@@ -7,7 +7,7 @@ use wire::bits::{flag, ones, wide};
 use wire::rows::Payload;
 
 // The mpegh3daDrcAndLoudnessInfoPresent payload: its lists are the first rows of tables 9, 11 and 12, by their counts.
-#[derive(Clone, Copy)]
+#[derive(Clone, Copy, PartialEq, Eq)]
 pub struct DrcLoudnessInfo {
     pub reserved_drc: u8,
     pub reserved_loudness: u8,
@@ -34,7 +34,7 @@ impl DrcLoudnessInfo {
 }
 
 // That payload, where it is there.
-#[derive(Clone, Copy)]
+#[derive(Clone, Copy, PartialEq, Eq)]
 pub struct Info {
     pub present: bool,
     pub part: DrcLoudnessInfo,
@@ -68,7 +68,7 @@ impl Info {
 }
 
 // The top record of the DRC and loudness body.
-#[derive(Clone, Copy)]
+#[derive(Clone, Copy, PartialEq, Eq)]
 pub struct MpegH3dAudioDrcLoudness {
     pub reserved: u8,
     pub info: Info,

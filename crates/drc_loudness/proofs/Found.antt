@@ -1,4 +1,5 @@
 -- Of a body whose lists were found: where they stand and how many rows they have, its sizes, its record and its tally.
+use Rattle.std.specs.Prelude.{Ok}
 use Prim.Native.Nat.{ℕ, ◌+◌, ◌≤◌, ◌<◌}
 use mathlib.Core.Path.{◌≡◌, refl, sym, ap, subst, ◌∙◌}
 use mathlib.Core.List.{List, [], ◌∷◌, ◌++◌, flatten, flat_map}
@@ -9,14 +10,14 @@ use lib.Dec.{eqb}
 use borrow.Author.Tests.{eqb-true}
 use Rattle.wire.specs.Lists.{Every, all_nil, all_cons, each, sum, firsts}
 use Rattle.wire.specs.Bits.{part, zeros}
-use Rattle.wire.specs.Prog.{run, many}
-use Rattle.wire.specs.Reads.{rows_of}
+use Rattle.wire.specs.Prog.{done, run, many}
+use Rattle.wire.specs.Reads.{map_out}
 use Rattle.wire.specs.Act.{pick}
 use Rattle.wire.specs.Layout.{Cell, num, reserved, flag, column, idle, Columns, of, flat, shown, cells, tally, Family, family_tally, Borne, borne_row, borne_tally}
 use Rattle.wire.proofs.Writing.Acts.{and_both}
 use Rattle.wire.proofs.Reading.Walk.{ends}
 use Rattle.wire.proofs.Fields.{part_below}
-use Rattle.wire.proofs.Reading.Loops.{many_long}
+use Rattle.wire.proofs.Reading.Loops.{many_long, summed_rows}
 use Rattle.wire.proofs.Layouts.Rowed.{parents_long}
 use Rattle.frame.specs.Numbers.{accepted}
 use Rattle.frame.specs.Entry.{needs, sizes, tail, Measures, Tallies}
@@ -36,7 +37,6 @@ use Rattle.drc_kind.specs.Rows.{no_info, Tree, tree_is, needed}
 use Rattle.drc_kind.specs.Kind.{kind}
 use Rattle.drc_kind.proofs.Lawful.{instruction_rows}
 use Rattle.drc_loudness.specs.declared.parsing.Places.{Places}
-use Rattle.drc_loudness.specs.declared.Opening.TheVariants as O
 use Rattle.drc_loudness.specs.declared.Sizes.{Sizes}
 use Rattle.drc_loudness.specs.Contract.{sized}
 use Rattle.drc_loudness.specs.Walk.{flag_at, info_there, info_at, rows_at, top_of, Found, tree, Opens}
@@ -64,13 +64,13 @@ info_few s = go (eqb (flag_at s) 1)
 module _ {s : List ℕ} {p : Places} (f : Found s p) where
   -- each list begins in the body
   pub at_entries : p.loudness ≤ length s
-  at_entries = ends _ s (rows_at s) f.head refl f.instructions_read
+  at_entries = ends _ s (rows_at s) f.head (sym f.instructions_read)
 
   pub at_downmixes : p.downmixes ≤ length s
-  at_downmixes = ends _ s p.loudness at_entries refl f.entries_read
+  at_downmixes = ends _ s p.loudness at_entries (sym f.entries_read)
 
   pub at_end : p.k ≤ length s
-  at_end = ends _ s p.downmixes at_downmixes refl f.downmixes_read
+  at_end = ends _ s p.downmixes at_downmixes (sym f.downmixes_read)
 
   -- how many rows each has
   pub instructions_counted : (info_in s).drc_instructions ≡ length f.in_instructions
@@ -121,7 +121,7 @@ bare_counted {s} {p} f h {z} m e =
       no_downmixes = none_of f.in_downmixes (sym (same_rows c 3) ∙ eqb-true z.downmixes 0 v);
     }
 
-pub bare_opens : {s : List ℕ} {p : Places} → Bare s p → length s < 65536 → (t₁ t₂ t₃ t₄ : List ℕ) → Opens s (t₁ ∷ t₂ ∷ t₃ ∷ t₄ ∷ []) (O.At p) (t₁ ∷ t₂ ∷ t₃ ∷ t₄ ∷ [])
+pub bare_opens : {s : List ℕ} {p : Places} → Bare s p → length s < 65536 → (t₁ t₂ t₃ t₄ : List ℕ) → Opens s (t₁ ∷ t₂ ∷ t₃ ∷ t₄ ∷ []) (Ok p) (t₁ ∷ t₂ ∷ t₃ ∷ t₄ ∷ [])
 unfolding kind tables firsts flat_map
 bare_opens {s} {p} b h t₁ t₂ t₃ t₄ =
     let f = b.found in
@@ -174,15 +174,15 @@ abbrev downmixes_tally : List (List ℕ) → ℕ
 downmixes_tally l = sum (λ r. tally (downmix ∷ []) (of r)) l
 
 -- with the counts as code has them
-pub zeros_so : {s : List ℕ} {p : Places} → Found s p → length s < 65536 → {i : DrcLoudnessInfo} → i ≡ info_in s → {r a x y z at : ℕ} → at ≡ rows_at s → r ≡ a + x + (y + z)
+pub zeros_so : {s : List ℕ} {p : Places} → Found s p → length s < 65536 → {i : DrcLoudnessInfo} → i ≡ info_in s → {r a x y z at m n k : ℕ} → at ≡ rows_at s → r ≡ a + x + (y + z)
     → a ≡ tally layouts (of (top_of s))
-    → x ≡ instructions_tally (rows_of (run (many i.drc_instructions instructions) s at))
-    → y ≡ entries_tally (rows_of (run (many i.loudness_infos entries) s p.loudness))
-    → z ≡ downmixes_tally (rows_of (run (many i.downmix_definitions (flat 4 downmix)) s p.downmixes)) → Tallies kind s (accepted r)
+    → done x m ≡ map_out instructions_tally (run (many i.drc_instructions instructions) s at)
+    → done y n ≡ map_out entries_tally (run (many i.loudness_infos entries) s p.loudness)
+    → done z k ≡ map_out downmixes_tally (run (many i.downmix_definitions (flat 4 downmix)) s p.downmixes) → Tallies kind s (accepted r)
 unfolding kind B.zeros B.layouts
 zeros_so {s} {p} f h e q w a x y z =
-    let x' = x ∙ (λ j. instructions_tally (rows_of (run (many (e j).drc_instructions instructions) s (q j)))) ∙ (λ j. instructions_tally (rows_of (f.instructions_read j))) in
-    let y' = y ∙ (λ j. entries_tally (rows_of (run (many (e j).loudness_infos entries) s p.loudness))) ∙ (λ j. entries_tally (rows_of (f.entries_read j))) in
+    let x' = summed_rows (family_tally instruction additional) (done f.in_instructions p.loudness) (x ∙ (λ j. map_out instructions_tally (run (many (e j).drc_instructions instructions) s (q j))) ∙ ap (map_out instructions_tally) f.instructions_read) in
+    let y' = summed_rows (borne_tally entry) (done f.in_entries p.downmixes) (y ∙ (λ j. map_out entries_tally (run (many (e j).loudness_infos entries) s p.loudness)) ∙ ap (map_out entries_tally) f.entries_read) in
     let z' =
-    z ∙ (λ j. downmixes_tally (rows_of (run (many (e j).downmix_definitions (flat 4 downmix)) s p.downmixes))) ∙ (λ j. downmixes_tally (rows_of (f.downmixes_read j))) in
-    tallies_walked kind s h (found_reads s p f) (omega (arith, w, a, x', y', z'))
+    summed_rows (λ r. tally (downmix ∷ []) (of r)) (done f.in_downmixes p.k) (z ∙ (λ j. map_out downmixes_tally (run (many (e j).downmix_definitions (flat 4 downmix)) s p.downmixes)) ∙ ap (map_out downmixes_tally) f.downmixes_read) in
+    tallies_walked kind s h (found_reads s p f) (omega (arith, w, a, x'.0, y'.0, z'.0))

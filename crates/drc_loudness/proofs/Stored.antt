@@ -1,12 +1,12 @@
 -- Filling the tables of a body whose lists were found: what the functions that fill ask for, and that they leave the rows of the tree.
-use Prim.Native.Nat.{ℕ, ◌*◌, ◌≤◌, ◌<◌}
+use Prim.Native.Nat.{ℕ, ◌+◌, ◌*◌, ◌≤◌, ◌<◌}
 use mathlib.Core.Path.{◌≡◌, ap, ◌∙◌}
 use mathlib.Core.List.{List, [], ◌∷◌, ◌++◌, map, flatten, flat_map}
 use mathlib.Core.Bool.{true}
 use native.Mathlib.Omega.{arith}
 use lib.ListN.{length, drop, length-map}
 use lib.Seq.{sets}
-use Rattle.wire.specs.Lists.{Every, all_nil, all_cons}
+use Rattle.wire.specs.Lists.{Every, all_nil, all_cons, sum}
 use Rattle.wire.specs.Prog.{run, many}
 use Rattle.wire.specs.Reads.{rows_of, is_done}
 use Rattle.wire.specs.Nest.{Fillable, Nests}
@@ -14,6 +14,7 @@ use Rattle.wire.specs.Layout.{flat, kids, broken_row, borne_row}
 use Rattle.wire.proofs.Layouts.Rowed.{Wide, parents_long}
 use Rattle.wire.proofs.Layouts.Fronts.{rows_front, flat_front, Both, both}
 use Rattle.wire.proofs.Layouts.Borne.{borne_wide}
+use Rattle.wire.proofs.Layouts.Families.{kids_summed}
 use Rattle.frame.specs.Entry.{needs, room, first_table, other_tables, filled}
 use Rattle.frame.specs.Body.{tables}
 use Rattle.frame.specs.Sight.{Roomy, Fills}
@@ -57,16 +58,16 @@ module _ {s : List ℕ} {p : Places} (f : Found s p) (short : length s < 65536) 
   module _ {i : DrcLoudnessInfo} (e : i ≡ info_in s) where
     -- what is asked for before each list is stored, with the counts as code has them
     pub instructions_ask : {at : ℕ} → at ≡ rows_at s
-        → Fillable (many i.drc_instructions instructions) 2 (λ l. length (kids l)) s at 0 t₂ × (24 * i.drc_instructions ≤ length t₁)
+        → Fillable (many i.drc_instructions instructions) 2 (sum (λ x. length x.1)) s at 0 t₂ × Unit {0} × (24 * i.drc_instructions ≤ length t₁)
     instructions_ask q =
-        rw (q, e)
-        (record { value = f.in_instructions; end = p.loudness; reads = f.instructions_read; begun = f.head; all = short; before = omega arith; room = omega (arith, space.additional) }, omega (arith, space.instructions, instructions_counted f))
+        rw (q, e, kids_summed)
+        (record { value = f.in_instructions; end = p.loudness; reads = f.instructions_read; begun = f.head; all = short; before = omega arith; room = omega (arith, space.additional) }, tt, omega (arith, space.instructions, instructions_counted f))
 
-    pub entries_ask : (p.loudness ≤ length s) × (length s < 65536) × (is_done (run (many i.loudness_infos entries) s p.loudness) ≡ true) × (7 * i.loudness_infos ≤ length t₃)
-    entries_ask = rw e (at_entries f, short, ap is_done f.entries_read, omega (arith, space.entries, entries_counted f))
+    pub entries_ask : (p.loudness ≤ length s) × (is_done (run (many i.loudness_infos entries) s p.loudness) ≡ true) × (length s < 65536) × (0 + 7 * i.loudness_infos ≤ length t₃)
+    entries_ask = rw e (at_entries f, ap is_done f.entries_read, short, omega (arith, space.entries, entries_counted f))
 
-    pub downmixes_ask : (p.downmixes ≤ length s) × (is_done (run (many i.downmix_definitions (flat 4 downmix)) s p.downmixes) ≡ true) × (4 * i.downmix_definitions ≤ length t₄)
-    downmixes_ask = rw e (at_downmixes f, ap is_done f.downmixes_read, omega (arith, space.downmixes, downmixes_counted f))
+    pub downmixes_ask : (p.downmixes ≤ length s) × (is_done (run (many i.downmix_definitions (flat 4 downmix)) s p.downmixes) ≡ true) × Unit {0} × (0 + 4 * i.downmix_definitions ≤ length t₄)
+    downmixes_ask = rw e (at_downmixes f, ap is_done f.downmixes_read, tt, omega (arith, space.downmixes, downmixes_counted f))
 
     -- ---- and what they leave
 

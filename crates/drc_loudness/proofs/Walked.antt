@@ -1,4 +1,5 @@
 -- The walk along a DRC and loudness body, list after list, is its program; and what it finds decides the record, the rows and the sizes.
+use Rattle.std.specs.Prelude.{Result, Ok, Err}
 use Prim.Native.Nat.{ℕ, ◌*◌, ◌≤◌, ◌<◌}
 use mathlib.Core.Path.{◌≡◌, refl, sym, ap, subst, ◌∙◌}
 use mathlib.Core.List.{List, [], ◌∷◌, ◌++◌, flat_map}
@@ -7,18 +8,18 @@ use native.Mathlib.Omega.{arith}
 use lib.ListN.{length, get_or}
 use lib.Dec.{eqb}
 use borrow.Author.Tests.{eq-eqb, ne_eqb, eqb-true}
+use Rattle.wire.specs.Lists.{sum}
 use Rattle.wire.specs.Bits.{part, total, split}
 use Rattle.wire.specs.Prog.{Prog, ret, Out, done, short, run, u8, many, ◌>>=◌}
-use Rattle.wire.specs.Reads.{map_out, end_of, short_of, Summed}
+use Rattle.wire.specs.Reads.{map_out, end_of, Summed}
 use Rattle.wire.specs.Act.{pick}
 use Rattle.wire.specs.Straight.{ends, ones, took, puts_at, taken, spans}
 use Rattle.wire.specs.Layout.{reserved, flag, blank, put, reads, flat, Family, Borne, kids}
 use Rattle.wire.specs.declared.reads.Short.{Short}
-use Rattle.wire.specs.declared.reads.Sum.{Sum}
-use Rattle.wire.specs.declared.reads.Sum.TheVariants as S
 use Rattle.wire.proofs.Reading.Walk.{halt, From, byte_next, onward, Passed, end_onward, end_cut_off, finished}
 use Rattle.wire.proofs.Fields.{part_below}
-use Rattle.wire.proofs.Reading.Loops.{WentOn, sum_onward, sum_cut_off, sum_small}
+use Rattle.wire.proofs.Reading.Loops.{WentOn, sum_onward, sum_cut_off, summed_as}
+use Rattle.wire.proofs.Layouts.Families.{kids_summed}
 use Rattle.wire.proofs.Layouts.Straight.{read_so, ends_at, ends_within, ends_few, ends_on, ends_cut, Past}
 use Rattle.frame.specs.Entry.{too_short, Measures}
 use Rattle.frame.proofs.Entries.{measures_short}
@@ -83,10 +84,10 @@ head_there s h l = record { same = ap (λ (p : Prog Tree). run p s 0) parse_over
     go false l = refl
 
 -- they are cut
-head_cut : (s : List ℕ) {x : Short} → ends (spans head blank s 0) s 0 ≡ short x → run kind.program s 0 ≡ short x
+pub head_cut : (s : List ℕ) {x : Short} → short x ≡ ends (spans head blank s 0) s 0 → run kind.program s 0 ≡ short x
 head_cut s e =
-    let q = read_so head blank s 0 ∙ ap (map_out (λ (u : Unit {0}). taken head blank s 0)) e in
-    ap (λ (p : Prog Tree). run p s 0) by_lists ∙ halt (reads head blank) _ s 0 refl q (sym (ap short_of q))
+    let q = read_so head blank s 0 ∙ ap (map_out (λ (u : Unit {0}). taken head blank s 0)) (sym e) in
+    ap (λ (p : Prog Tree). run p s 0) by_lists ∙ halt (reads head blank) _ s 0 (sym q)
 
 head_spans : (s : List ℕ) → spans head blank s 0 ≡ ones 1 ++ pick (eqb (flag_at s) 1) (ones 3) []
 unfolding head took puts_at put split total ones
@@ -130,34 +131,28 @@ head_long s = ap total (head_spans s) ∙ go (eqb (flag_at s) 1)
     go false = refl
 
 -- where the bytes before the lists end, as code finds it
-module _ (s : List ℕ) {o : Out (Unit {0})} (e : o ≡ ends (ones 1) s 0) where
+module _ (s : List ℕ) where
   abbrev whole : Bool → List ℕ
   whole b = ones 1 ++ pick b (ones 3) []
 
-  pub head_short : {x : Short} → o ≡ short x → o ≡ ends (spans head blank s 0) s 0
-  head_short d = ends_cut (ones 1) (pick (eqb (flag_at s) 1) (ones 3) []) s 0 e d ∙ sym (ap (λ (l : List ℕ). ends l s 0) (head_spans s))
+  pub head_short : {x : Short} → short x ≡ ends (ones 1) s 0 → short x ≡ ends (spans head blank s 0) s 0
+  head_short e = ends_cut (ones 1) (pick (eqb (flag_at s) 1) (ones 3) []) s 0 e ∙ sym (ap (λ (l : List ℕ). ends l s 0) (head_spans s))
 
-  pub head_alone : eqb (flag_at s) 1 ≡ false → o ≡ ends (spans head blank s 0) s 0
-  unfolding ones
-  head_alone t = e ∙ sym (ap (λ (l : List ℕ). ends l s 0) (head_spans s) ∙ ap (λ (b : Bool). ends (whole b) s 0) t)
+  module _ {n : ℕ} (e : done tt n ≡ ends (ones 1) s 0) where
+    pub head_alone : eqb (flag_at s) 1 ≡ false → done tt n ≡ ends (spans head blank s 0) s 0
+    unfolding ones
+    head_alone t = e ∙ sym (ap (λ (l : List ℕ). ends l s 0) (head_spans s) ∙ ap (λ (b : Bool). ends (whole b) s 0) t)
 
-  pub head_whole : flag_at s ≡ 1 → {n : ℕ} → o ≡ done tt n → {r : Out (Unit {0})} → r ≡ ends (ones 3) s n → r ≡ ends (spans head blank s 0) s 0
-  head_whole t d q = q ∙ sym (ap (λ (l : List ℕ). ends l s 0) (head_spans s) ∙ ap (λ (b : Bool). ends (whole b) s 0) (eq-eqb (flag_at s) 1 t) ∙ ends_on (ones 1) (ones 3) s 0 e d)
+    pub head_whole : flag_at s ≡ 1 → {r : Out (Unit {0})} → r ≡ ends (ones 3) s n → r ≡ ends (spans head blank s 0) s 0
+    head_whole t q = q ∙ sym (ap (λ (l : List ℕ). ends l s 0) (head_spans s) ∙ ap (λ (b : Bool). ends (whole b) s 0) (eq-eqb (flag_at s) 1 t) ∙ ends_on (ones 1) (ones 3) s 0 e)
 
--- they end before the first list
-module _ (s : List ℕ) {o : Out (Unit {0})} (e : o ≡ ends (spans head blank s 0) s 0) where
-  pub head_shorts : {x y : Short} → o ≡ short x → y ≡ short_of o → run kind.program s 0 ≡ short y
-  head_shorts d q = head_cut s (sym e ∙ d) ∙ ap short (sym (q ∙ ap short_of d))
-
-  pub begins : {n : ℕ} → o ≡ done tt n → Begun s n
-  begins d = record { at_rows = omega (arith, ends_at (spans head blank s 0) s 0 (sym e ∙ d), head_long s); inside = ends_within (spans head blank s 0) s 0 (omega arith) (sym e ∙ d) }
+  -- they end before the first list
+  pub begins : {n : ℕ} → done tt n ≡ ends (spans head blank s 0) s 0 → Begun s n
+  begins e = record { at_rows = omega (arith, ends_at (spans head blank s 0) s 0 (sym e), head_long s); inside = ends_within (spans head blank s 0) s 0 (omega arith) (sym e) }
 
   -- without them
-  pub cut_head : {x : Short} → o ≡ short x → Measures kind s (too_short x)
-  cut_head d = measures_short kind s (omega (arith, ends_few (spans head blank s 0) s 0 (sym e ∙ d), head_long s, (rows_near s).1)) (head_cut s (sym e ∙ d))
-
-  pub headless : {x : Short} → o ≡ short x → Measures kind s (too_short (short_of o))
-  headless {x} d = subst (λ (y : Short). Measures kind s (too_short y)) (sym (ap short_of d)) (cut_head d)
+  pub headless : {x : Short} → short x ≡ ends (spans head blank s 0) s 0 → Measures kind s (too_short x)
+  headless e = measures_short kind s (omega (arith, ends_few (spans head blank s 0) s 0 (sym e), head_long s, (rows_near s).1)) (head_cut s e)
 
 -- with info, or without
 module _ {s : List ℕ} {n : ℕ} (h : Begun s n) where
@@ -226,6 +221,9 @@ none_found {s} {n} w z {p} e =
 abbrev ids : List Family → ℕ
 ids l = length (kids l)
 
+abbrev each_ids : List Family → ℕ
+each_ids l = sum (λ x. length x.1) l
+
 -- behind the instructions
 pub record InInstructions (s : List ℕ) (v m : ℕ) : Type 0 where
   pub flagged : flag_at s ≡ 1
@@ -240,43 +238,44 @@ module _ (s : List ℕ) (t : flag_at s ≡ 1) (h : 4 ≤ length s) {i : DrcLoudn
   same : i ≡ info_in s
   same = e ∙ sym (info_there_lem s t)
 
-  module _ {r : Sum} (x : Summed (many i.drc_instructions instructions) ids (7 * i.drc_instructions) s 4 r) where
-    summed : Summed (many (info_in s).drc_instructions instructions) ids (7 * (info_in s).drc_instructions) s (rows_at s) r
-    summed =
-        subst (λ (at : ℕ). Summed (many (info_in s).drc_instructions instructions) ids (7 * (info_in s).drc_instructions) s at r) (sym (rows_four s t))
-        (subst (λ (i : DrcLoudnessInfo). Summed (many i.drc_instructions instructions) ids (7 * i.drc_instructions) s 4 r) same x)
+  summed : {r : Result (ℕ × ℕ) Short} → Summed (many i.drc_instructions instructions) each_ids (7 * i.drc_instructions) s 4 r
+      → Summed (many (info_in s).drc_instructions instructions) ids (7 * (info_in s).drc_instructions) s (rows_at s) r
+  summed {r} x =
+      subst (λ (at : ℕ). Summed (many (info_in s).drc_instructions instructions) ids (7 * (info_in s).drc_instructions) s at r) (sym (rows_four s t))
+      (subst (λ (i : DrcLoudnessInfo). Summed (many i.drc_instructions instructions) ids (7 * i.drc_instructions) s 4 r) same (summed_as kids_summed x))
 
-    pub instructions_found : {v m : ℕ} → r ≡ S.Got v m → InInstructions s v m
-    instructions_found g =
-        let n : (info_in s).drc_instructions < 64 = subst (λ (i : DrcLoudnessInfo). i.drc_instructions < 64) (sym (info_there_lem s t)) (part_below 0 6 (get_or s 1 0)) in
-        record { flagged = t; four = h; small = omega (arith, sum_small summed g, n); on = sum_onward (many (info_in s).drc_instructions instructions) (behind_instructions s) start summed g }
+  pub instructions_found : {v m : ℕ} → Summed (many i.drc_instructions instructions) each_ids (7 * i.drc_instructions) s 4 (Ok (v, m)) → InInstructions s v m
+  instructions_found x =
+      let n : (info_in s).drc_instructions < 64 = subst (λ (i : DrcLoudnessInfo). i.drc_instructions < 64) (sym (info_there_lem s t)) (part_below 0 6 (get_or s 1 0)) in
+      let y = summed x in
+      record { flagged = t; four = h; small = omega (arith, y.small, n); on = sum_onward (many (info_in s).drc_instructions instructions) (behind_instructions s) start y }
 
-    pub instructions_cut : {y : Short} → r ≡ S.Short y → run kind.program s 0 ≡ short y
-    instructions_cut g = sym (sum_cut_off (many (info_in s).drc_instructions instructions) (behind_instructions s) start summed g)
+  pub instructions_cut : {y : Short} → Summed (many i.drc_instructions instructions) each_ids (7 * i.drc_instructions) s 4 (Err y) → run kind.program s 0 ≡ short y
+  instructions_cut x = sym (sum_cut_off (many (info_in s).drc_instructions instructions) (behind_instructions s) start (summed x))
 
 -- behind the entries
 pub record InEntries (s : List ℕ) (v m n : ℕ) : Type 0 where
   pub before : InInstructions s v m
   pub on : Passed (many (info_in s).loudness_infos entries) (behind_entries s before.on.value) kind.program s 0 m n
 
-module _ {s : List ℕ} {v m : ℕ} (w : InInstructions s v m) {i : DrcLoudnessInfo} (e : i ≡ info_there s) {o : Out (Unit {0})} (q : o ≡ end_of (run (many i.loudness_infos entries) s m)) where
-  same_entries : o ≡ end_of (run (many (info_in s).loudness_infos entries) s m)
-  same_entries = q ∙ (λ j. end_of (run (many ((e ∙ sym (info_there_lem s w.flagged)) j).loudness_infos entries) s m))
+module _ {s : List ℕ} {v m : ℕ} (w : InInstructions s v m) {i : DrcLoudnessInfo} (e : i ≡ info_there s) where
+  same_entries : end_of (run (many i.loudness_infos entries) s m) ≡ end_of (run (many (info_in s).loudness_infos entries) s m)
+  same_entries = λ j. end_of (run (many ((e ∙ sym (info_there_lem s w.flagged)) j).loudness_infos entries) s m)
 
-  pub entries_found : {n : ℕ} → o ≡ done tt n → InEntries s v m n
-  entries_found d = record { before = w; on = end_onward (many (info_in s).loudness_infos entries) (behind_entries s w.on.value) w.on.place same_entries d }
+  pub entries_found : {n : ℕ} → done tt n ≡ end_of (run (many i.loudness_infos entries) s m) → InEntries s v m n
+  entries_found q = record { before = w; on = end_onward (many (info_in s).loudness_infos entries) (behind_entries s w.on.value) w.on.place (q ∙ same_entries) }
 
-  pub entries_cut : {x y : Short} → o ≡ short x → y ≡ short_of o → run kind.program s 0 ≡ short y
-  entries_cut d z = sym (end_cut_off (many (info_in s).loudness_infos entries) (behind_entries s w.on.value) w.on.place same_entries d z)
+  pub entries_cut : {x : Short} → short x ≡ end_of (run (many i.loudness_infos entries) s m) → run kind.program s 0 ≡ short x
+  entries_cut q = sym (end_cut_off (many (info_in s).loudness_infos entries) (behind_entries s w.on.value) w.on.place (q ∙ same_entries))
 
-module _ {s : List ℕ} {v m n : ℕ} (w : InEntries s v m n) {i : DrcLoudnessInfo} (e : i ≡ info_there s) {o : Out (Unit {0})} (q : o ≡ end_of (run (many i.downmix_definitions (flat 4 downmix)) s n)) where
-  same_downmixes : o ≡ end_of (run (many (info_in s).downmix_definitions (flat 4 downmix)) s n)
-  same_downmixes = q ∙ (λ j. end_of (run (many ((e ∙ sym (info_there_lem s w.before.flagged)) j).downmix_definitions (flat 4 downmix)) s n))
+module _ {s : List ℕ} {v m n : ℕ} (w : InEntries s v m n) {i : DrcLoudnessInfo} (e : i ≡ info_there s) where
+  same_downmixes : end_of (run (many i.downmix_definitions (flat 4 downmix)) s n) ≡ end_of (run (many (info_in s).downmix_definitions (flat 4 downmix)) s n)
+  same_downmixes = λ j. end_of (run (many ((e ∙ sym (info_there_lem s w.before.flagged)) j).downmix_definitions (flat 4 downmix)) s n)
 
-  pub all_found : {k : ℕ} → o ≡ done tt k → Found s (record { loudness = m; downmixes = n; additional = v; k = k })
-  all_found d =
+  pub all_found : {k : ℕ} → done tt k ≡ end_of (run (many i.downmix_definitions (flat 4 downmix)) s n) → Found s (record { loudness = m; downmixes = n; additional = v; k = k })
+  all_found q =
       let y =
-      end_onward (many (info_in s).downmix_definitions (flat 4 downmix)) (λ ds. ret (tree_of s w.before.on.value w.on.value ds)) w.on.place same_downmixes d in
+      end_onward (many (info_in s).downmix_definitions (flat 4 downmix)) (λ ds. ret (tree_of s w.before.on.value w.on.value ds)) w.on.place (q ∙ same_downmixes) in
       record {
         in_instructions = w.before.on.value;
         in_entries = w.on.value;
@@ -289,9 +288,9 @@ module _ {s : List ℕ} {v m n : ℕ} (w : InEntries s v m n) {i : DrcLoudnessIn
         additional_few = w.before.small;
       }
 
-  pub downmixes_cut : {x y : Short} → o ≡ short x → y ≡ short_of o → run kind.program s 0 ≡ short y
-  downmixes_cut d z =
-      sym (end_cut_off (many (info_in s).downmix_definitions (flat 4 downmix)) (λ ds. ret (tree_of s w.before.on.value w.on.value ds)) w.on.place same_downmixes d z)
+  pub downmixes_cut : {x : Short} → short x ≡ end_of (run (many i.downmix_definitions (flat 4 downmix)) s n) → run kind.program s 0 ≡ short x
+  downmixes_cut q =
+      sym (end_cut_off (many (info_in s).downmix_definitions (flat 4 downmix)) (λ ds. ret (tree_of s w.before.on.value w.on.value ds)) w.on.place (q ∙ same_downmixes))
 
 -- ---- what was found
 
@@ -302,7 +301,7 @@ first_there {s} f = omega (arith, f.head, (rows_near s).0)
 pub found_reads : (s : List ℕ) (p : Places) (f : Found s p) → run kind.program s 0 ≡ done (tree f) p.k
 found_reads s p f =
     let w₀ = head_there s (first_there f) f.head in
-    let w₁ = onward (many (info_in s).drc_instructions instructions) (behind_instructions s) w₀ refl f.instructions_read in
-    let w₂ = onward (many (info_in s).loudness_infos entries) (behind_entries s f.in_instructions) w₁ refl f.entries_read in
-    let w₃ = onward (many (info_in s).downmix_definitions (flat 4 downmix)) (λ ds. ret (tree_of s f.in_instructions f.in_entries ds)) w₂ refl f.downmixes_read in
+    let w₁ = onward (many (info_in s).drc_instructions instructions) (behind_instructions s) w₀ (sym f.instructions_read) in
+    let w₂ = onward (many (info_in s).loudness_infos entries) (behind_entries s f.in_instructions) w₁ (sym f.entries_read) in
+    let w₃ = onward (many (info_in s).downmix_definitions (flat 4 downmix)) (λ ds. ret (tree_of s f.in_instructions f.in_entries ds)) w₂ (sym f.downmixes_read) in
     sym (finished w₃ refl)

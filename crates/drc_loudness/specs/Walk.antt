@@ -1,9 +1,11 @@
 -- What the walk along a DRC and loudness body finds: where its lists stand, and how many additional IDs they have. The promises of the entry points do not rest on it.
-use Rattle.std.specs.Prelude.{ℕ, ◌≤◌, List, [], ◌∷◌, ◌≡◌, length, get_or, eqb}
+use Rattle.std.specs.Prelude.{Result, Ok, Err, ℕ, ◌≤◌, List, [], ◌∷◌, ◌≡◌, length, get_or, eqb}
 use Rattle.wire.specs.Bits.{part}
 use Rattle.wire.specs.Prog.{done, short, run, many}
 use Rattle.wire.specs.Act.{pick}
 use Rattle.wire.specs.Layout.{flat, Family, Borne, kids}
+use Rattle.wire.specs.declared.reads.Short.{Short}
+use Rattle.frame.specs.declared.Refusal.{Refusal}
 use Rattle.frame.specs.Kind.{Lent}
 use Rattle.frame.specs.Numbers.{refused, refusal}
 use Rattle.frame.specs.Entry.{Reads}
@@ -16,10 +18,6 @@ use Rattle.drc_kind.specs.declared.rows.Info.{Info}
 use Rattle.drc_kind.specs.Rows.{no_info, Tree, tree_is}
 use Rattle.drc_kind.specs.Kind.{kind}
 use Rattle.drc_loudness.specs.declared.parsing.Places.{Places}
-use Rattle.drc_loudness.specs.declared.parsing.Walk.{Walk}
-use Rattle.drc_loudness.specs.declared.parsing.Walk.TheVariants as W
-use Rattle.drc_loudness.specs.declared.Opening.{Opening}
-use Rattle.drc_loudness.specs.declared.Opening.TheVariants as O
 
 -- the flag of the info, and what stands behind the first byte where it is set
 abbrev pub flag_at : List ℕ → ℕ
@@ -71,17 +69,17 @@ tree_of s is ls ds = tree_is (top_of s) is ls ds
 abbrev pub tree : {s : List ℕ} {p : Places} → Found s p → Tree
 tree {s} f = tree_of s f.in_instructions f.in_entries f.in_downmixes
 
-abbrev pub walks : List ℕ → Walk → Type 0
-walks s (W.Done p) = Found s p
-walks s (W.Short x) = run kind.program s 0 ≡ short x
+abbrev pub walks : List ℕ → Result Places Short → Type 0
+walks s (Ok p) = Found s p
+walks s (Err x) = run kind.program s 0 ≡ short x
 
-pub record Walks (s : List ℕ) (r : Walk) : Type 0 where
+pub record Walks (s : List ℕ) (r : Result Places Short) : Type 0 where
   pub finds : walks s r
 
 -- a body that was opened, or why it is refused
-abbrev pub opens : List ℕ → Lent → Opening → Lent → Type 0
-opens s lent (O.At p) after = Opened kind (Found s p) s lent after
-opens s lent (O.Refused x) after = Reads kind s lent (refused (refusal x)) after
+abbrev pub opens : List ℕ → Lent → Result Places Refusal → Lent → Type 0
+opens s lent (Ok p) after = Opened kind (Found s p) s lent after
+opens s lent (Err x) after = Reads kind s lent (refused (refusal x)) after
 
-pub record Opens (s : List ℕ) (lent : Lent) (r : Opening) (after : Lent) : Type 0 where
+pub record Opens (s : List ℕ) (lent : Lent) (r : Result Places Refusal) (after : Lent) : Type 0 where
   pub gives : opens s lent r after

@@ -12,28 +12,23 @@ ghost use Rattle.drc_loudness.specs.Contract.{sized};
 ghost use Rattle.drc_loudness.specs.Walk.{flag_at, info_at, info_there, rows_at, Found, Walks};
 
 use super::Sizes;
-use downmixes::parsing::{fill_downmixes, measure_downmixes};
+use downmixes::parsing::{Downmix, measure_downmixes};
 use drc_kind::rows::{DrcLoudnessInfo, Info, MpegH3dAudioDrcLoudness};
-use instructions::parsing::{fill_instructions, measure_instructions};
-use loudness::parsing::{fill_entries, measure_entries};
+use instructions::parsing::Instruction;
+use loudness::parsing::LoudnessEntry;
 use wire::bits::{part, wide};
+use wire::list::{nest_rows, rows_end, rows_kids, store_rows};
 use wire::reads;
-use wire::reads::{Ends, Short, Sum};
+use wire::reads::Short;
 use wire::rows::trailing_run;
 
 // Where the second and the third list of a body begin, how many additional IDs it has, and k.
-#[derive(Clone, Copy)]
+#[derive(Clone, Copy, PartialEq, Eq)]
 pub struct Places {
     pub loudness: usize,
     pub downmixes: usize,
     pub additional: usize,
     pub k: usize,
-}
-
-#[derive(Clone, Copy)]
-pub enum Walk {
-    Done(Places),
-    Short(Short),
 }
 
 // The reserved bits and the counts that stand behind the first byte.
@@ -75,24 +70,17 @@ pub fn rows_at(body: &[u8]) -> usize
 }
 
 // The lists that begin behind the counts.
-pub fn walk_lists(body: &[u8]) -> Walk
+pub fn walk_lists(body: &[u8]) -> Result<Places, Short>
     requires { (4 ≤ length body.now) × (flag_at body.now ≡ 1) }
     ensures { Walks body.now result }
 {
     let info = info_there(body);
-    let s = measure_instructions(body, 4, info.drc_instructions as usize);
-    let Sum::Got(additional, loudness) = s else {
-        return Walk::Short(s.short());
-    };
-    let e = measure_entries(body, loudness, info.loudness_infos as usize);
-    let Ends::At(downmixes) = e else {
-        return Walk::Short(e.short());
-    };
-    let d = measure_downmixes(body, downmixes, info.downmix_definitions as usize);
-    let Ends::At(k) = d else {
-        return Walk::Short(d.short());
-    };
-    Walk::Done(Places {
+    let count = info.drc_instructions as usize;
+    let (additional, loudness) = rows_kids(&Instruction, body, 4, count)?;
+    let count = info.loudness_infos as usize;
+    let downmixes = rows_end(&LoudnessEntry, body, loudness, count)?;
+    let k = measure_downmixes(body, downmixes, info.downmix_definitions as usize)?;
+    Ok(Places {
         loudness,
         downmixes,
         additional,
@@ -101,17 +89,14 @@ pub fn walk_lists(body: &[u8]) -> Walk
 }
 
 // Where the bytes before the lists end: the first, and the counts if there is info.
-pub fn head_end(body: &[u8]) -> Ends
+pub fn head_end(body: &[u8]) -> Result<usize, Short>
     ensures { ends_out result ≡ ends (spans head blank body.now 0) body.now 0 }
 {
-    let a = reads::head(body, 0, 1);
-    let Ends::At(n) = a else {
-        return a;
-    };
+    let n = reads::head(body, 0, 1)?;
     if part(wide(body[0]), 0, 1) == 1 {
         reads::head(body, n, 3)
     } else {
-        a
+        Ok(n)
     }
 }
 
@@ -128,17 +113,14 @@ pub fn nowhere(n: usize) -> Places
 }
 
 // What stands before the lists, and the lists; without info there is nothing behind the first byte.
-pub fn find_lists(body: &[u8]) -> Walk
+pub fn find_lists(body: &[u8]) -> Result<Places, Short>
     ensures { Walks body.now result }
 {
-    let h = head_end(body);
-    let Ends::At(n) = h else {
-        return Walk::Short(h.short());
-    };
+    let n = head_end(body)?;
     if n == 4 {
         walk_lists(body)
     } else {
-        Walk::Done(nowhere(n))
+        Ok(nowhere(n))
     }
 }
 
@@ -185,18 +167,10 @@ pub fn fill(
 {
     let info = info_at(body).part;
     let at = rows_at(body);
-    fill_instructions(
-        body,
-        at,
-        info.drc_instructions as usize,
-        instructions,
-        additional,
-    );
-    fill_entries(body, p.loudness, info.loudness_infos as usize, loudness);
-    fill_downmixes(
-        body,
-        p.downmixes,
-        info.downmix_definitions as usize,
-        downmixes,
-    );
+    let count = info.drc_instructions as usize;
+    nest_rows(&Instruction, body, at, count, instructions, additional);
+    let count = info.loudness_infos as usize;
+    let _ = store_rows(&LoudnessEntry, body, p.loudness, count, loudness, 0);
+    let count = info.downmix_definitions as usize;
+    let _ = store_rows(&Downmix, body, p.downmixes, count, downmixes, 0);
 }

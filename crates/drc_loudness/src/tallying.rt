@@ -8,11 +8,12 @@ ghost use Rattle.drc_kind.specs.Kind.{kind};
 ghost use Rattle.drc_loudness.specs.Walk.{top_of, info_at, rows_at, Found};
 
 use super::parsing::{Places, info_at, rows_at};
-use downmixes::tallying::tally_downmixes;
+use downmixes::parsing::Downmix;
 use drc_kind::rows::Info;
-use instructions::tallying::tally_instructions;
-use loudness::tallying::tally_entries;
+use instructions::parsing::Instruction;
+use loudness::parsing::LoudnessEntry;
 use wire::bits::{idle_bits, part, wide};
+use wire::list::rows_zeros;
 
 // Of the bytes before the lists.
 fn top_zeros(body: &[u8], info: Info) -> u32
@@ -36,11 +37,11 @@ pub fn zero_bits(body: &[u8], p: Places) -> usize
     ensures { Tallies kind body.now (accepted result) }
 {
     let info = info_at(body);
-    let top = top_zeros(body, info) as usize;
+    let top = top_zeros(body, info);
     let i = info.part;
     let at = rows_at(body);
-    let is = tally_instructions(body, at, i.drc_instructions as usize) as usize;
-    let ls = tally_entries(body, p.loudness, i.loudness_infos as usize) as usize;
-    let ds = tally_downmixes(body, p.downmixes, i.downmix_definitions as usize) as usize;
-    top + is + (ls + ds)
+    let is = rows_zeros(&Instruction, body, at, i.drc_instructions as usize);
+    let ls = rows_zeros(&LoudnessEntry, body, p.loudness, i.loudness_infos as usize);
+    let ds = rows_zeros(&Downmix, body, p.downmixes, i.downmix_definitions as usize);
+    (top + is.zeros + (ls.zeros + ds.zeros)) as usize
 }

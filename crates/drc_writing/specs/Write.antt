@@ -13,6 +13,14 @@ use Rattle.downmixes.specs.Layout.{downmix}
 use Rattle.drc_kind.specs.declared.rows.DrcLoudnessInfo.{DrcLoudnessInfo}
 use Rattle.drc_kind.specs.declared.rows.Info.{Info}
 use Rattle.drc_kind.specs.declared.rows.MpegH3dAudioDrcLoudness.{MpegH3dAudioDrcLoudness}
+use Rattle.drc_writing.specs.declared.writing.Lists.{Lists}
+
+-- the four tables, and the store
+abbrev pub lent : Lists → Lent
+lent t = t.instructions.instructions.now ∷ t.instructions.additional.now ∷ t.entries.entries.now ∷ t.downmixes.downmixes.now ∷ []
+
+abbrev pub store_of : Lists → List ℕ
+store_of t = t.entries.store.now
 
 -- ---- the bytes of the top record
 

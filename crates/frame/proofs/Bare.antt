@@ -13,8 +13,8 @@ use Rattle.wire.specs.Pen.{Checked, CheckedRun, Ready, Filled, bytes}
 use Rattle.wire.specs.Spell.{Spelt, none, more}
 use Rattle.wire.specs.declared.rows.Payload.{Payload}
 use Rattle.wire.specs.declared.pen.Fault.TheVariants as F
-use Rattle.wire.specs.declared.pen.Pen.{Pen}
-use Rattle.wire.specs.declared.pen.Pen.TheVariants.{At}
+use Rattle.wire.specs.Pen.{Pen}
+use Rattle.wire.specs.Pen.{At}
 use Rattle.wire.proofs.Writing.Passes.{passed, unskip}
 use Rattle.frame.specs.Numbers.{Answer}
 use Rattle.frame.specs.Kind.{Kind, Lent}

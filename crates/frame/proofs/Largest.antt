@@ -1,4 +1,5 @@
 -- The largest image of a kind, from what its own actions make at most: its trailing run is at most 65,535 bytes more.
+use Rattle.std.specs.Prelude.{Ok, Err}
 use Prim.Native.Nat.{ℕ, ◌+◌, ◌≤◌, ◌<◌}
 use mathlib.Core.List.{List, [], ◌∷◌, ◌++◌, append-nil}
 use mathlib.Core.Bool.{true}
@@ -11,7 +12,7 @@ use Rattle.wire.specs.Act.{copy, image, settle}
 use Rattle.wire.specs.Pen.{clean, bytes}
 use Rattle.wire.proofs.Writing.Acts.{and_both, clean_both, bytes_append, settled}
 use Rattle.wire.proofs.Writing.Passes.{slice_long}
-use Rattle.frame.specs.declared.Written.TheVariants as W
+use Rattle.frame.specs.declared.Unwritten.TheVariants as W
 use Rattle.frame.specs.Kind.{Kind, Lent}
 use Rattle.frame.specs.Numbers.{refuses}
 use Rattle.frame.specs.Entry.{all_acts, trail, writing, Writes}
@@ -39,5 +40,5 @@ module _ {Tree Top Value : Type 0} (K : Kind Tree Top Value) (top : Top) (lent :
   pub longest : (out after : List ℕ) (n : ℕ) → Writes K top lent store out (refuses 10 (n ∷ [])) after → n ≤ most + 65535
   unfolding writing Met
   longest out after n w =
-      let (b, e, l, o, k) = met out (settle (all_acts K top lent store) 0) (W.TooLong n) after (sym w.promised) in
+      let (b, e, l, o, k) = met out (settle (all_acts K top lent store) 0) (Err (W.TooLong n)) after (sym w.promised) in
       subst (λ (k : ℕ). k ≤ most + 65535) l (image_most b e)

@@ -8,8 +8,7 @@ use lib.Dec.{leb}
 use borrow.Author.Tests.{leb-true}
 use Rattle.wire.specs.Act.{Act, demand, copy}
 use Rattle.wire.specs.declared.pen.Fault.TheVariants as F
-use Rattle.wire.specs.declared.pen.Pen.{Pen}
-use Rattle.wire.specs.declared.pen.Pen.TheVariants.{At, Stop}
+use Rattle.wire.specs.Pen.{Pen, At, Stop}
 use Rattle.wire.specs.Pen.{Checked, CheckedRun, Ready, Filled}
 use Rattle.wire.proofs.Writing.Passes.{then, passed, refused, run_looked, Filling, fill_start, fill_demand, fill_row_lem, fill_turn, fill_last, demanded, run_room}
 use Rattle.frame.specs.Kind.{Kind, Lent}

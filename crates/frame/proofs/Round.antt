@@ -1,4 +1,5 @@
 -- Condition 2, of every kind: what is read is written as the same bytes, what is written is read back equal in meaning, and no two bodies have the same record, payload bytes and trailing bytes.
+use Rattle.std.specs.Prelude.{Ok, Err}
 use Prim.Native.Nat.{ℕ, suc, ◌+◌, ◌-◌, ◌≤◌, ◌<◌}
 use mathlib.Core.List.{List, [], ◌∷◌, ◌++◌, append-nil, flatten}
 use mathlib.Core.Bool.{true}
@@ -21,7 +22,7 @@ use Rattle.wire.proofs.Reading.Blind.{passed_within}
 use Rattle.wire.proofs.Reading.Takes.{Takes, run_takes, takes_run, here_append}
 use Rattle.wire.proofs.Writing.Acts.{and_both, both_and, clean_append, clean_both, bytes_append, settles, settled}
 use Rattle.wire.proofs.Layouts.Codec.{Wrote}
-use Rattle.frame.specs.declared.Written.TheVariants as W
+use Rattle.frame.specs.declared.Unwritten.TheVariants as W
 use Rattle.frame.specs.Numbers.{Answer, accepted, number}
 use Rattle.frame.specs.Kind.{Kind, Lent, Rows, Held}
 use Rattle.frame.specs.Entry.{leaves, Sound, Need, needs, first_table, other_tables, lacking, filled, tail, judging, reading, puts, trail, all_acts, writing}
@@ -270,7 +271,7 @@ module _ {Tree Top Value : Type 0} (K : Kind Tree Top Value) where
 
     pub rewrites : (body : List ℕ) (lent : Lent) (top : Top) (after : Lent) (out : List ℕ) → Every Byte body → reading K body lent ≡ leaves (accepted top) after
         → length body ≤ length out
-        → writing K top after body out ≡ puts (W.Done (length body)) (body ++ drop (length body) out)
+        → writing K top after body out ≡ puts (Ok (length body)) (body ++ drop (length body) out)
     unfolding writing
     rewrites body lent top after out b e h =
         let w = was K body lent top after e in

@@ -16,8 +16,7 @@ fn each_same(
 ) -> bool
     ensures { result ≡ (same_group group group && same_switch_group switch_group switch_group) && (same_group_preset preset preset && same_drc_set drc_set drc_set) }
 {
-    (group.same(group) & switch_group.same(switch_group))
-        & (preset.same(preset) & drc_set.same(drc_set))
+    (group == group && switch_group == switch_group) && (preset == preset && drc_set == drc_set)
 }
 
 #[derive(Debug, Drop)]
@@ -32,9 +31,9 @@ fn expect(ok: bool) -> Result<(), NotSame>
 }
 
 fn main() -> Result<(), NotSame> {
-    expect(GroupId(5).same(GroupId(5)))?;
-    expect(SwitchGroupId(5).same(SwitchGroupId(5)))?;
-    expect(GroupPresetId(5).same(GroupPresetId(5)))?;
-    expect(DrcSetId(5).same(DrcSetId(5)))?;
+    expect(GroupId(5) == GroupId(5))?;
+    expect(SwitchGroupId(5) == SwitchGroupId(5))?;
+    expect(GroupPresetId(5) == GroupPresetId(5))?;
+    expect(DrcSetId(5) == DrcSetId(5))?;
     expect(each_same(GroupId(5), SwitchGroupId(5), GroupPresetId(5), DrcSetId(5)))
 }

@@ -1,4 +1,5 @@
 -- Instructions written: their actions part by part, and what the two passes do with a row and its additional IDs.
+use Rattle.std.specs.Prelude.{Err}
 use Prim.Native.Nat.{ℕ, zero, suc, ◌+◌, ◌*◌, ◌/◌, ◌%◌, ◌<◌, ◌≤◌}
 use mathlib.Core.Path.{◌≡◌, refl, sym, ap, subst, ◌∙◌}
 use mathlib.Core.List.{List, [], ◌∷◌, ◌++◌, append_assoc, append-nil, map, flatten}
@@ -11,16 +12,14 @@ use borrow.Author.Tests.{lt-ltb, ltb-true, leb-true, le-ltb, eq-eqb, ne_eqb, eqb
 use Rattle.wire.specs.Lists.{each}
 use Rattle.wire.specs.Bits.{Field, field, is_flag, fit, total}
 use Rattle.wire.specs.Act.{Act, demand, byte, when, pick, rows}
-use Rattle.wire.specs.Pen.{Checked, Quick, Ready, Filled, clean, bytes}
+use Rattle.wire.specs.Pen.{Checked, Quick, Ready, Filled, clean, bytes, Pen, At}
 use Rattle.wire.specs.Layout.{Cell, num, reserved, flag, end, optional, ◌▹◌, Columns, from, at, row, field_of, writes, shown, cells, matches, matched, every, flagged, counted, layouts, has}
 use Rattle.wire.specs.Spell.{fit_all, Spells, Spelt, none, more, FitsAll, ChecksAll, ReadyAll, FillsAll, PlainRows}
-use Rattle.wire.specs.declared.pen.Fault.{Fault}
 use Rattle.wire.specs.declared.pen.Fault.TheVariants as F
-use Rattle.wire.specs.declared.pen.Pen.{Pen}
-use Rattle.wire.specs.declared.pen.Pen.TheVariants.{At, Stop}
+use Rattle.wire.specs.declared.pen.Stopped.{Stopped}
 use Rattle.wire.proofs.Writing.Acts.{and_both, both_and, clean_append, clean_both, bytes_append}
 use Rattle.wire.proofs.Fields.{fits_cons}
-use Rattle.wire.proofs.Writing.Passes.{then, here, quick_clean, quick_odd, fill_none, Filling, fill_start, fill_demand, fill_row_lem, fill_turn, fill_last}
+use Rattle.wire.proofs.Writing.Passes.{then, quick_clean, quick_odd, fill_none, Filling, fill_start, fill_demand, fill_row_lem, fill_turn, fill_last}
 use Rattle.wire.proofs.Writing.Plain.{met, all_checked, bytes_long, clean_all, clean_when, no_quick, going_start, going_end, filled_long, ready_part, fill_part_lem}
 use Rattle.wire.proofs.Layouts.Cells.{all, distinct, free, eights, proper, suits}
 use Rattle.wire.proofs.Layouts.Forms.{sure, below, form_proper, form_all}
@@ -258,21 +257,22 @@ module _ (d : DrcInstructions) where
         let (_, s) = clean_both (writes (scope types) g) settings_part c in
         record { inside = omega (arith, i); few = (small (sym (clean_all (settings_fields d)) ∙ s)).few }
 
-    module _ {n : ℕ} {p : Pen} (w : Checked (front_acts instruction (length u / 2) g) 5 (At n) p) where
-      pub front_behind : {m : ℕ} → p ≡ At m → Behind
-      front_behind e = behind (front_passed instruction (length u / 2) (pair_acts u) g w e)
+    -- it has stopped
+    pub front_stopped : {n : ℕ} {x : Stopped} → Checked (front_acts instruction (length u / 2) g) 5 (At n) (Err x) → Checked (instruction_acts u d) 18 (At n) (Err x)
+    front_stopped {x = x} w = broken_stopped instruction (length u / 2) (pair_acts u) g w 18 (omega arith) {f = x.0} {m = x.1} refl
 
-      pub front_near : {m : ℕ} → p ≡ At m → m ≤ n + 5
-      front_near e = rw e at w.near
+    -- or stands at a place
+    module _ {n m : ℕ} (w : Checked (front_acts instruction (length u / 2) g) 5 (At n) (At m)) where
+      pub front_behind : Behind
+      front_behind = behind (front_passed instruction (length u / 2) (pair_acts u) g w refl)
 
-      pub front_stopped : {f : Fault} {m : ℕ} → p ≡ Stop f m → Checked (instruction_acts u d) 18 (At n) p
-      front_stopped e = broken_stopped instruction (length u / 2) (pair_acts u) g w 18 (omega arith) e
+      pub front_near : m ≤ n + 5
+      front_near = w.near
 
-      pub row_checked : {m : ℕ} {q r : Pen} → p ≡ At m → Checked (rows (pair_acts u) (g 10) (g 11)) (g 11) (At m) q → Checked (effect_acts d) 6 q r
-          → Checked (instruction_acts u d) 18 (At n) r
-      row_checked {q = q} {r} e x y =
-          broken_checked instruction (length u / 2) (pair_acts u) g w 18 (here e x) (subst (λ (a : List Act). Checked a 6 q r) (sym effect_so) y)
-          (let h = (front_behind e).few in omega (arith, h))
+      pub row_checked : {q r : Pen} → Checked (rows (pair_acts u) (g 10) (g 11)) (g 11) (At m) q → Checked (effect_acts d) 6 q r → Checked (instruction_acts u d) 18 (At n) r
+      row_checked {q} {r} x y =
+          broken_checked instruction (length u / 2) (pair_acts u) g w 18 x (subst (λ (a : List Act). Checked a 6 q r) (sym effect_so) y)
+          (let h = front_behind.few in omega (arith, h))
 
     -- ---- the quick test
 

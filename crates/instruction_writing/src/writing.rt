@@ -1,9 +1,7 @@
 // Writing DRC instructions: their bytes as numbers, the check pass with a quick test of a plain row, and the fill pass.
 ghost use Rattle.std.specs.Prelude.{◌≡◌, true, ◌+◌, ◌*◌, ◌<◌, ◌≤◌, ◌/◌, ◌^◌, length};
-ghost use Rattle.wire.specs.Act.{rows};
-ghost use Rattle.wire.specs.Pen.{reach, clean, bytes, Checked, Quick, Ready, Filled};
-ghost use Rattle.wire.specs.Spell.{Spelt, PlainRows};
-ghost use Rattle.wire.specs.declared.pen.Pen.TheVariants.{At};
+ghost use Rattle.wire.specs.Pen.{reach, clean, bytes, Checked, Quick, Ready, Filled, At};
+ghost use Rattle.wire.specs.Spell.{Spelt};
 ghost use Rattle.wire.proofs.Layouts.Families.{front_acts};
 ghost use Rattle.instructions.specs.Layout.{instruction};
 ghost use Rattle.instructions.specs.Rows.{instruction_cols, instruction_of};
@@ -17,9 +15,10 @@ use scopes::writing::{check_scope, fill_scope, plain_scope};
 use target_loudness::writing::{check_target, fill_target, flags_hold, target_fits, target_long};
 use wire::bits::is_flag;
 use wire::pen;
-use wire::pen::{Fault, Passed, Pen};
+use wire::pen::{Fault, Pen};
 use wire::rows::in_table;
 use wire::spell::{Joined, check_all, fill_all, fits_all, one, two};
+use wire::written::Rows;
 
 // ---- the bytes
 
@@ -63,8 +62,7 @@ fn is_bare(t: &[u16], b: usize) -> bool
 fn all_flags_hold(d: DrcInstructions) -> bool
     ensures { result ≡ flags_of d }
 {
-    let target_loudness = d.target_loudness;
-    is_flag(d.limiter_peak_target.present) & flags_hold(target_loudness)
+    is_flag(d.limiter_peak_target.present) & flags_hold(d.target_loudness)
 }
 
 // Range and flags at the start of the row, then the scope, then each byte before the additional IDs at its place.
@@ -73,11 +71,9 @@ fn check_front(n: usize, d: DrcInstructions, additional: &[u16]) -> Pen
     ensures { Checked (front_acts instruction (length additional.now / 2) (instruction_cols d)) 5 (At n) result }
 {
     let inside = in_table(d.additional_downmix_ids, additional, ADDITIONAL_COLUMNS);
-    let p0 = pen::demand(Pen::At(n), Fault::Range, inside);
+    let p0 = pen::demand(Ok(n), Fault::Range, inside);
     let p1 = pen::demand(p0, Fault::Field, all_flags_hold(d));
-    let types = DRC_GROUP_TYPES;
-    let scope = d.scope;
-    let p2 = check_scope(p1, d.reserved_type, scope, &types);
+    let p2 = check_scope(p1, d.reserved_type, d.scope, &DRC_GROUP_TYPES);
     check_all(p2, true, &settings_bytes(d))
 }
 
@@ -87,20 +83,16 @@ fn check_effect(p: Pen, d: DrcInstructions) -> Pen
     ensures { Checked (effect_acts d) 6 p result }
 {
     let limiter = d.limiter_peak_target;
-    let target_loudness = d.target_loudness;
     let p0 = check_all(p, true, &effect_bytes(d.drc_set_effect));
     let p1 = check_all(p0, limiter.present == 1, &limiter_bytes(limiter));
-    check_target(p1, target_loudness)
+    check_target(p1, d.target_loudness)
 }
 
 fn check_instruction(n: usize, d: DrcInstructions, additional: &[u16]) -> Pen
     requires { n < 2 ^ 30 }
     ensures { Checked (instruction_acts additional.now d) 18 (At n) result }
 {
-    let p = check_front(n, d, additional);
-    let Pen::At(m) = p else {
-        return p;
-    };
+    let m = check_front(n, d, additional)?;
     let q = check_pairs(m, d.additional_downmix_ids, additional);
     check_effect(q, d)
 }
@@ -110,11 +102,10 @@ fn effect_fits(d: DrcInstructions) -> bool
     ensures { result ≡ clean (effect_acts d) }
 {
     let limiter = d.limiter_peak_target;
-    let target_loudness = d.target_loudness;
     if limiter.present == 1 {
-        fits_all(&limiter_bytes(limiter)) & target_fits(target_loudness)
+        fits_all(&limiter_bytes(limiter)) & target_fits(d.target_loudness)
     } else {
-        target_fits(target_loudness)
+        target_fits(d.target_loudness)
     }
 }
 
@@ -123,17 +114,14 @@ fn effect_long(d: DrcInstructions) -> usize
     requires { (clean (effect_acts d) ≡ true) × (d.limiter_peak_target.present ≤ 1) }
     ensures { (result ≡ length (bytes (effect_acts d))) × (result ≤ 6) }
 {
-    let target_loudness = d.target_loudness;
-    2 + (d.limiter_peak_target.present as usize) + target_long(target_loudness)
+    2 + (d.limiter_peak_target.present as usize) + target_long(d.target_loudness)
 }
 
 // Its bytes, or 0 if it has a fault: in almost every row nothing is wrong, and this is seen at once. A flag is a field of one bit, so the bytes tell.
 fn plain_bytes(d: DrcInstructions, additional: &[u16]) -> usize
     ensures { Quick (instruction_acts additional.now d) 18 result }
 {
-    let types = DRC_GROUP_TYPES;
-    let scope = d.scope;
-    let head = plain_scope(d.reserved_type, scope, &types);
+    let head = plain_scope(d.reserved_type, d.scope, &DRC_GROUP_TYPES);
     let inside = in_table(d.additional_downmix_ids, additional, ADDITIONAL_COLUMNS);
     if inside & (0 < head) & (fits_all(&settings_bytes(d)) & effect_fits(d)) {
         let count = d.additional_downmix_ids.count as usize;
@@ -159,52 +147,6 @@ fn bare_bytes(t: &[u16], b: usize, additional: &[u16]) -> usize
     }
 }
 
-// The same of the row whose first column is `b`.
-fn row_bytes(t: &[u16], b: usize, additional: &[u16]) -> usize
-    requires { b + 24 ≤ length t.now }
-    ensures { Quick (instruction_acts additional.now (instruction_of t.now b)) 18 result }
-{
-    if is_bare(t, b) {
-        return bare_bytes(t, b, additional);
-    }
-    let d = DrcInstructions::of_columns(t, b);
-    plain_bytes(d, additional)
-}
-
-// The plain rows before the first that is not, and their bytes.
-fn plain_rows(instructions: &[u16], additional: &[u16], count: usize) -> Passed
-    requires { (count * 24 ≤ length instructions.now) × (count < 64) }
-    ensures { PlainRows (row_acts instructions.now additional.now) 18 count result.rows result.bytes }
-{
-    let mut bytes: usize = 0;
-    let mut i: usize = 0;
-    while i < count {
-        let k = row_bytes(instructions, i * INSTRUCTION_COLUMNS, additional);
-        if k == 0 {
-            return Passed { rows: i, bytes };
-        }
-        bytes += k;
-        i += 1;
-    }
-    Passed { rows: i, bytes }
-}
-
-// The rows of table 9 from the first; the row that is not plain is looked at again to name its fault.
-pub fn check_instructions(n: usize, instructions: &[u16], additional: &[u16], count: usize) -> Pen
-    requires { (count * 24 ≤ length instructions.now) × (count < 64) × (n < 2 ^ 16) }
-    ensures { Checked (rows (row_acts instructions.now additional.now) 0 count) (18 * count) (At n) result }
-{
-    let p = plain_rows(instructions, additional, count);
-    let i = p.rows;
-    let at = n + p.bytes;
-    if i < count {
-        let d = DrcInstructions::of_columns(instructions, i * INSTRUCTION_COLUMNS);
-        check_instruction(at, d, additional)
-    } else {
-        Pen::At(at)
-    }
-}
-
 // ---- the fill pass
 
 // What stands behind the additional IDs.
@@ -213,54 +155,65 @@ fn fill_effect(d: DrcInstructions, out: &mut [u8], n: usize) -> usize
     ensures { Filled (effect_acts d) n out.old result out.new }
 {
     let limiter = d.limiter_peak_target;
-    let target_loudness = d.target_loudness;
     let n1 = fill_all(out, n, true, &effect_bytes(d.drc_set_effect));
     let n2 = fill_all(out, n1, limiter.present == 1, &limiter_bytes(limiter));
-    fill_target(target_loudness, out, n2)
+    fill_target(d.target_loudness, out, n2)
 }
 
 fn fill_instruction(d: DrcInstructions, additional: &[u16], out: &mut [u8], n: usize) -> usize
     requires { Ready (instruction_acts additional.now d) n out.old }
     ensures { Filled (instruction_acts additional.now d) n out.old result out.new }
 {
-    let scope = d.scope;
-    let n1 = fill_scope(d.reserved_type, scope, out, n);
+    let n1 = fill_scope(d.reserved_type, d.scope, out, n);
     let n2 = fill_all(out, n1, true, &settings_bytes(d));
     let n3 = fill_pairs(d.additional_downmix_ids, additional, out, n2);
     fill_effect(d, out, n3)
 }
 
-// The row whose first column is `b`: six bytes if it is bare.
-fn fill_row(t: &[u16], b: usize, additional: &[u16], out: &mut [u8], n: usize) -> usize
-    requires { (b + 24 ≤ length t.now) × Ready (instruction_acts additional.now (instruction_of t.now b)) n out.old }
-    ensures { Filled (instruction_acts additional.now (instruction_of t.now b)) n out.old result out.new }
-{
-    if is_bare(t, b) {
-        let d = DrcInstructions::of_columns(t, b);
-        let n1 = fill_all(out, n, true, &[two(t[b], 6, t[b + 2], 2)]);
-        let n2 = fill_all(out, n1, true, &settings_bytes(d));
-        return fill_all(out, n2, true, &effect_bytes(d.drc_set_effect));
-    }
-    let d = DrcInstructions::of_columns(t, b);
-    fill_instruction(d, additional, out, n)
+// ---- the rows of a table
+
+// The rows of table 9 that are written, and table 10 with their additional IDs.
+#[derive(Clone, Copy)]
+pub struct Instructions<'a> {
+    pub instructions: &'a [u16],
+    pub additional: &'a [u16],
 }
 
-// The rows of table 9, from the first.
-pub fn fill_instructions(
-    instructions: &[u16],
-    additional: &[u16],
-    count: usize,
-    out: &mut [u8],
-    n: usize,
-) -> usize
-    requires { (count * 24 ≤ length instructions.now) × (count < 2 ^ 16) × Ready (rows (row_acts instructions.now additional.now) 0 count) n out.old }
-    ensures { Filled (rows (row_acts instructions.now additional.now) 0 count) n out.old result out.new }
-{
-    let mut at = n;
-    let mut i: usize = 0;
-    while i < count {
-        at = fill_row(instructions, i * INSTRUCTION_COLUMNS, additional, out, at);
-        i += 1;
+impl Rows for Instructions<'_> {
+    ghost columns = { 24 };
+
+    ghost table = { λ t. t.instructions.now };
+
+    ghost acts = { λ t i. row_acts t.instructions.now t.additional.now i };
+
+    ghost most = { 18 };
+
+    ghost may = { λ _. Unit {0} };
+
+    fn plain(&self, i: usize) -> usize {
+        let b = i * INSTRUCTION_COLUMNS;
+        if is_bare(self.instructions, b) {
+            return bare_bytes(self.instructions, b, self.additional);
+        }
+        let d = DrcInstructions::of_columns(self.instructions, b);
+        plain_bytes(d, self.additional)
     }
-    at
+
+    fn check(&self, n: usize, i: usize) -> Pen {
+        let d = DrcInstructions::of_columns(self.instructions, i * INSTRUCTION_COLUMNS);
+        check_instruction(n, d, self.additional)
+    }
+
+    // Six bytes if it is bare.
+    fn fill(&self, i: usize, out: &mut [u8], n: usize) -> usize {
+        let t = self.instructions;
+        let b = i * INSTRUCTION_COLUMNS;
+        let d = DrcInstructions::of_columns(t, b);
+        if is_bare(t, b) {
+            let n1 = fill_all(out, n, true, &[two(t[b], 6, t[b + 2], 2)]);
+            let n2 = fill_all(out, n1, true, &settings_bytes(d));
+            return fill_all(out, n2, true, &effect_bytes(d.drc_set_effect));
+        }
+        fill_instruction(d, self.additional, out, n)
+    }
 }

@@ -1,4 +1,5 @@
 -- Instructions read: the sizes of their bytes, where they end, and their columns once they are known to be there.
+use Rattle.std.specs.Prelude.{Ok, Err}
 use Prim.Native.Nat.{ℕ, zero, suc, ◌+◌, ◌-◌, ◌*◌, ◌≤◌}
 use mathlib.Core.Path.{◌≡◌, refl, sym, ap, ◌∙◌}
 use mathlib.Core.List.{List, [], ◌∷◌, ◌++◌, flatten, flat_map}
@@ -11,13 +12,12 @@ use lib.Dec.{eqb}
 use Rattle.wire.specs.Lists.{each, sum}
 use Rattle.wire.specs.Bits.{part, total, split}
 use Rattle.wire.specs.Prog.{Out, done, short, run, many}
-use Rattle.wire.specs.Reads.{map_out, end_of, is_done, pos_of, rows_of, short_of, Summed}
+use Rattle.wire.specs.Reads.{map_out, end_of, is_done, pos_of, rows_of, Summed}
 use Rattle.wire.specs.Act.{pick}
 use Rattle.wire.specs.Nest.{Fillable, Nested}
 use Rattle.wire.specs.Layout.{num, reserved, Layout, end, line, optional, ◌▹◌, Columns, of, row, set, put, blank, has, flat, broken_row, tally}
 use Rattle.wire.specs.Straight.{ends, ones, puts_at, took, taken, spans, PartTaken, PartEnds, blanks}
 use Rattle.wire.specs.declared.reads.Short.{Short}
-use Rattle.wire.specs.declared.reads.Sum.TheVariants as S
 use Rattle.wire.proofs.Reading.Runs.{out_and_then}
 use Rattle.wire.proofs.Layouts.Cells.{all, free}
 use Rattle.wire.proofs.Layouts.Rowed.{weight}
@@ -121,9 +121,8 @@ module _ (f : Columns) (s : List ℕ) (m : ℕ) where
 
 -- ---- measured
 
-pub settings_lack : (s : List ℕ) (at : ℕ) → at ≤ length s → {o : Out (Unit {0})} {x y : Short} → o ≡ ends (spans settings blank s at) s at → o ≡ short x → y ≡ short_of o
-    → Summed instructions (λ x. length x.1) 7 s at (S.Short y)
-settings_lack s at h e d q = broken_lacks instruction (flat 2 additional) s at 7 h (head_lacks instruction (flat 2 additional) s at e d) d q
+pub settings_lack : (s : List ℕ) (at : ℕ) → at ≤ length s → {x : Short} → short x ≡ ends (spans settings blank s at) s at → Summed instructions (λ x. length x.1) 7 s at (Err x)
+settings_lack s at h e = broken_lacks instruction (flat 2 additional) s at 7 h (head_lacks instruction (flat 2 additional) s at e)
 
 -- code stands behind the settings, at n
 pub record Behind (s : List ℕ) (at n : ℕ) : Type 0 where
@@ -132,16 +131,16 @@ pub record Behind (s : List ℕ) (at n : ℕ) : Type 0 where
   pub is : n ≡ at + (1 + (id_of s at + 3))
   pub goes : end_of (run instructions s at) ≡ behind_head instruction (flat 2 additional) s at n
 
-pub behind : (s : List ℕ) (at : ℕ) → at ≤ length s → {o : Out (Unit {0})} {n : ℕ} → o ≡ ends (spans settings blank s at) s at → o ≡ done tt n → Behind s at n
-behind s at h e d = record {
+pub behind : (s : List ℕ) (at : ℕ) → at ≤ length s → {n : ℕ} → done tt n ≡ ends (spans settings blank s at) s at → Behind s at n
+behind s at h e = record {
   begun = h;
-  inside = ends_within (spans settings blank s at) s at h (sym e ∙ d);
-  is = ends_at (spans settings blank s at) s at (sym e ∙ d) ∙ ap (λ (k : ℕ). at + k) (settings_total s at);
-  goes = head_got instruction (flat 2 additional) s at e d;
+  inside = ends_within (spans settings blank s at) s at h (sym e);
+  is = ends_at (spans settings blank s at) s at (sym e) ∙ ap (λ (k : ℕ). at + k) (settings_total s at);
+  goes = head_got instruction (flat 2 additional) s at e;
 }
 
 -- the additional IDs, the effect and the limiter are single bytes; the target loudness is left
-module _ {s : List ℕ} {at n c count l : ℕ} (z : Behind s at n) (q : c ≡ get_or s (n - 1) 0) (k : count ≡ part 2 3 c) (i : l ≡ part 1 1 c) {o : Out (Unit {0})} (e : o ≡ ends (ones (count + 2 + l)) s n) where
+module _ {s : List ℕ} {at n c count l : ℕ} (z : Behind s at n) (q : c ≡ get_or s (n - 1) 0) (k : count ≡ part 2 3 c) (i : l ≡ part 1 1 c) where
   byte : c ≡ get_or s (set_at s at + 2) 0
   byte = let p : n - 1 ≡ set_at s at + 2 = omega (arith, z.is) in q ∙ ap (λ (k : ℕ). get_or s k 0) p
 
@@ -156,28 +155,27 @@ module _ {s : List ℕ} {at n c count l : ℕ} (z : Behind s at n) (q : c ≡ ge
       let v : headed instruction s at 13 ≡ l = limiter_is s at byte ∙ sym i in
       effect_spans (headed instruction s at) s m (omega (arith, limiter_is s at byte, part_below 1 1 c)) ∙ ap (λ (v : ℕ). ones (2 + v) ++ left (m + (2 + v))) v
 
-  going : {v : Out (Unit {0})} → o ≡ v → end_of (run instructions s at) ≡ out_and_then v (λ u j. ends (left j) s j)
-  going d =
+  going : {v : Out (Unit {0})} → v ≡ ends (ones (count + 2 + l)) s n → end_of (run instructions s at) ≡ out_and_then v (λ u j. ends (left j) s j)
+  going e =
       let p : count + (2 + l) ≡ count + 2 + l = omega arith in
       z.goes ∙ singles_before 2 additional pair_one s instruction at count (2 + l) left counted tails n
-      ∙ ap (λ (o : Out (Unit {0})). out_and_then o (λ u j. ends (left j) s j)) (ap (λ (k : ℕ). ends (ones k) s n) p ∙ sym e ∙ d)
+      ∙ ap (λ (o : Out (Unit {0})). out_and_then o (λ u j. ends (left j) s j)) (ap (λ (k : ℕ). ends (ones k) s n) p ∙ sym e)
 
-  pub singles_lack : {x y : Short} → o ≡ short x → y ≡ short_of o → Summed instructions (λ x. length x.1) 7 s at (S.Short y)
-  singles_lack d y = broken_lacks instruction (flat 2 additional) s at 7 z.begun (d ∙ sym (going d)) d y
+  pub singles_lack : {x : Short} → short x ≡ ends (ones (count + 2 + l)) s n → Summed instructions (λ x. length x.1) 7 s at (Err x)
+  singles_lack e = broken_lacks instruction (flat 2 additional) s at 7 z.begun (sym (going e))
 
-  module _ {m w : ℕ} (d : o ≡ done tt m) (j : w ≡ part 0 1 c) where
+  module _ {m w : ℕ} (e : done tt m ≡ ends (ones (count + 2 + l)) s n) (j : w ≡ part 0 1 c) where
     pub loud_begun : (m ≤ length s) × (w ≤ 1)
-    loud_begun = (ends_within (ones (count + 2 + l)) s n z.inside (sym e ∙ d), omega (arith, j, part_below 0 1 c))
+    loud_begun = (ends_within (ones (count + 2 + l)) s n z.inside (sym e), omega (arith, j, part_below 0 1 c))
 
-    module _ {o₁ : Out (Unit {0})} (p : PartEnds 15 target w s m o₁) where
-      ended : o₁ ≡ end_of (run instructions s at)
-      ended = p.of (headed instruction s at) (loud_is s at byte ∙ sym j) ∙ sym (going d)
+    ended : {o : Out (Unit {0})} → PartEnds 15 target w s m o → o ≡ end_of (run instructions s at)
+    ended p = p.of (headed instruction s at) (loud_is s at byte ∙ sym j) ∙ sym (going e)
 
-      pub loud_lack : {x y : Short} → o₁ ≡ short x → y ≡ short_of o₁ → Summed instructions (λ x. length x.1) 7 s at (S.Short y)
-      loud_lack f y = broken_lacks instruction (flat 2 additional) s at 7 z.begun ended f y
+    pub loud_lack : {x : Short} → PartEnds 15 target w s m (short x) → Summed instructions (λ x. length x.1) 7 s at (Err x)
+    loud_lack p = broken_lacks instruction (flat 2 additional) s at 7 z.begun (ended p)
 
-      pub loud_got : {next : ℕ} → o₁ ≡ done tt next → Summed instructions (λ x. length x.1) 7 s at (S.Got count next)
-      loud_got f = broken_got instruction (flat 2 additional) s at 7 z.begun ended f (sym counted) (omega (arith, k, part_below 2 3 c))
+    pub loud_got : {next : ℕ} → PartEnds 15 target w s m (done tt next) → Summed instructions (λ x. length x.1) 7 s at (Ok (count, next))
+    loud_got p = broken_got instruction (flat 2 additional) s at 7 z.begun (ended p) (sym counted) (omega (arith, k, part_below 2 3 c))
 
 -- ---- taken
 

@@ -1,11 +1,10 @@
 // Reading DRC instructions: one pass measures them and counts their additional IDs, one takes what was measured and tests nothing.
-ghost use Rattle.std.specs.Prelude.{◌≡◌, true, ◌+◌, ◌-◌, ◌*◌, ◌<◌, ◌≤◌, ◌^◌, length, get_or};
+ghost use Rattle.std.specs.Prelude.{◌≡◌, true, ◌+◌, ◌-◌, ◌*◌, ◌<◌, ◌≤◌, length, get_or};
 ghost use mathlib.Core.List.{◌∷◌, ◌++◌, flatten};
 ghost use Rattle.wire.specs.Bits.{total, part};
-ghost use Rattle.wire.specs.Prog.{done, run, many};
-ghost use Rattle.wire.specs.Reads.{map_out, is_done, ends_out, Summed};
-ghost use Rattle.wire.specs.Nest.{Fillable, Nested, Nests};
-ghost use Rattle.wire.specs.Layout.{broken_row, blank, kids};
+ghost use Rattle.wire.specs.Prog.{done, run};
+ghost use Rattle.wire.specs.Reads.{map_out, is_done, ends_out};
+ghost use Rattle.wire.specs.Layout.{Family, broken_row, blank};
 ghost use Rattle.wire.specs.Straight.{ends, spans, PartTaken, blanks};
 ghost use Rattle.target_loudness.specs.Rows.{target_row};
 ghost use Rattle.instructions.specs.Layout.{settings, limiter, instruction, instructions};
@@ -14,70 +13,52 @@ ghost use Rattle.instructions.specs.Rows.{limiter_row, instruction_row, effect_b
 use super::rows::{
     ADDITIONAL_COLUMNS, DRC_GROUP_TYPES, DrcInstructions, INSTRUCTION_COLUMNS, LimiterPeakTarget,
 };
-use pairs::parsing::fill_pairs;
+use pairs::parsing::Pair;
 use scopes::parsing::{id_bytes, scope_at};
 use target_loudness::parsing::{target_at, target_end, target_size};
 use target_loudness::rows::DrcTargetLoudness;
 use wire::bits::{part, wide};
 use wire::ids::DrcSetId;
-use wire::reads::{Ends, Sum, head};
+use wire::list::{Count, Nest, store_rows};
+use wire::reads::{Short, head};
 use wire::rows::{Range, put_row};
 
-// ---- measuring
+// An instruction, as a list of them is measured, stored and tallied.
+pub struct Instruction;
+
+// ---- measured
 
 // Where the bytes before the additional IDs end: the type, an ID if it has one, and three more.
-fn settings_end(body: &[u8], at: usize) -> Ends
+fn settings_end(body: &[u8], at: usize) -> Result<usize, Short>
     requires { at ≤ length body.now }
     ensures { ends_out result ≡ ends (spans settings blank body.now at) body.now at }
 {
-    let a = head(body, at, 1);
-    let Ends::At(n) = a else {
-        return a;
-    };
-    let types = DRC_GROUP_TYPES;
-    head(body, n, id_bytes(&types, part(wide(body[at]), 0, 2)) + 3)
+    let n = head(body, at, 1)?;
+    head(
+        body,
+        n,
+        id_bytes(&DRC_GROUP_TYPES, part(wide(body[at]), 0, 2)) + 3,
+    )
 }
 
-// The additional IDs of an instruction, and where it ends. The IDs, the effect and the limiter are single bytes, so one comparison tells whether they are there.
-fn instruction_rows(body: &[u8], at: usize) -> Sum
-    requires { at ≤ length body.now }
-    ensures { Summed instructions (λ x. length x.1) 7 body.now at result }
-{
-    let a = settings_end(body, at);
-    let Ends::At(n) = a else {
-        return Sum::Short(a.short());
-    };
-    let c = wide(body[n - 1]);
-    let count = part(c, 2, 3) as usize;
-    let b = head(body, n, count + 2 + (part(c, 1, 1) as usize));
-    let Ends::At(m) = b else {
-        return Sum::Short(b.short());
-    };
-    let e = target_end(body, m, part(c, 0, 1));
-    let Ends::At(next) = e else {
-        return Sum::Short(e.short());
-    };
-    Sum::Got(count, next)
-}
+// Its rows are its additional IDs. These, the effect and the limiter are single bytes, so one comparison tells whether they are there.
+impl Count for Instruction {
+    ghost Read = { Family };
 
-// The additional IDs of `count` instructions, and where they end.
-pub fn measure_instructions(body: &[u8], at: usize, count: usize) -> Sum
-    requires { (at ≤ length body.now) × (count < 64) }
-    ensures { Summed (many count instructions) (λ l. length (kids l)) (7 * count) body.now at result }
-{
-    let mut pos = at;
-    let mut left = count;
-    let mut rows = 0;
-    while 0 < left {
-        let a = instruction_rows(body, pos);
-        let Sum::Got(n, next) = a else {
-            return a;
-        };
-        rows += n;
-        pos = next;
-        left -= 1;
+    ghost reads = { λ _. instructions };
+
+    ghost kids = { λ _ x. length x.1 };
+
+    ghost most = { 7 };
+
+    fn kids(&self, body: &[u8], at: usize) -> Result<(usize, usize), Short> {
+        let n = settings_end(body, at)?;
+        let c = wide(body[n - 1]);
+        let count = part(c, 2, 3) as usize;
+        let m = head(body, n, count + 2 + (part(c, 1, 1) as usize))?;
+        let next = target_end(body, m, part(c, 0, 1))?;
+        Ok((count, next))
     }
-    Sum::Got(rows, pos)
 }
 
 // ---- taken, once measured
@@ -95,7 +76,7 @@ fn limiter_at(body: &[u8], at: usize, present: u16) -> LimiterPeakTarget
 }
 
 // What stands behind the additional IDs, and the next position.
-#[derive(Clone, Copy)]
+#[derive(Clone, Copy, PartialEq, Eq)]
 struct Effect {
     drc_set_effect: u16,
     limiter_peak_target: LimiterPeakTarget,
@@ -141,7 +122,7 @@ fn effect_at(body: &[u8], at: usize, limiter: u16, loud: u16) -> Effect
 }
 
 // An instruction, where its additional IDs begin, and the next position.
-#[derive(Clone, Copy)]
+#[derive(Clone, Copy, PartialEq, Eq)]
 pub struct Placed {
     pub instruction: DrcInstructions,
     pub begins: usize,
@@ -153,17 +134,13 @@ fn instruction_with(body: &[u8], at: usize, first: u16, begins: usize, c: u16, e
     requires { (at ≤ length body.now) × (is_done (run instructions body.now at) ≡ true) × (begins ≡ at + total (spans settings blank body.now at)) × (c ≡ get_or body.now (begins - 1) 0) × EffectTaken (part 1 1 c) (part 0 1 c) body.now (begins + part 2 3 c) (e.drc_set_effect ∷ limiter_row e.limiter_peak_target ++ target_row e.target_loudness) × (e.next ≡ begins + part 2 3 c + effect_bytes (part 1 1 c) (part 0 1 c) body.now (begins + part 2 3 c)) }
     ensures { (done (instruction_row result.instruction) result.next ≡ map_out (λ x. broken_row instruction (first, x)) (run instructions body.now at)) × (result.begins ≡ begins) }
 {
-    let types = DRC_GROUP_TYPES;
     let set = wide(body[begins - 3]);
     let downmix = wide(body[begins - 2]);
     let count = part(c, 2, 3);
-    let t = scope_at(body, at, &types);
-    let scope = t.scope;
-    let limiter_peak_target = e.limiter_peak_target;
-    let target_loudness = e.target_loudness;
+    let t = scope_at(body, at, &DRC_GROUP_TYPES);
     let instruction = DrcInstructions {
         reserved_type: t.reserved_type,
-        scope,
+        scope: t.scope,
         reserved_set: part(set, 6, 2),
         drc_set_id: DrcSetId(part(set, 0, 6)),
         reserved_downmix: part(downmix, 7, 1),
@@ -171,8 +148,8 @@ fn instruction_with(body: &[u8], at: usize, first: u16, begins: usize, c: u16, e
         reserved_additional: part(c, 5, 3),
         additional_downmix_ids: Range { first, count },
         drc_set_effect: e.drc_set_effect,
-        limiter_peak_target,
-        target_loudness,
+        limiter_peak_target: e.limiter_peak_target,
+        target_loudness: e.target_loudness,
     };
     Placed {
         instruction,
@@ -186,8 +163,7 @@ pub fn instruction_at(body: &[u8], at: usize, first: u16) -> Placed
     requires { (at ≤ length body.now) × (is_done (run instructions body.now at) ≡ true) }
     ensures { (done (instruction_row result.instruction) result.next ≡ map_out (λ x. broken_row instruction (first, x)) (run instructions body.now at)) × (result.begins ≡ at + total (spans settings blank body.now at)) }
 {
-    let types = DRC_GROUP_TYPES;
-    let begins = at + 4 + id_bytes(&types, part(wide(body[at]), 0, 2));
+    let begins = at + 4 + id_bytes(&DRC_GROUP_TYPES, part(wide(body[at]), 0, 2));
     let c = wide(body[begins - 1]);
     if part(c, 0, 5) == 0 {
         let bare = bare_effect_at(body, begins);
@@ -200,45 +176,46 @@ pub fn instruction_at(body: &[u8], at: usize, first: u16) -> Placed
 
 // ---- filling: nothing is left to test
 
-// Stores the additional IDs of an instruction from row `first` on.
-fn fill_instruction(body: &[u8], at: usize, additional: &mut [u16], first: usize) -> Placed
-    requires { Fillable instructions 2 (λ x. length x.1) body.now at first additional.old }
-    ensures { Nested instructions 2 (λ n x. broken_row instruction (n, x)) (λ x. flatten x.1) body.now at first additional.old (instruction_row result.instruction) result.next additional.new }
-{
-    let p = instruction_at(body, at, first as u16);
-    let count = p.instruction.additional_downmix_ids.count as usize;
-    fill_pairs(
-        body,
-        p.begins,
-        count,
-        additional,
-        first * ADDITIONAL_COLUMNS,
-    );
-    p
-}
+// Its additional IDs are rows of table 10.
+impl Nest for Instruction {
+    ghost Read = { Family };
 
-// Stores `count` instructions that were measured as the first rows of table 9, and their additional IDs as those of table 10.
-pub fn fill_instructions(
-    body: &[u8],
-    at: usize,
-    count: usize,
-    table: &mut [u16],
-    additional: &mut [u16],
-)
-    requires { Fillable (many count instructions) 2 (λ l. length (kids l)) body.now at 0 additional.old × (24 * count ≤ length table.old) }
-    ensures { Nests instructions (λ x. length x.1) (λ n x. broken_row instruction (n, x)) (λ x. flatten x.1) body.now at count table.old additional.old table.new additional.new }
-{
-    let mut pos = at;
-    let mut left = count;
-    let mut to = 0;
-    let mut first = 0;
-    while 0 < left {
-        let p = fill_instruction(body, pos, additional, first);
-        let row = p.instruction.columns();
-        put_row(table, to, &row);
-        first += p.instruction.additional_downmix_ids.count as usize;
-        pos = p.next;
-        left -= 1;
-        to += INSTRUCTION_COLUMNS;
+    ghost reads = { λ _. instructions };
+
+    ghost may = { λ _ _. Unit {0} };
+
+    ghost COLUMNS = { 24 };
+
+    ghost KID_COLUMNS = { 2 };
+
+    ghost size = { λ _ x. length x.1 };
+
+    ghost columns = { λ _ n x. broken_row instruction (n, x) };
+
+    ghost kids = { λ _ x. flatten x.1 };
+
+    const COLUMNS: usize = INSTRUCTION_COLUMNS;
+
+    fn store(
+        &self,
+        body: &[u8],
+        at: usize,
+        outer: &mut [u16],
+        to: usize,
+        inner: &mut [u16],
+        first: usize,
+    ) -> (usize, usize) {
+        let p = instruction_at(body, at, first as u16);
+        let count = p.instruction.additional_downmix_ids.count as usize;
+        let _ = store_rows(
+            &Pair,
+            body,
+            p.begins,
+            count,
+            inner,
+            first * ADDITIONAL_COLUMNS,
+        );
+        put_row(outer, to, &p.instruction.columns());
+        (p.next, first + count)
     }
 }

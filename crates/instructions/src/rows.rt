@@ -13,7 +13,7 @@ use wire::rows::Range;
 pub const DRC_GROUP_TYPES: [u16; 1] = [2];
 
 // bsLimiterPeakTarget, where it is there.
-#[derive(Clone, Copy)]
+#[derive(Clone, Copy, PartialEq, Eq)]
 pub struct LimiterPeakTarget {
     pub present: u16,
     pub value: u16,
@@ -37,7 +37,7 @@ impl LimiterPeakTarget {
 }
 
 // One drcInstructionsUniDrc entry: its additional downmix IDs are rows of table 10.
-#[derive(Clone, Copy)]
+#[derive(Clone, Copy, PartialEq, Eq)]
 pub struct DrcInstructions {
     pub reserved_type: u16,
     pub scope: DrcScope,

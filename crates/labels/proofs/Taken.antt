@@ -1,4 +1,5 @@
--- Labels read: where an entry ends, which its width does not move, its columns once it is known to be there, and its tally; then a list, its count before its entries.
+-- Labels read: where an entry ends, its columns once it is known to be there, and its tally; then a list, its count before its entries.
+use Rattle.std.specs.Prelude.{Result, Ok, Err}
 use Prim.Native.Nat.{ℕ, ◌+◌, ◌*◌, ◌-◌, ◌^◌, ◌≤◌, ◌<◌}
 use mathlib.Core.Path.{◌≡◌, refl, sym, ap, ◌∙◌}
 use mathlib.Core.List.{List, [], ◌∷◌, flatten, flat_map}
@@ -10,30 +11,25 @@ use lib.Seq.{sets}
 use borrow.Author.Tests.{eq-eqb}
 use Rattle.wire.specs.Lists.{each, sum}
 use Rattle.wire.specs.Bits.{part, total, split, zeros}
-use Rattle.wire.specs.Prog.{Prog, ret, Out, done, span, run, u8, many, ◌>>=◌}
-use Rattle.wire.specs.Reads.{map_out, end_of, is_done, pos_of, rows_of, short_of, byte_out, ends_out, ByteRead, Summed}
+use Rattle.wire.specs.Prog.{Prog, ret, Out, done, short, span, run, u8, many, ◌>>=◌}
+use Rattle.wire.specs.Reads.{map_out, end_of, is_done, pos_of, rows_of, ends_out, ByteRead, Summed}
 use Rattle.wire.specs.Layout.{put, has, shown, cells, tally, Borne, bearing, borne_row, borne_tally}
 use Rattle.wire.specs.Straight.{ends, ones, puts_at, took}
-use Rattle.wire.specs.Nest.{Fillable, Nested}
+use Rattle.wire.specs.Nest.{Fillable, Nested, RowStored}
 use Rattle.wire.specs.declared.reads.Short.{Short}
-use Rattle.wire.specs.declared.reads.Byte.{Byte}
-use Rattle.wire.specs.declared.reads.Byte.TheVariants as B
-use Rattle.wire.specs.declared.reads.Ends.{Ends}
-use Rattle.wire.specs.declared.reads.Ends.TheVariants as E
-use Rattle.wire.specs.declared.reads.Sum.TheVariants as S
 use Rattle.wire.specs.declared.rows.Payload.{Payload}
 use Rattle.wire.proofs.Layouts.Cells.{all, distinct, free, eights, proper}
 use Rattle.wire.proofs.Layouts.Forms.{form_all, form_proper, below}
 use Rattle.wire.proofs.Fields.{wider, part_below}
 use Rattle.wire.proofs.Reading.Walk.{run_map, map_map, map_done, From, begun, onward, cut_off, cut_off_as, finished, as_done, is_done_lem, byte_taken}
-use Rattle.wire.proofs.Reading.Loops.{summed_done, summed_short, many_long, Summing, sum_turn}
+use Rattle.wire.proofs.Reading.Loops.{summed_done, summed_short, many_long}
 use Rattle.wire.proofs.Layouts.Straight.{ends_at, ends_within}
 use Rattle.wire.proofs.Layouts.Borne.{bear_test, Bear}
 use Rattle.wire.proofs.Layouts.Bearers.{bear_got, bear_lacks, bear_whole, bear_filled}
 use Rattle.labels.specs.Layout.{label}
 use Rattle.labels.specs.Read.{Labels, labels_over, labels}
 use Rattle.labels.specs.Rows.{entry_row, range, descriptions, list_from}
-use Rattle.labels.specs.Contract.{AnyWidth, labels_tally}
+use Rattle.labels.specs.Contract.{labels_tally}
 use Rattle.labels.specs.declared.rows.TextLabelEntry.{TextLabelEntry}
 
 -- ---- an entry
@@ -42,22 +38,22 @@ abbrev pub an_entry : ℕ → Prog Borne
 an_entry w = bearing (label w)
 
 -- measured: its two bytes, then the label
-module _ (s : List ℕ) (at : ℕ) {r : Ends} (e : ends_out r ≡ ends (ones 2) s at) where
-  pub entry_lacks : {x : Short} → r ≡ E.Short x → AnyWidth (λ w. an_entry w) s at r
+module _ (w : ℕ) (s : List ℕ) (at : ℕ) where
+  pub entry_lacks : {x : Short} → short x ≡ ends (ones 2) s at → short x ≡ end_of (run (an_entry w) s at)
   unfolding took ones
-  entry_lacks d = record { of = λ w. bear_lacks (label w) s at e (ap ends_out d) }
+  entry_lacks e = bear_lacks (label w) s at e
 
-  module _ {m : ℕ} (d : r ≡ E.At m) where
+  module _ {m : ℕ} (e : done tt m ≡ ends (ones 2) s at) where
     pub behind_inside : at ≤ length s → m ≤ length s
-    behind_inside h = ends_within (ones 2) s at h (sym e ∙ ap ends_out d)
+    behind_inside h = ends_within (ones 2) s at h (sym e)
 
     pub length_there : at ≤ length s → at + 1 < length s
     unfolding ones total
-    length_there h = omega (arith, behind_inside h, ends_at (ones 2) s at (sym e ∙ ap ends_out d))
+    length_there h = omega (arith, behind_inside h, ends_at (ones 2) s at (sym e))
 
-    pub entry_ends : {v : ℕ} {r' : Ends} → v ≡ get_or s (at + 1) 0 → ends_out r' ≡ ends (v ∷ []) s m → AnyWidth (λ w. an_entry w) s at r'
+    pub entry_ends : {v : ℕ} (r : Result ℕ Short) → v ≡ get_or s (at + 1) 0 → ends_out r ≡ ends (v ∷ []) s m → ends_out r ≡ end_of (run (an_entry w) s at)
     unfolding took ones total
-    entry_ends z e' = record { of = λ w. e' ∙ ap (λ (v : ℕ). ends (v ∷ []) s m) z ∙ bear_got (label w) s at e (ap ends_out d) }
+    entry_ends r z e' = e' ∙ ap (λ (v : ℕ). ends (v ∷ []) s m) z ∙ bear_got (label w) s at e
 
 -- filled, once measured
 module _ (w : ℕ) (s : List ℕ) (at : ℕ) (h : at ≤ length s) (q : is_done (run (an_entry w) s at) ≡ true) where
@@ -75,17 +71,21 @@ module _ (w : ℕ) (s : List ℕ) (at : ℕ) (h : at ≤ length s) (q : is_done 
       (λ j. (u ∙ λ j. part (sym (add-zero w) j) (8 - w) (x j)) j ∷ (k ∙ ap (part 0 w) x) j ∷ (c j).offset ∷ (c j).length ∷ [])
       (λ j. a j + y j)
 
--- tallied
-pub entry_tally : (w : ℕ) (e : TextLabelEntry) (x : Borne) → borne_row (label w) x ≡ entry_row e → zeros (8 - w) e.reserved ≡ borne_tally (label w) x
-unfolding tally cells shown sum flatten each
-entry_tally w e x q = let z : get_or x.0 0 0 ≡ e.reserved = cc q in ap (zeros (8 - w)) (sym z) ∙ sym (add-zero _)
+-- stored, and tallied
+module _ (w : ℕ) (s : List ℕ) (at : ℕ) {e : TextLabelEntry} {next : ℕ} (d : done (entry_row e) next ≡ map_out (borne_row (label w)) (run (an_entry w) s at)) where
+  pub entry_stored : {t t' : List ℕ} {to : ℕ} → t' ≡ sets t to (entry_row e) → RowStored (an_entry w) (borne_row (label w)) 4 s at t to next t'
+  entry_stored {t} {to = to} z =
+      let (x, r, k) = as_done (borne_row (label w)) (run (an_entry w) s at) (sym d) in
+      record { value = x; reads = r; wide = ap length k; stored = z ∙ ap (sets t to) (sym k) }
 
-pub entry_summed : (w : ℕ) {s : List ℕ} {at count pos left acc : ℕ} → Summing (an_entry w) (borne_tally (label w)) 8 s at count pos left acc → 0 < left
-    → {e : TextLabelEntry} {next n : ℕ} → done (entry_row e) next ≡ map_out (borne_row (label w)) (run (an_entry w) s pos) → n ≡ zeros (8 - w) e.reserved
-    → Summing (an_entry w) (borne_tally (label w)) 8 s at count next (left - 1) (acc + n)
-entry_summed w {s} {at} {count} {pos} i h {e} d q =
-    let (x, r, k) = as_done (borne_row (label w)) (run (an_entry w) s pos) (sym d) in
-    sum_turn (an_entry w) (borne_tally (label w)) 8 s at count i h (summed_done (sym r) (q ∙ entry_tally w e x k) (omega (arith, q))) refl
+  entry_tally : (x : Borne) → borne_row (label w) x ≡ entry_row e → zeros (8 - w) e.reserved ≡ borne_tally (label w) x
+  unfolding tally cells shown sum flatten each
+  entry_tally x q = let z : get_or x.0 0 0 ≡ e.reserved = cc q in ap (zeros (8 - w)) (sym z) ∙ sym (add-zero _)
+
+  pub entry_zeros : {n : ℕ} → n ≡ zeros (8 - w) e.reserved → (done n next ≡ map_out (borne_tally (label w)) (run (an_entry w) s at)) × (n ≤ 8)
+  entry_zeros q =
+      let (x, r, k) = as_done (borne_row (label w)) (run (an_entry w) s at) (sym d) in
+      (ap (λ (n : ℕ). done n next) (q ∙ entry_tally x k) ∙ sym (ap (map_out (borne_tally (label w))) r), omega (arith, q))
 
 -- a row that ends with a payload, for each width
 pub label_passes : (w : ℕ) → w < 8 → bear_test (label w) ≡ true
@@ -115,31 +115,31 @@ pub count_few : (w b : ℕ) {count : ℕ} → w < 8 → count ≡ part 0 w b →
 count_few w b h e = rw e (count_below w h (part_below 0 w b))
 
 -- measured
-module _ (w : ℕ) (s : List ℕ) (at : ℕ) (h : at ≤ length s) {a : Byte} (e : ByteRead s at a) where
-  pub count_lacks : {x y : Short} → a ≡ B.Short x → y ≡ short_of (byte_out a) → Summed (labels w) entry_count 127 s at (S.Short y)
+module _ (w : ℕ) (s : List ℕ) (at : ℕ) (h : at ≤ length s) where
+  pub count_lacks : {x : Short} → ByteRead s at (Err x) → Summed (labels w) entry_count 127 s at (Err x)
   unfolding labels_over
-  count_lacks d q = summed_short (cut_off u8 (after_count w) (begun (labels w) s at h) e.is (ap byte_out d) q)
+  count_lacks e = summed_short (cut_off u8 (after_count w) (begun (labels w) s at h) e.is)
 
-  module _ {b n : ℕ} (d : a ≡ B.Got b n) where
+  module _ {b n : ℕ} (e : ByteRead s at (Ok (b, n))) where
     place : From (labels w) s at (after_count w b) n
     unfolding labels_over
-    place = onward u8 (after_count w) (begun (labels w) s at h) e.is (ap byte_out d)
+    place = onward u8 (after_count w) (begun (labels w) s at h) e.is
 
     pub count_got : n ≤ length s
     count_got = place.inside
 
-    module _ {count : ℕ} (k : count ≡ part 0 w b) {r : Ends} (m : AnyWidth (λ w. many count (an_entry w)) s n r) where
-      ends_so : ends_out r ≡ end_of (run (many (part 0 w b) (an_entry w)) s n)
-      ends_so = m.of w ∙ ap (λ (k : ℕ). end_of (run (many k (an_entry w)) s n)) k
+    module _ {count : ℕ} (k : count ≡ part 0 w b) where
+      ends_so : (r : Result ℕ Short) → ends_out r ≡ end_of (run (many count (an_entry w)) s n) → ends_out r ≡ end_of (run (many (part 0 w b) (an_entry w)) s n)
+      ends_so r m = m ∙ ap (λ (k : ℕ). end_of (run (many k (an_entry w)) s n)) k
 
-      pub entries_lack : {x y : Short} → r ≡ E.Short x → y ≡ short_of (ends_out r) → Summed (labels w) entry_count 127 s at (S.Short y)
-      entries_lack z q = summed_short (cut_off_as (many (part 0 w b) (an_entry w)) (λ l. tt) (λ l. ret (list_is w b l)) place ends_so (ap ends_out z) q)
+      pub entries_lack : {x : Short} → short x ≡ end_of (run (many count (an_entry w)) s n) → Summed (labels w) entry_count 127 s at (Err x)
+      entries_lack {x} m = summed_short (cut_off_as (many (part 0 w b) (an_entry w)) (λ l. tt) (λ l. ret (list_is w b l)) place (ends_so (Err x) m))
 
-      pub list_counted : w < 8 → {next : ℕ} → r ≡ E.At next → Summed (labels w) entry_count 127 s at (S.Got count next)
-      list_counted i {next} z =
+      pub list_counted : w < 8 → {next : ℕ} → done tt next ≡ end_of (run (many count (an_entry w)) s n) → Summed (labels w) entry_count 127 s at (Ok (count, next))
+      list_counted i {next} m =
           let p = many (part 0 w b) (an_entry w) in
-          let (l, x, _) = as_done (λ (l : List Borne). tt) (run p s n) (sym ends_so ∙ ap ends_out z) in
-          summed_done (finished (onward p (λ l. ret (list_is w b l)) place refl x) refl) (k ∙ sym (many_long (an_entry w) s (part 0 w b) n l next x))
+          let (l, x, _) = as_done (λ (l : List Borne). tt) (run p s n) (sym (ends_so (Ok next) m)) in
+          summed_done (finished (onward p (λ l. ret (list_is w b l)) place (sym x)) refl) (k ∙ sym (many_long (an_entry w) s (part 0 w b) n l next x))
           (omega (arith, count_few w b i k))
 
 -- known to be there: it is what its entries are

@@ -1,4 +1,5 @@
 -- Labels written: an entry checked, tested and filled, its ID before the payload; then a list, its count before its rows.
+use Rattle.std.specs.Prelude.{Err}
 use Prim.Native.Nat.{ℕ, ◌+◌, ◌*◌, ◌-◌, ◌/◌, ◌^◌, ◌≤◌, ◌<◌}
 use mathlib.Core.Path.{◌≡◌, refl, sym, ap, subst, ◌∙◌}
 use mathlib.Core.List.{List, [], ◌∷◌, ◌++◌, map, flatten}
@@ -10,20 +11,17 @@ use lib.Seq.{slice}
 use lib.Dec.{leb, ltb}
 use borrow.Author.Tests.{leb-true}
 use Rattle.wire.specs.Bits.{field}
-use Rattle.wire.specs.Act.{Act, demand, byte, copy, rows}
-use Rattle.wire.specs.Pen.{reach, Checked, CheckedByte, CheckedRun, Quick, Ready, Filled}
+use Rattle.wire.specs.Act.{Act, demand, byte, copy}
+use Rattle.wire.specs.Pen.{reach, Checked, CheckedByte, CheckedRun, Quick, Ready, Filled, Pen, At}
 use Rattle.wire.specs.Layout.{writes, shown, cells, matches, matched, every}
-use Rattle.wire.specs.Spell.{Spells, none, more, fit_all, ChecksAll, ReadyAll, FillsAll, PlainRows}
-use Rattle.wire.specs.declared.pen.Fault.{Fault}
+use Rattle.wire.specs.Spell.{Spells, none, more, fit_all, ChecksAll, ReadyAll, FillsAll}
 use Rattle.wire.specs.declared.pen.Fault.TheVariants as F
-use Rattle.wire.specs.declared.pen.Pen.{Pen}
-use Rattle.wire.specs.declared.pen.Pen.TheVariants.{At, Stop}
-use Rattle.wire.specs.declared.rows.Range.{Range}
+use Rattle.wire.specs.declared.pen.Stopped.{Stopped}
 use Rattle.wire.proofs.Writing.Acts.{and_both, both_and}
 use Rattle.wire.proofs.Fields.{fits_cons, fit_one}
 use Rattle.wire.proofs.Writing.Passes.{then, stopped, here, byte_fits, rows_turn, Filling, fill_start, fill_row_lem, fill_turn, fill_last}
 use Rattle.wire.proofs.Writing.Passes as P
-use Rattle.wire.proofs.Writing.Plain.{Going, going_turn, going_odd, plain_odd, plain_end, rows_from_lem, all_checked, filled_long, ready_part, fill_part_lem, line_acts, line_plain, line_odd, line_checked}
+use Rattle.wire.proofs.Writing.Plain.{all_checked, ready_part, fill_part_lem, line_acts, line_plain, line_odd, line_checked}
 use Rattle.wire.proofs.Layouts.Bearers.{head_acts, payload_acts, bear_checked, bear_plain, bear_odd, bear_inside, bear_filling, size_ready, bytes_room, bytes_filled}
 use Rattle.labels.specs.Layout.{label}
 use Rattle.labels.specs.Rows.{entry_cols, entry_of}
@@ -118,57 +116,31 @@ module _ (w : ℕ) (store : List ℕ) (e : TextLabelEntry) {v : ℕ} (s : Spells
         pub entry_filled : {r : ℕ} {o : List ℕ} → Filled (copy (slice e.«data».offset (e.«data».offset + size e) store) ∷ []) n₂ o₂ r o → Filled (entry_acts w store e) n l r o
         entry_filled k = bytes_filled (label w) store (entry_cols e) left z k
 
--- ---- the rows of a list
+-- ---- a row of the table: it is written as the entry that its columns make
 
-pub row_inside : (m i : ℕ) (t : List ℕ) → leb m (length t / 4) ≡ true → i < m → i * 4 + 4 ≤ length t
-row_inside m i t e h = omega (arith, leb-true m (length t / 4) e)
-
-pub list_inside : (first count i : ℕ) (t : List ℕ) → leb (first + count) (length t / 4) ≡ true → i < count → (first + i) * 4 + 4 ≤ length t
-list_inside first count i t e h = row_inside (first + count) (first + i) t e (omega arith)
-
-module _ (w : ℕ) (t store : List ℕ) where
-  -- a row is written as the entry that its columns make
-  row_same : (i : ℕ) → entry_acts w store (entry_of t (i * 4)) ≡ row_acts w t store i
+module _ (w : ℕ) (t store : List ℕ) (i : ℕ) {e : TextLabelEntry} (q : e ≡ entry_of t (i * 4)) where
+  row_same : entry_acts w store (entry_of t (i * 4)) ≡ row_acts w t store i
   unfolding writes shown cells matches matched every flatten
-  row_same i = rw add-zero
+  row_same = rw add-zero
 
-  row_acts_lem : (i : ℕ) {e : TextLabelEntry} → e ≡ entry_of t (i * 4) → entry_acts w store e ≡ row_acts w t store i
-  row_acts_lem i q = ap (entry_acts w store) q ∙ row_same i
+  acts_so : entry_acts w store e ≡ row_acts w t store i
+  acts_so = ap (entry_acts w store) q ∙ row_same
 
-  -- tested: what is said of row i of the list
-  module _ (first : ℕ) {count i bytes : ℕ} (g : Going (λ j. row_acts w t store (first + j)) 257 count i bytes)
-      {e : TextLabelEntry} (q : e ≡ entry_of t ((first + i) * 4)) {k : ℕ} (x : Quick (entry_acts w store e) 257 k) where
-    quick : Quick (row_acts w t store (first + i)) 257 k
-    quick = subst (λ (a : List Act). Quick a 257 k) (row_acts_lem (first + i) q) x
+  pub row_plain : {k : ℕ} → Quick (entry_acts w store e) 257 k → Quick (row_acts w t store i) 257 k
+  row_plain {k} x = subst (λ (a : List Act). Quick a 257 k) acts_so x
 
-    pub row_plain : i < count → (k ≡ 0 → ⊥) → Going (λ j. row_acts w t store (first + j)) 257 count (i + 1) (bytes + k)
-    row_plain h z = going_turn g quick h (omega (arith, z))
+  pub row_checked : {p r : Pen} → Checked (entry_acts w store e) 257 p r → Checked (row_acts w t store i) 257 p r
+  row_checked {p} {r} x = subst (λ (a : List Act). Checked a 257 p r) acts_so x
 
-    pub row_odd : k ≡ 0 → PlainRows (λ j. row_acts w t store (first + j)) 257 count i bytes
-    row_odd z = going_odd g quick z
+  pub row_ready : {n : ℕ} {l : List ℕ} → Ready (row_acts w t store i) n l → Ready (entry_acts w store e) n l
+  row_ready {n} {l} x = subst (λ (a : List Act). Ready a n l) (sym acts_so) x
 
-  -- checked: where the test left off
-  module _ (r : Range) (n : ℕ) {i bytes : ℕ} (v : PlainRows (λ j. row_acts w t store (r.first + j)) 257 r.count i bytes) where
-    pub entries_odd : i < r.count → {e : TextLabelEntry} → e ≡ entry_of t ((r.first + i) * 4) → {p : Pen} → Checked (entry_acts w store e) 257 (At (n + bytes)) p
-        → Checked (entries_acts w t store r) (257 * r.count) (At n) p
-    entries_odd h q {p} x =
-        let c = subst (λ (a : List Act). Checked a 257 (At (n + bytes)) p) (row_acts_lem (r.first + i) q) x in
-        rw (rows_from_lem (row_acts w t store) r.first r.count) (plain_odd _ 257 r.count n v h c)
+  pub row_filled : {n r : ℕ} {l o : List ℕ} → Filled (entry_acts w store e) n l r o → Filled (row_acts w t store i) n l r o
+  row_filled {n} {r} {l} {o} x = subst (λ (a : List Act). Filled a n l r o) acts_so x
 
-    pub entries_plain : r.count ≤ i → Checked (entries_acts w t store r) (257 * r.count) (At n) (At (n + bytes))
-    entries_plain h = rw (rows_from_lem (row_acts w t store) r.first r.count) (plain_end _ 257 r.count n v h)
-
-  -- filled: what is left from row i on
-  module _ {all : List Act} {n₀ : ℕ} {l : List ℕ} {i end n : ℕ} {o : List ℕ} (f : Filling all (rows (row_acts w t store) i (end - i)) n₀ l n o)
-      (h : i < end) {e : TextLabelEntry} (q : e ≡ entry_of t (i * 4)) where
-    turn : rows (row_acts w t store) i (end - i) ≡ entry_acts w store e ++ rows (row_acts w t store) (i + 1) (end - (i + 1))
-    turn = rows_turn (row_acts w t store) i end h ∙ ap (λ (a : List Act). a ++ rows (row_acts w t store) (i + 1) (end - (i + 1))) (sym (row_acts_lem i q))
-
-    pub row_ready : Ready (entry_acts w store e) n o
-    row_ready = fill_row_lem (entry_acts w store e) _ f turn
-
-    pub row_filled : {r : ℕ} {o' : List ℕ} → Filled (entry_acts w store e) n o r o' → Filling all (rows (row_acts w t store) (i + 1) (end - (i + 1))) n₀ l r o'
-    row_filled x = fill_turn f turn (filled_long x) x
+-- the rows of a list stand in the table
+pub rows_inside : (m : ℕ) (t : List ℕ) → leb m (length t / 4) ≡ true → m * 4 ≤ length t
+rows_inside m t e = omega (arith, leb-true m (length t / 4) e)
 
 -- ---- a list
 
@@ -185,9 +157,9 @@ module _ (w : ℕ) (d : Descriptions) {v : ℕ} (s : Spells (count_byte w d) v) 
 
 module _ (w : ℕ) (t store : List ℕ) (d : Descriptions) {v : ℕ} (s : Spells (count_byte w d) v) where
   module _ {p p₁ : Pen} (c : ChecksAll true (v ∷ []) p p₁) where
-    pub count_stops : {f : Fault} {n : ℕ} → p₁ ≡ Stop f n → Checked (list_acts w t store d) (1 + 257 * (2 ^ w - 1)) p p₁
+    pub count_stops : {x : Stopped} → p₁ ≡ Err x → Checked (list_acts w t store d) (1 + 257 * (2 ^ w - 1)) p (Err x)
     unfolding list_acts
-    count_stops q = then (counted w d s c) (stopped (entries_acts w t store d.entries) _ q)
+    count_stops q = rw (← q) (then (counted w d s c) (stopped (entries_acts w t store d.entries) _ q))
 
     pub list_checked : {n : ℕ} {r : Pen} → p₁ ≡ At n → Checked (entries_acts w t store d.entries) (257 * d.entries.count) (At n) r
         → Checked (list_acts w t store d) (1 + 257 * (2 ^ w - 1)) p r

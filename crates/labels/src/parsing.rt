@@ -4,65 +4,46 @@ ghost use mathlib.Core.List.{flat_map};
 ghost use Rattle.std.proofs.lemmas.List.Edits.{sets};
 ghost use Rattle.wire.specs.Prog.{done, run, many};
 ghost use Rattle.wire.specs.Reads.{map_out, is_done, pos_of, rows_of, Summed};
-ghost use Rattle.wire.specs.Layout.{bearing, borne_row};
+ghost use Rattle.wire.specs.Layout.{Borne, bearing, borne_row};
 ghost use Rattle.wire.specs.Nest.{Fillable, Nested};
 ghost use Rattle.labels.specs.Layout.{label};
 ghost use Rattle.labels.specs.Read.{labels};
 ghost use Rattle.labels.specs.Rows.{entry_row, list_from};
-ghost use Rattle.labels.specs.Contract.{AnyWidth};
 
 use super::rows::{Descriptions, ENTRY_COLUMNS, TextLabelEntry};
 use wire::bits::{part, wide};
-use wire::reads::{Byte, Ends, Sum, byte_at, bytes_end, head};
+use wire::list::{Measure, Store, rows_end, store_rows};
+use wire::reads::{Short, byte_at, bytes_end, head};
 use wire::rows::{Range, payload_at, put_row};
+
+// An entry whose ID has `w` bits, as a list of them is measured, stored and tallied.
+#[derive(Clone, Copy)]
+pub struct Label {
+    pub w: u32,
+}
 
 // ---- measured
 
-// Where an entry ends, whatever the width of its ID.
-fn entry_end(body: &[u8], at: usize) -> Ends
-    requires { at ≤ length body.now }
-    ensures { AnyWidth (λ w. bearing (label w)) body.now at result }
-{
-    let a = head(body, at, 2);
-    let Ends::At(n) = a else {
-        return a;
-    };
-    bytes_end(body, n, wide(body[at + 1]) as usize)
-}
+impl Measure for Label {
+    ghost Read = { Borne };
 
-// Where `count` entries end.
-fn measure_entries(body: &[u8], at: usize, count: usize) -> Ends
-    requires { at ≤ length body.now }
-    ensures { AnyWidth (λ w. many count (bearing (label w))) body.now at result }
-{
-    let mut pos = at;
-    let mut left = count;
-    while 0 < left {
-        let a = entry_end(body, pos);
-        let Ends::At(next) = a else {
-            return a;
-        };
-        pos = next;
-        left -= 1;
+    ghost reads = { λ l. bearing (label l.w) };
+
+    fn end(&self, body: &[u8], at: usize) -> Result<usize, Short> {
+        let n = head(body, at, 2)?;
+        bytes_end(body, n, wide(body[at + 1]) as usize)
     }
-    Ends::At(pos)
 }
 
 // The entries of a list whose IDs have `w` bits, and where it ends.
-pub fn list_rows(body: &[u8], at: usize, w: u32) -> Sum
+pub fn list_rows(body: &[u8], at: usize, w: u32) -> Result<(usize, usize), Short>
     requires { (at ≤ length body.now) × (w < 8) }
     ensures { Summed (labels w) (λ d. length d.entries) 127 body.now at result }
 {
-    let a = byte_at(body, at);
-    let Byte::Got(b, n1) = a else {
-        return Sum::Short(a.short());
-    };
+    let (b, n1) = byte_at(body, at)?;
     let count = part(b, 0, w) as usize;
-    let c = measure_entries(body, n1, count);
-    let Ends::At(next) = c else {
-        return Sum::Short(c.short());
-    };
-    Sum::Got(count, next)
+    let next = rows_end(&Label { w }, body, n1, count)?;
+    Ok((count, next))
 }
 
 // ---- taken, once measured
@@ -91,30 +72,24 @@ pub fn entry_at(body: &[u8], at: usize, w: u32) -> Placed
     }
 }
 
-// Stores `count` entries that were measured as rows of table 7 from the column `column` on, and says where they end.
-fn fill_entries(
-    body: &[u8],
-    at: usize,
-    count: usize,
-    w: u32,
-    entries: &mut [u16],
-    column: usize,
-) -> usize
-    requires { (at ≤ length body.now) × (is_done (run (many count (bearing (label w))) body.now at) ≡ true) × (length body.now < 65536) × (w < 8) × (column + 4 * count ≤ length entries.old) }
-    ensures { (result ≡ pos_of (run (many count (bearing (label w))) body.now at)) × (entries.new ≡ sets entries.old column (flat_map (borne_row (label w)) (rows_of (run (many count (bearing (label w))) body.now at)))) }
-{
-    let mut pos = at;
-    let mut left = count;
-    let mut to = column;
-    while 0 < left {
-        let p = entry_at(body, pos, w);
-        let row = p.row.columns();
-        put_row(entries, to, &row);
-        pos = p.next;
-        left -= 1;
-        to += ENTRY_COLUMNS;
+impl Store for Label {
+    ghost Read = { Borne };
+
+    ghost reads = { λ l. bearing (label l.w) };
+
+    ghost may = { λ l s. (l.w < 8) × (length s < 65536) };
+
+    ghost COLUMNS = { 4 };
+
+    ghost columns = { λ l x. borne_row (label l.w) x };
+
+    const COLUMNS: usize = ENTRY_COLUMNS;
+
+    fn store(&self, body: &[u8], at: usize, table: &mut [u16], to: usize) -> usize {
+        let p = entry_at(body, at, self.w);
+        put_row(table, to, &p.row.columns());
+        p.next
     }
-    pos
 }
 
 // A list, and the next position.
@@ -131,11 +106,11 @@ pub fn fill_list(body: &[u8], at: usize, w: u32, entries: &mut [u16], first: usi
 {
     let b = wide(body[at]);
     let count = part(b, 0, w);
-    let next = fill_entries(
+    let next = store_rows(
+        &Label { w },
         body,
         at + 1,
         count as usize,
-        w,
         entries,
         first * ENTRY_COLUMNS,
     );

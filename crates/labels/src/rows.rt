@@ -7,7 +7,7 @@ use wire::ids::{GroupId, GroupPresetId, SwitchGroupId};
 use wire::rows::{Payload, Range};
 
 // A row of table 7: one description. The list that it stands in says which of the three IDs it has.
-#[derive(Clone, Copy)]
+#[derive(Clone, Copy, PartialEq, Eq)]
 pub struct TextLabelEntry {
     pub reserved: u16,
     pub id: u16,
@@ -74,7 +74,7 @@ impl TextLabelEntry {
 }
 
 // One of a language's three lists: the reserved bits before its count, and its rows of table 7.
-#[derive(Clone, Copy)]
+#[derive(Clone, Copy, PartialEq, Eq)]
 pub struct Descriptions {
     pub reserved: u16,
     pub entries: Range,

@@ -1,6 +1,7 @@
 -- The promise of the whole library, on one page: every claim of every kind (frame, specs/Claims), what each case of an answer says (document 01, "Numbers returned"),
 -- that each contract of the code is met by one answer, and the starred bodies of document 01.
 use Rattle.frame.specs.Claims.{Claims, Fixed, Told}
+use Rattle.frame.specs.Numbers.{answer_of}
 use Rattle.base.specs.Kind as Base
 use Rattle.base.specs.Contract as BaseCode
 use Rattle.scene_kind.specs.Kind as Scene
@@ -23,10 +24,10 @@ pub record Library : Type 0 where
   -- document 01's number and values of each case of an answer
   pub told : Told
   -- no second answer of the code meets a contract
-  pub base_fixed : Fixed Base.kind BaseCode.read BaseCode.measured
-  pub scene_fixed : Fixed Scene.kind SceneCode.read SceneCode.measured
-  pub text_label_fixed : Fixed TextLabel.kind TextLabelCode.read TextLabelCode.measured
-  pub multi_stream_fixed : Fixed MultiStream.kind MultiStreamCode.read MultiStreamCode.measured
-  pub drc_loudness_fixed : Fixed DrcLoudness.kind DrcLoudnessCode.read DrcLoudnessCode.measured
+  pub base_fixed : Fixed Base.kind answer_of BaseCode.measured
+  pub scene_fixed : Fixed Scene.kind answer_of SceneCode.measured
+  pub text_label_fixed : Fixed TextLabel.kind answer_of TextLabelCode.measured
+  pub multi_stream_fixed : Fixed MultiStream.kind answer_of MultiStreamCode.measured
+  pub drc_loudness_fixed : Fixed DrcLoudness.kind answer_of DrcLoudnessCode.measured
   -- document 01's thirteen starred bodies, one list
   pub starred : Starred

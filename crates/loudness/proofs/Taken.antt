@@ -33,6 +33,10 @@ use Rattle.loudness.specs.declared.rows.LoudnessInfoEntry.{LoudnessInfoEntry}
 abbrev pub ids_at : List ℕ → ℕ → ℕ
 ids_at s at = id_bytes types (part 0 2 (get_or s at 0))
 
+-- that is what code finds
+pub ids_so : (s : List ℕ) (at : ℕ) {k b v : ℕ} {ts : List ℕ} → k ≡ id_bytes ts v → ts ≡ types → v ≡ part 0 2 b → b ≡ get_or s at 0 → k ≡ ids_at s at
+ids_so s at e t p w = e ∙ λ i. id_bytes (t i) ((p ∙ ap (part 0 2) w) i)
+
 module _ (s : List ℕ) (at : ℕ) where
   sizes_so : head_sizes entry s at ≡ 1 ∷ ones (ids_at s at)
   unfolding took
@@ -49,29 +53,29 @@ module _ (s : List ℕ) (at : ℕ) where
 
   -- ---- measured: the type byte, then the ID and the length, then the bytes
 
-  module _ {o₁ : Out (Unit {0})} (e₁ : o₁ ≡ ends (ones 1) s at) where
-    pub type_lacks : {x : Short} → o₁ ≡ short x → o₁ ≡ end_of (run entries s at)
-    type_lacks d = bear_lacks entry s at (ends_cut (ones 1) (ones (ids_at s at + 1)) s at e₁ d ∙ ap (λ (l : List ℕ). ends l s at) (sym front_so)) d
+  pub type_lacks : {x : Short} → short x ≡ ends (ones 1) s at → short x ≡ end_of (run entries s at)
+  type_lacks e = bear_lacks entry s at (ends_cut (ones 1) (ones (ids_at s at + 1)) s at e ∙ ap (λ (l : List ℕ). ends l s at) (sym front_so))
 
-    pub type_got : {n : ℕ} → at ≤ length s → o₁ ≡ done tt n → (n ≡ at + 1) × (n ≤ length s)
+  module _ {n : ℕ} (e₁ : done tt n ≡ ends (ones 1) s at) where
+    pub type_got : at ≤ length s → (n ≡ at + 1) × (n ≤ length s)
     unfolding total ones
-    type_got h d = (ends_at (ones 1) s at (sym e₁ ∙ d), ends_within (ones 1) s at h (sym e₁ ∙ d))
+    type_got h = (ends_at (ones 1) s at (sym e₁), ends_within (ones 1) s at h (sym e₁))
 
-    module _ {n k : ℕ} (d₁ : o₁ ≡ done tt n) (q : k ≡ ids_at s at) {o₂ : Out (Unit {0})} (e₂ : o₂ ≡ ends (ones (k + 1)) s n) where
-      front : o₂ ≡ ends (head_sizes entry s at ++ (1 ∷ [])) s at
-      front = e₂ ∙ ap (λ (k : ℕ). ends (ones (k + 1)) s n) q ∙ sym (ap (λ (l : List ℕ). ends l s at) front_so ∙ ends_on (ones 1) (ones (ids_at s at + 1)) s at e₁ d₁)
+    module _ {k : ℕ} (q : k ≡ ids_at s at) where
+      front : ends (ones (k + 1)) s n ≡ ends (head_sizes entry s at ++ (1 ∷ [])) s at
+      front = ap (λ (k : ℕ). ends (ones (k + 1)) s n) q ∙ sym (ap (λ (l : List ℕ). ends l s at) front_so ∙ ends_on (ones 1) (ones (ids_at s at + 1)) s at e₁)
 
-      pub size_lacks : {x : Short} → o₂ ≡ short x → o₂ ≡ end_of (run entries s at)
-      size_lacks d = bear_lacks entry s at front d
+      pub size_lacks : {x : Short} → short x ≡ ends (ones (k + 1)) s n → short x ≡ end_of (run entries s at)
+      size_lacks e = bear_lacks entry s at (e ∙ front)
 
-      module _ (h : at ≤ length s) {m : ℕ} (d₂ : o₂ ≡ done tt m) where
+      module _ (h : at ≤ length s) {m : ℕ} (e₂ : done tt m ≡ ends (ones (k + 1)) s n) where
         pub size_got : (n + k + 1 ≡ m) × (m ≤ length s)
-        size_got = let (z, w) = bear_behind entry s at front h d₂ in (omega (arith, z, q, size_at_lem, (type_got h d₁).0), w)
+        size_got = let (z, w) = bear_behind entry s at h (e₂ ∙ front) in (omega (arith, z, q, size_at_lem, (type_got h).0), w)
 
-        pub entry_ends : {v : ℕ} {o₃ : Out (Unit {0})} → v ≡ get_or s (n + k) 0 → o₃ ≡ ends (v ∷ []) s m → o₃ ≡ end_of (run entries s at)
+        pub entry_ends : {v : ℕ} {o : Out (Unit {0})} → v ≡ get_or s (n + k) 0 → o ≡ ends (v ∷ []) s m → o ≡ end_of (run entries s at)
         entry_ends z e₃ =
-            let p : n + k ≡ size_at entry s at = omega (arith, q, size_at_lem, (type_got h d₁).0) in
-            e₃ ∙ ap (λ (v : ℕ). ends (v ∷ []) s m) (z ∙ ap (λ (k : ℕ). get_or s k 0) p) ∙ bear_got entry s at front d₂
+            let p : n + k ≡ size_at entry s at = omega (arith, q, size_at_lem, (type_got h).0) in
+            e₃ ∙ ap (λ (v : ℕ). ends (v ∷ []) s m) (z ∙ ap (λ (k : ℕ). get_or s k 0) p) ∙ bear_got entry s at (e₂ ∙ front)
 
   -- ---- filled, once measured
 

@@ -11,11 +11,9 @@ use lib.Dec.{leb, ltb}
 use Rattle.wire.specs.Lists.{each}
 use Rattle.wire.specs.Bits.{field, fit}
 use Rattle.wire.specs.Act.{Act, demand, copy}
-use Rattle.wire.specs.Pen.{look, glance, looks, Checked, CheckedByte, CheckedRun, Quick, clean, Ready, Filled}
+use Rattle.wire.specs.Pen.{look, glance, looks, Checked, CheckedByte, CheckedRun, Quick, clean, Ready, Filled, Pen, At}
 use Rattle.wire.specs.Layout.{from, at, row, field_of, writes, shown, cells, matches, matched, every}
 use Rattle.wire.specs.declared.pen.Fault.TheVariants as F
-use Rattle.wire.specs.declared.pen.Pen.{Pen}
-use Rattle.wire.specs.declared.pen.Pen.TheVariants.{At}
 use Rattle.wire.specs.declared.rows.Payload.{Payload}
 use Rattle.wire.proofs.Fields.{fit_one}
 use Rattle.wire.proofs.Writing.Passes.{then, more, Filling, fill_demand, fill_row_lem, fill_turn}

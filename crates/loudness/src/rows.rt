@@ -8,7 +8,7 @@ use wire::bits::{ones, wide};
 use wire::rows::Payload;
 
 // What the loudness of a scope is: its bytes are not looked into.
-#[derive(Clone, Copy)]
+#[derive(Clone, Copy, PartialEq, Eq)]
 pub struct LoudnessInfoEntry {
     pub reserved_type: u16,
     pub scope: DrcScope,
@@ -40,8 +40,7 @@ impl LoudnessInfoEntry {
     pub fn columns(self) -> [u16; ENTRY_COLUMNS]
         ensures { result ≡ entry_row self }
     {
-        let scope = self.scope;
-        let s = scope.columns();
+        let s = self.scope.columns();
         [
             self.reserved_type,
             s[0],

@@ -1,28 +1,28 @@
 // The reserved bits at 0 of loudness entries that were measured: those of their scopes.
-ghost use Rattle.std.specs.Prelude.{◌≡◌, true, ◌<◌, ◌≤◌, length};
-ghost use Rattle.wire.specs.Lists.{sum};
-ghost use Rattle.wire.specs.Prog.{run, many};
-ghost use Rattle.wire.specs.Reads.{is_done, rows_of};
-ghost use Rattle.wire.specs.Layout.{borne_tally};
+ghost use Rattle.std.specs.Prelude.{◌<◌, length};
+ghost use Rattle.wire.specs.Layout.{Borne, borne_tally};
 ghost use Rattle.loudness.specs.Layout.{entry, entries};
 
-use super::parsing::entry_at;
+use super::parsing::{LoudnessEntry, entry_at};
 use scopes::tallying::scope_zeros;
+use wire::list::{Tally, Zeros};
 
-pub fn tally_entries(body: &[u8], at: usize, count: usize) -> u32
-    requires { (at ≤ length body.now) × (length body.now < 65536) × (is_done (run (many count entries) body.now at) ≡ true) × (count < 64) }
-    ensures { result ≡ sum (borne_tally entry) (rows_of (run (many count entries) body.now at)) }
-{
-    let mut pos = at;
-    let mut left = count;
-    let mut zeros: u32 = 0;
-    while 0 < left {
-        let p = entry_at(body, pos);
-        let e = p.row;
-        let scope = e.scope;
-        zeros += scope_zeros(e.reserved_type, scope);
-        pos = p.next;
-        left -= 1;
+impl Tally for LoudnessEntry {
+    ghost Read = { Borne };
+
+    ghost reads = { λ _. entries };
+
+    ghost may = { λ _ s. length s < 65536 };
+
+    ghost zeros = { λ _ x. borne_tally entry x };
+
+    ghost most = { 9 };
+
+    fn zeros(&self, body: &[u8], at: usize) -> Zeros {
+        let p = entry_at(body, at);
+        Zeros {
+            zeros: scope_zeros(p.row.reserved_type, p.row.scope),
+            next: p.next,
+        }
     }
-    zeros
 }

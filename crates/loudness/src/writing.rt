@@ -1,17 +1,15 @@
 // Writing loudness entries: the check pass with a quick test of a plain row, and the fill pass.
-ghost use Rattle.std.specs.Prelude.{◌*◌, ◌<◌, ◌≤◌, ◌^◌, length};
-ghost use Rattle.wire.specs.Act.{rows};
-ghost use Rattle.wire.specs.Pen.{Checked, Quick, Ready, Filled};
-ghost use Rattle.wire.specs.Spell.{PlainRows};
-ghost use Rattle.wire.specs.declared.pen.Pen.TheVariants.{At};
+ghost use Rattle.std.specs.Prelude.{◌<◌, ◌^◌};
+ghost use Rattle.wire.specs.Pen.{Checked, Quick, Ready, Filled, At};
 ghost use Rattle.loudness.specs.Write.{entry_acts, row_acts};
 
 use super::rows::{ENTRY_COLUMNS, LoudnessInfoEntry, id_types};
 use scopes::writing::{check_scope, fill_scope, plain_scope};
 use wire::bits::fits;
 use wire::pen;
-use wire::pen::{Fault, Passed, Pen};
+use wire::pen::{Fault, Pen};
 use wire::rows::in_store;
+use wire::written::Rows;
 
 // ---- the check pass
 
@@ -20,10 +18,9 @@ fn check_entry(n: usize, e: LoudnessInfoEntry, store: &[u8]) -> Pen
     requires { n < 2 ^ 30 }
     ensures { Checked (entry_acts store.now e) 258 (At n) result }
 {
-    let scope = e.scope;
     let info = e.loudness_info;
-    let p0 = pen::demand(Pen::At(n), Fault::Range, in_store(info, store));
-    let p1 = check_scope(p0, e.reserved_type, scope, &id_types());
+    let p0 = pen::demand(Ok(n), Fault::Range, in_store(info, store));
+    let p1 = check_scope(p0, e.reserved_type, e.scope, &id_types());
     let p2 = pen::byte(p1, fits(info.length, 8));
     pen::run(p2, info.length as usize)
 }
@@ -32,48 +29,12 @@ fn check_entry(n: usize, e: LoudnessInfoEntry, store: &[u8]) -> Pen
 fn plain_bytes(e: LoudnessInfoEntry, store: &[u8]) -> usize
     ensures { Quick (entry_acts store.now e) 258 result }
 {
-    let scope = e.scope;
     let info = e.loudness_info;
-    let k = plain_scope(e.reserved_type, scope, &id_types());
+    let k = plain_scope(e.reserved_type, e.scope, &id_types());
     if in_store(info, store) & ((0 < k) & fits(info.length, 8)) {
         k + (1 + (info.length as usize))
     } else {
         0
-    }
-}
-
-// The plain rows before the first that is not, and their bytes.
-fn plain_rows(entries: &[u16], store: &[u8], count: usize) -> Passed
-    requires { (count * 7 ≤ length entries.now) × (count < 64) }
-    ensures { PlainRows (row_acts entries.now store.now) 258 count result.rows result.bytes }
-{
-    let mut bytes: usize = 0;
-    let mut i: usize = 0;
-    while i < count {
-        let e = LoudnessInfoEntry::of_columns(entries, i * ENTRY_COLUMNS);
-        let k = plain_bytes(e, store);
-        if k == 0 {
-            return Passed { rows: i, bytes };
-        }
-        bytes += k;
-        i += 1;
-    }
-    Passed { rows: i, bytes }
-}
-
-// The rows of table 11 from the first; the row that is not plain is looked at again to name its fault.
-pub fn check_entries(n: usize, entries: &[u16], store: &[u8], count: usize) -> Pen
-    requires { (count * 7 ≤ length entries.now) × (count < 64) × (n < 2 ^ 16) }
-    ensures { Checked (rows (row_acts entries.now store.now) 0 count) (258 * count) (At n) result }
-{
-    let p = plain_rows(entries, store, count);
-    let i = p.rows;
-    let at = n + p.bytes;
-    if i < count {
-        let e = LoudnessInfoEntry::of_columns(entries, i * ENTRY_COLUMNS);
-        check_entry(at, e, store)
-    } else {
-        Pen::At(at)
     }
 }
 
@@ -83,25 +44,44 @@ fn fill_entry(e: LoudnessInfoEntry, store: &[u8], out: &mut [u8], n: usize) -> u
     requires { Ready (entry_acts store.now e) n out.old }
     ensures { Filled (entry_acts store.now e) n out.old result out.new }
 {
-    let scope = e.scope;
-    let from = e.loudness_info.offset;
-    let count = e.loudness_info.length;
-    let n1 = fill_scope(e.reserved_type, scope, out, n);
-    let n2 = pen::put(out, n1, count);
-    pen::copy(out, n2, store, from as usize, count as usize)
+    let info = e.loudness_info;
+    let n1 = fill_scope(e.reserved_type, e.scope, out, n);
+    let n2 = pen::put(out, n1, info.length);
+    pen::copy(out, n2, store, info.offset as usize, info.length as usize)
 }
 
-// The rows of table 11, from the first.
-pub fn fill_entries(entries: &[u16], store: &[u8], count: usize, out: &mut [u8], n: usize) -> usize
-    requires { (count * 7 ≤ length entries.now) × (count < 2 ^ 16) × Ready (rows (row_acts entries.now store.now) 0 count) n out.old }
-    ensures { Filled (rows (row_acts entries.now store.now) 0 count) n out.old result out.new }
-{
-    let mut at = n;
-    let mut i: usize = 0;
-    while i < count {
-        let e = LoudnessInfoEntry::of_columns(entries, i * ENTRY_COLUMNS);
-        at = fill_entry(e, store, out, at);
-        i += 1;
+// ---- the rows of a table
+
+// The rows of table 11 that are written; their bytes stand in the store.
+#[derive(Clone, Copy)]
+pub struct LoudnessEntries<'a> {
+    pub entries: &'a [u16],
+    pub store: &'a [u8],
+}
+
+impl Rows for LoudnessEntries<'_> {
+    ghost columns = { 7 };
+
+    ghost table = { λ t. t.entries.now };
+
+    ghost acts = { λ t i. row_acts t.entries.now t.store.now i };
+
+    ghost most = { 258 };
+
+    ghost may = { λ _. Unit {0} };
+
+    fn plain(&self, i: usize) -> usize {
+        let e = LoudnessInfoEntry::of_columns(self.entries, i * ENTRY_COLUMNS);
+        plain_bytes(e, self.store)
     }
-    at
+
+    fn check(&self, n: usize, i: usize) -> Pen {
+        let e = LoudnessInfoEntry::of_columns(self.entries, i * ENTRY_COLUMNS);
+        check_entry(n, e, self.store)
+    }
+
+    fn fill(&self, i: usize, out: &mut [u8], n: usize) -> usize {
+        let e = LoudnessInfoEntry::of_columns(self.entries, i * ENTRY_COLUMNS);
+        fill_entry(e, self.store, out, n)
+    }
 }

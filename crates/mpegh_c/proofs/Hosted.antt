@@ -1,4 +1,5 @@
 -- What an entry point for hosts cites at its returns: the promise of its kind's crate, then a code and slices that say the same.
+use Rattle.std.specs.Prelude.{Result, Ok, Err}
 use Prim.Native.Nat.{ℕ, ◌≤◌, ◌<◌}
 use mathlib.Core.List.{List, []}
 use mathlib.Core.Bool.{Bool, true, false}
@@ -8,25 +9,26 @@ use lib.Dec.{leb}
 use lib.Seq.{sets}
 use borrow.Author.Tests.{le-leb, lt-leb, leb-true, leb-false}
 use Rattle.wire.proofs.Reading.Steps.{front_stored}
-use Rattle.frame.specs.Numbers.{Numbered, Answer, accepted, refused}
+use Rattle.frame.specs.Numbers.{Numbered, Answer, accepted, refused, answer_as, answer_of}
+use Rattle.frame.specs.declared.Refusal.{Refusal}
 use Rattle.frame.specs.Kind.{Kind, Lent}
 use Rattle.frame.specs.Entry.{Sizes, Output, leaves, onto, no_room, judging, sizes, measuring, Reads, Measures, Tallies, Writes}
 use Rattle.frame.proofs.Entries.{reads_unmeasured}
 use Rattle.mpegh_c.specs.Code.{code, refused_code, answer_code}
-use Rattle.mpegh_c.specs.Host.{Hosted, hosted, fronted, topped, rows_of, hosted_sizes, unread, host_reading, host_measuring, HostReads, HostMeasures, HostTallies, HostWrites}
+use Rattle.mpegh_c.specs.Host.{Hosted, hosted, fronted, topped, rows_of, hosted_sizes, unroomed, unread, host_reading, host_measuring, HostReads, HostMeasures, HostTallies, HostWrites}
 
 -- a code and the lent slices afterwards, the code as a number
 abbrev said : ℕ → List ℕ → Lent → Hosted
 said n front lent = record { code = n; front = front; tables = lent }
 
--- what `unread` makes of a judged body, or of one that was measured
-abbrev pub unroomed : {A : Type 0} → Answer A → Answer ℕ
-unroomed a = elim a [ accepted s ↦ no_room 0 1 | refused x ↦ refused x ]
-
 unroomed_onto : {A B : Type 0} (f : A → B) (a : Answer A) → unroomed (onto f a) ≡ unroomed a
 unfolding onto
 unroomed_onto f (accepted a) = refl
 unroomed_onto f (refused x) = refl
+
+unroomed_as : {A B : Type 0} (f : A → B) (r : Result A Refusal) → unroomed (answer_of r) ≡ unroomed (answer_as f r)
+unroomed_as f (Ok a) = refl
+unroomed_as f (Err x) = refl
 
 module _ {Tree Top Value : Type 0} (K : Kind Tree Top Value) where
   -- ---- tallying, writing
@@ -66,6 +68,11 @@ module _ {Tree Top Value : Type 0} (K : Kind Tree Top Value) where
   pub unread_so : {body : List ℕ} {z : Answer Sizes} {n : ℕ} → Measures K body z → n ≡ answer_code (unroomed z) → n ≡ answer_code (unread K body)
   unfolding measuring
   unread_so {body} w e = e ∙ ap (λ (z : Answer Sizes). answer_code (unroomed z)) w.promised ∙ ap answer_code (unroomed_onto (sizes K) (judging K body))
+
+  -- of a body that was measured, by the code's own sizes
+  pub unread_measured : {A : Type 0} (f : A → Sizes) {body : List ℕ} (r : Result A Refusal) {n : ℕ} → Measures K body (answer_as f r) → n ≡ answer_code (unroomed (answer_of r))
+      → n ≡ answer_code (unread K body)
+  unread_measured f r w e = unread_so w (e ∙ ap answer_code (unroomed_as f r))
 
   module _ (columns : ℕ) (row : Top → List ℕ) where
     -- the slice is too short for the top record

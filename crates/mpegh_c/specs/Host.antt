@@ -36,10 +36,14 @@ hosted_sizes slice (accepted z) = elim (leb (length (rows_of z.tables)) (length 
 ]
 hosted_sizes slice (refused x) = hosted (refused x) slice []
 
+-- with no room for the top record a body is judged all the same
+abbrev pub unroomed : {A : Type 0} → Answer A → Answer ℕ
+unroomed a = elim a [ accepted s ↦ no_room 0 1 | refused x ↦ refused x ]
+
 module _ {Tree Top Value : Type 0} (K : Kind Tree Top Value) where
-  -- with no room for the top record a body is judged all the same: 2, then 1
+  -- 2, then 1
   abbrev pub unread : List ℕ → Answer ℕ
-  unread body = elim (judging K body) [ accepted s ↦ no_room 0 1 | refused x ↦ refused x ]
+  unread body = unroomed (judging K body)
 
   -- what reading answers a host that lends so many columns for the top record
   unfoldable pub host_reading : ℕ → (Top → List ℕ) → List ℕ → List ℕ → Lent → Hosted

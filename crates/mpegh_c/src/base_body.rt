@@ -3,15 +3,12 @@ ghost use Rattle.std.specs.Prelude.{◌≡◌, []};
 ghost use Rattle.wire.specs.Prog.{span};
 ghost use Rattle.base.specs.Rows.{top_columns, top_row};
 ghost use Rattle.base.specs.Kind.{kind};
-ghost use Rattle.mpegh_c.specs.Code.{answer_code};
-ghost use Rattle.mpegh_c.specs.Host.{unread, HostReads, HostMeasures, HostTallies, HostWrites};
+ghost use Rattle.mpegh_c.specs.Host.{HostReads, HostMeasures, HostTallies, HostWrites};
 
 use super::codes;
 use base::parsing::head_end;
 use base::rows::{CompatibleSets, MpegH3dAudio, TOP_COLUMNS};
-use base::{Measured, Reading};
 use frame::Refusal;
-use wire::reads::Ends;
 use wire::rows::{Payload, put_row};
 
 // 0, and the record's columns at the front of `top`; or 2, or 1, or 3.
@@ -19,32 +16,18 @@ pub fn mpegh_base_read(body: &[u8], top: &mut [u16]) -> u64
     ensures { HostReads kind top_columns top_row body.now top.old [] result top.new [] }
 {
     // A body that ends before its sets is refused whatever is lent, and so before anything else.
-    let a = head_end(body);
-    let Ends::At(_) = a else {
-        return codes::refusal_code(Refusal::Short(a.short()));
-    };
-    if top.len() < TOP_COLUMNS {
-        return unread(body);
+    if let Err(x) = head_end(body) {
+        return codes::refusal_code(Refusal::Short(x));
     }
-    let r = base::read(body);
-    match r {
-        Reading::Done(m) => {
-            let row = m.columns();
-            put_row(top, 0, &row);
+    if top.len() < TOP_COLUMNS {
+        return codes::unread(base::measure(body));
+    }
+    match base::read(body) {
+        Ok(m) => {
+            put_row(top, 0, &m.columns());
             0
         }
-        Reading::Refused(x) => codes::refusal_code(x),
-    }
-}
-
-// No room for the top record, unless the body itself is refused.
-fn unread(body: &[u8]) -> u64
-    ensures { result ≡ answer_code (unread kind body.now) }
-{
-    let m = base::measure(body);
-    match m {
-        Measured::Done(_) => codes::room_code(0, 1),
-        Measured::Refused(x) => codes::refusal_code(x),
+        Err(x) => codes::refusal_code(x),
     }
 }
 
@@ -52,10 +35,9 @@ fn unread(body: &[u8]) -> u64
 pub fn mpegh_base_measure(body: &[u8], rows: &mut [u16]) -> u64
     ensures { HostMeasures kind body.now rows.old result rows.new }
 {
-    let m = base::measure(body);
-    match m {
-        Measured::Done(s) => codes::code(0, s.k),
-        Measured::Refused(x) => codes::refusal_code(x),
+    match base::measure(body) {
+        Ok(s) => codes::code(0, s.k),
+        Err(x) => codes::refusal_code(x),
     }
 }
 

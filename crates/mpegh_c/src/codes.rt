@@ -1,9 +1,10 @@
 // An answer as one number: document 01's number in the low 8 bits, what it returns in the high 56. Number 3 has the table in the next 24 bits and the rows in the high 32.
 ghost use Rattle.std.specs.Prelude.{◌≡◌, ◌<◌, min};
-ghost use Rattle.frame.specs.Numbers.{refusal, fault_number, tallied, written};
+ghost use Rattle.frame.specs.Numbers.{refusal, fault_number, answer_of, written};
 ghost use Rattle.mpegh_c.specs.Code.{code, table_code, refused_code, answer_code};
+ghost use Rattle.mpegh_c.specs.Host.{unroomed};
 
-use frame::{Refusal, Tallied, Written};
+use frame::{Refusal, Unwritten};
 use wire::pen::Fault;
 
 // What is too large for its bits is given as the largest.
@@ -41,12 +42,22 @@ pub fn refusal_code(x: Refusal) -> u64
     }
 }
 
-pub fn tallied_code(t: Tallied) -> u64
-    ensures { result ≡ answer_code (tallied t) }
+pub fn tallied_code(t: Result<usize, Refusal>) -> u64
+    ensures { result ≡ answer_code (answer_of t) }
 {
     match t {
-        Tallied::Done(n) => code(0, n),
-        Tallied::Refused(r) => refusal_code(r),
+        Ok(n) => code(0, n),
+        Err(r) => refusal_code(r),
+    }
+}
+
+// No room for the top record, unless a body that was measured is refused.
+pub fn unread<S: Copy>(measured: Result<S, Refusal>) -> u64
+    ensures { result ≡ answer_code (unroomed (answer_of measured)) }
+{
+    match measured {
+        Ok(_) => room_code(0, 1),
+        Err(r) => refusal_code(r),
     }
 }
 
@@ -62,13 +73,21 @@ fn fault_number(fault: Fault) -> u64
     }
 }
 
-pub fn written_code(w: Written) -> u64
+fn unwritten_code(x: Unwritten) -> u64
+    ensures { result ≡ answer_code (written (Err x)) }
+{
+    match x {
+        Unwritten::NoRoom(n) => code(4, n),
+        Unwritten::Wrong(fault, place) => code(fault_number(fault), place),
+        Unwritten::TooLong(n) => code(10, n),
+    }
+}
+
+pub fn written_code(w: Result<usize, Unwritten>) -> u64
     ensures { result ≡ answer_code (written w) }
 {
     match w {
-        Written::Done(n) => code(0, n),
-        Written::NoRoom(n) => code(4, n),
-        Written::Wrong(fault, place) => code(fault_number(fault), place),
-        Written::TooLong(n) => code(10, n),
+        Ok(n) => code(0, n),
+        Err(x) => unwritten_code(x),
     }
 }

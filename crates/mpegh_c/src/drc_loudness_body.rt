@@ -3,15 +3,13 @@ ghost use Rattle.std.specs.Prelude.{◌≡◌, [], ◌∷◌};
 ghost use Rattle.wire.specs.Prog.{span};
 ghost use Rattle.drc_kind.specs.Rows.{top_columns, top_row};
 ghost use Rattle.drc_kind.specs.Kind.{kind};
-ghost use Rattle.mpegh_c.specs.Code.{answer_code};
-ghost use Rattle.mpegh_c.specs.Host.{unread, HostReads, HostMeasures, HostTallies, HostWrites};
+ghost use Rattle.mpegh_c.specs.Host.{HostReads, HostMeasures, HostTallies, HostWrites};
 
 use super::codes;
+use drc_loudness::opened_behind;
 use drc_loudness::parsing::{head_end, record_at};
 use drc_loudness::rows::{DrcLoudnessInfo, Info, MpegH3dAudioDrcLoudness, TOP_COLUMNS};
-use drc_loudness::{Measured, Opening, opened_behind};
 use frame::Refusal;
-use wire::reads::Ends;
 use wire::rows::{Payload, put_row};
 
 // 0, the record's columns at the front of `top` and the rows in tables 9 to 12; or 2, or 1, or 3.
@@ -26,32 +24,19 @@ pub fn mpegh_drc_loudness_read(
     ensures { HostReads kind top_columns top_row body.now top.old (instructions.old ∷ additional.old ∷ loudness.old ∷ downmixes.old ∷ []) result top.new (instructions.new ∷ additional.new ∷ loudness.new ∷ downmixes.new ∷ []) }
 {
     // A body that ends before its lists is refused whatever is lent, and so before anything else.
-    let a = head_end(body);
-    let Ends::At(n) = a else {
-        return codes::refusal_code(Refusal::Short(a.short()));
+    let n = match head_end(body) {
+        Ok(n) => n,
+        Err(x) => return codes::refusal_code(Refusal::Short(x)),
     };
     if top.len() < TOP_COLUMNS {
-        return unread(body);
+        return codes::unread(drc_loudness::measure(body));
     }
-    let o = opened_behind(body, n, instructions, additional, loudness, downmixes);
-    match o {
-        Opening::At(p) => {
-            let row = record_at(body, p).columns();
-            put_row(top, 0, &row);
+    match opened_behind(body, n, instructions, additional, loudness, downmixes) {
+        Ok(p) => {
+            put_row(top, 0, &record_at(body, p).columns());
             0
         }
-        Opening::Refused(x) => codes::refusal_code(x),
-    }
-}
-
-// No room for the top record, unless the body itself is refused.
-fn unread(body: &[u8]) -> u64
-    ensures { result ≡ answer_code (unread kind body.now) }
-{
-    let m = drc_loudness::measure(body);
-    match m {
-        Measured::Done(_) => codes::room_code(0, 1),
-        Measured::Refused(x) => codes::refusal_code(x),
+        Err(x) => codes::refusal_code(x),
     }
 }
 
@@ -59,17 +44,19 @@ fn unread(body: &[u8]) -> u64
 pub fn mpegh_drc_loudness_measure(body: &[u8], rows: &mut [u16]) -> u64
     ensures { HostMeasures kind body.now rows.old result rows.new }
 {
-    let m = drc_loudness::measure(body);
-    match m {
-        Measured::Done(s) => {
+    match drc_loudness::measure(body) {
+        Ok(s) => {
             if rows.len() < 4 {
                 return codes::room_code(0, 1);
             }
-            let row = [s.instructions, s.additional, s.loudness, s.downmixes];
-            put_row(rows, 0, &row);
+            put_row(
+                rows,
+                0,
+                &[s.instructions, s.additional, s.loudness, s.downmixes],
+            );
             codes::code(0, s.k)
         }
-        Measured::Refused(x) => codes::refusal_code(x),
+        Err(x) => codes::refusal_code(x),
     }
 }
 

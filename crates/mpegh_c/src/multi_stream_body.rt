@@ -3,12 +3,10 @@ ghost use Rattle.std.specs.Prelude.{◌≡◌, [], ◌∷◌};
 ghost use Rattle.wire.specs.Prog.{span};
 ghost use Rattle.multi_stream.specs.Rows.{top_columns, top_row};
 ghost use Rattle.multi_stream.specs.Kind.{kind};
-ghost use Rattle.mpegh_c.specs.Code.{answer_code};
-ghost use Rattle.mpegh_c.specs.Host.{unread, HostReads, HostMeasures, HostTallies, HostWrites};
+ghost use Rattle.mpegh_c.specs.Host.{HostReads, HostMeasures, HostTallies, HostWrites};
 
 use super::codes;
 use multi_stream::rows::{MainStream, MpegH3dAudioMultiStream, MultiStreamMain, TOP_COLUMNS};
-use multi_stream::{Measured, Reading};
 use wire::rows::{Payload, put_row};
 
 // 0, the record's columns at the front of `top` and the groups in table 8; or 2, or 1, or 3.
@@ -16,27 +14,14 @@ pub fn mpegh_multi_stream_read(body: &[u8], top: &mut [u16], groups: &mut [u16])
     ensures { HostReads kind top_columns top_row body.now top.old (groups.old ∷ []) result top.new (groups.new ∷ []) }
 {
     if top.len() < TOP_COLUMNS {
-        return unread(body);
+        return codes::unread(multi_stream::measure(body));
     }
-    let r = multi_stream::read(body, groups);
-    match r {
-        Reading::Done(m) => {
-            let row = m.columns();
-            put_row(top, 0, &row);
+    match multi_stream::read(body, groups) {
+        Ok(m) => {
+            put_row(top, 0, &m.columns());
             0
         }
-        Reading::Refused(x) => codes::refusal_code(x),
-    }
-}
-
-// No room for the top record, unless the body itself is refused.
-fn unread(body: &[u8]) -> u64
-    ensures { result ≡ answer_code (unread kind body.now) }
-{
-    let m = multi_stream::measure(body);
-    match m {
-        Measured::Done(_) => codes::room_code(0, 1),
-        Measured::Refused(x) => codes::refusal_code(x),
+        Err(x) => codes::refusal_code(x),
     }
 }
 
@@ -44,17 +29,15 @@ fn unread(body: &[u8]) -> u64
 pub fn mpegh_multi_stream_measure(body: &[u8], rows: &mut [u16]) -> u64
     ensures { HostMeasures kind body.now rows.old result rows.new }
 {
-    let m = multi_stream::measure(body);
-    match m {
-        Measured::Done(s) => {
+    match multi_stream::measure(body) {
+        Ok(s) => {
             if rows.len() < 1 {
                 return codes::room_code(0, 1);
             }
-            let row = [s.groups];
-            put_row(rows, 0, &row);
+            put_row(rows, 0, &[s.groups]);
             codes::code(0, s.k)
         }
-        Measured::Refused(x) => codes::refusal_code(x),
+        Err(x) => codes::refusal_code(x),
     }
 }
 

@@ -3,15 +3,13 @@ ghost use Rattle.std.specs.Prelude.{◌≡◌, [], ◌∷◌};
 ghost use Rattle.wire.specs.Prog.{span};
 ghost use Rattle.scene_kind.specs.Rows.{top_columns, top_row};
 ghost use Rattle.scene_kind.specs.Kind.{kind};
-ghost use Rattle.mpegh_c.specs.Code.{answer_code};
-ghost use Rattle.mpegh_c.specs.Host.{unread, HostReads, HostMeasures, HostTallies, HostWrites};
+ghost use Rattle.mpegh_c.specs.Host.{HostReads, HostMeasures, HostTallies, HostWrites};
 
 use super::codes;
 use frame::Refusal;
 use scene::parsing::record_at;
 use scene::rows::{MpegH3dAudioScene, Section, TOP_COLUMNS};
-use scene::{Measured, Opening};
-use wire::reads::{Ends, head};
+use wire::reads::head;
 use wire::rows::{Payload, put_row};
 
 // 0, the record's columns at the front of `top` and the rows in tables 1 to 5; or 2, or 1, or 3.
@@ -27,32 +25,18 @@ pub fn mpegh_scene_read(
     ensures { HostReads kind top_columns top_row body.now top.old (groups.old ∷ switch_groups.old ∷ members.old ∷ presets.old ∷ conditions.old ∷ []) result top.new (groups.new ∷ switch_groups.new ∷ members.new ∷ presets.new ∷ conditions.new ∷ []) }
 {
     // A body that is cut here is refused whatever is lent, and so before anything else.
-    let a = head(body, 0, 2);
-    let Ends::At(_) = a else {
-        return codes::refusal_code(Refusal::Short(a.short()));
-    };
-    if top.len() < TOP_COLUMNS {
-        return unread(body);
+    if let Err(x) = head(body, 0, 2) {
+        return codes::refusal_code(Refusal::Short(x));
     }
-    let o = scene::opened(body, groups, switch_groups, members, presets, conditions);
-    match o {
-        Opening::At(p) => {
-            let row = record_at(body, p).columns();
-            put_row(top, 0, &row);
+    if top.len() < TOP_COLUMNS {
+        return codes::unread(scene::measure(body));
+    }
+    match scene::opened(body, groups, switch_groups, members, presets, conditions) {
+        Ok(p) => {
+            put_row(top, 0, &record_at(body, p).columns());
             0
         }
-        Opening::Refused(x) => codes::refusal_code(x),
-    }
-}
-
-// No room for the top record, unless the body itself is refused.
-fn unread(body: &[u8]) -> u64
-    ensures { result ≡ answer_code (unread kind body.now) }
-{
-    let m = scene::measure(body);
-    match m {
-        Measured::Done(_) => codes::room_code(0, 1),
-        Measured::Refused(x) => codes::refusal_code(x),
+        Err(x) => codes::refusal_code(x),
     }
 }
 
@@ -60,23 +44,25 @@ fn unread(body: &[u8]) -> u64
 pub fn mpegh_scene_measure(body: &[u8], rows: &mut [u16]) -> u64
     ensures { HostMeasures kind body.now rows.old result rows.new }
 {
-    let m = scene::measure(body);
-    match m {
-        Measured::Done(s) => {
+    match scene::measure(body) {
+        Ok(s) => {
             if rows.len() < 5 {
                 return codes::room_code(0, 1);
             }
-            let row = [
-                s.groups,
-                s.switch_groups,
-                s.members,
-                s.presets,
-                s.conditions,
-            ];
-            put_row(rows, 0, &row);
+            put_row(
+                rows,
+                0,
+                &[
+                    s.groups,
+                    s.switch_groups,
+                    s.members,
+                    s.presets,
+                    s.conditions,
+                ],
+            );
             codes::code(0, s.k)
         }
-        Measured::Refused(x) => codes::refusal_code(x),
+        Err(x) => codes::refusal_code(x),
     }
 }
 

@@ -3,15 +3,12 @@ ghost use Rattle.std.specs.Prelude.{◌≡◌, [], ◌∷◌};
 ghost use Rattle.wire.specs.Prog.{span};
 ghost use Rattle.text_label.specs.Rows.{top_columns, top_row};
 ghost use Rattle.text_label.specs.Kind.{kind};
-ghost use Rattle.mpegh_c.specs.Code.{answer_code};
-ghost use Rattle.mpegh_c.specs.Host.{unread, HostReads, HostMeasures, HostTallies, HostWrites};
+ghost use Rattle.mpegh_c.specs.Host.{HostReads, HostMeasures, HostTallies, HostWrites};
 
 use super::codes;
 use frame::Refusal;
 use text_label::parsing::head_end;
 use text_label::rows::{MpegH3dAudioTextLabel, TOP_COLUMNS};
-use text_label::{Measured, Reading};
-use wire::reads::Ends;
 use wire::rows::{Payload, put_row};
 
 // 0, the record's columns at the front of `top`, the languages in table 6 and their entries in table 7; or 2, or 1, or 3.
@@ -24,32 +21,18 @@ pub fn mpegh_text_label_read(
     ensures { HostReads kind top_columns top_row body.now top.old (languages.old ∷ entries.old ∷ []) result top.new (languages.new ∷ entries.new ∷ []) }
 {
     // A body that ends before its languages is refused whatever is lent, and so before anything else.
-    let a = head_end(body);
-    let Ends::At(_) = a else {
-        return codes::refusal_code(Refusal::Short(a.short()));
-    };
-    if top.len() < TOP_COLUMNS {
-        return unread(body);
+    if let Err(x) = head_end(body) {
+        return codes::refusal_code(Refusal::Short(x));
     }
-    let r = text_label::read(body, languages, entries);
-    match r {
-        Reading::Done(m) => {
-            let row = m.columns();
-            put_row(top, 0, &row);
+    if top.len() < TOP_COLUMNS {
+        return codes::unread(text_label::measure(body));
+    }
+    match text_label::read(body, languages, entries) {
+        Ok(m) => {
+            put_row(top, 0, &m.columns());
             0
         }
-        Reading::Refused(x) => codes::refusal_code(x),
-    }
-}
-
-// No room for the top record, unless the body itself is refused.
-fn unread(body: &[u8]) -> u64
-    ensures { result ≡ answer_code (unread kind body.now) }
-{
-    let m = text_label::measure(body);
-    match m {
-        Measured::Done(_) => codes::room_code(0, 1),
-        Measured::Refused(x) => codes::refusal_code(x),
+        Err(x) => codes::refusal_code(x),
     }
 }
 
@@ -57,17 +40,15 @@ fn unread(body: &[u8]) -> u64
 pub fn mpegh_text_label_measure(body: &[u8], rows: &mut [u16]) -> u64
     ensures { HostMeasures kind body.now rows.old result rows.new }
 {
-    let m = text_label::measure(body);
-    match m {
-        Measured::Done(s) => {
+    match text_label::measure(body) {
+        Ok(s) => {
             if rows.len() < 2 {
                 return codes::room_code(0, 1);
             }
-            let row = [s.languages, s.entries];
-            put_row(rows, 0, &row);
+            put_row(rows, 0, &[s.languages, s.entries]);
             codes::code(0, s.k)
         }
-        Measured::Refused(x) => codes::refusal_code(x),
+        Err(x) => codes::refusal_code(x),
     }
 }
 

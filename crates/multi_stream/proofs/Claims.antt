@@ -18,11 +18,12 @@ use Rattle.wire.proofs.Fields.{part_below}
 use Rattle.wire.proofs.Reading.Takes.{Takes, run_takes, takes_split, takes_ret, map_takes, many_takes, listed_every}
 use Rattle.wire.proofs.Layouts.Rowed.{Wide, found, flat_grows}
 use Rattle.frame.specs.Kind.{Lent}
-use Rattle.frame.specs.Numbers.{accepted, refuses}
-use Rattle.frame.specs.Entry.{leaves, onto, into, Sizes, Need, needs, lacking, room, first_table, other_tables, filled, judging, sizes, placing, reading, measuring, tallying, gives, trail, writing}
+use Rattle.frame.specs.Numbers.{accepted, refuses, answer_of}
+use Rattle.frame.specs.Entry.{leaves, onto, into, Need, needs, lacking, room, first_table, other_tables, filled, judging, sizes, placing, reading, measuring, tallying, gives, trail, writing}
+use Rattle.frame.specs.Entry as E
 use Rattle.frame.specs.Body.{layouts, parse, with_place, tables, zeros, heeds, heeded_rows}
 use Rattle.frame.specs.Claims.{Lowest, this, later, rows_agree, none_read, Claims, Fixed}
-use Rattle.frame.proofs.Numbers.{refused_back, answer_by, fixes}
+use Rattle.frame.proofs.Numbers.{fixes}
 use Rattle.frame.proofs.Judged.{was, ran_well, measured as was-measured}
 use Rattle.frame.proofs.Lawful.{Samples}
 use Rattle.frame.proofs.Tables.{rows_at}
@@ -30,16 +31,13 @@ use Rattle.frame.proofs.Proofs as P
 use Rattle.stream_groups.specs.Layout.{group}
 use Rattle.multi_stream.specs.declared.rows.MultiStreamMain.{MultiStreamMain}
 use Rattle.multi_stream.specs.declared.rows.MpegH3dAudioMultiStream.{MpegH3dAudioMultiStream}
-use Rattle.multi_stream.specs.declared.Reading.{Reading}
-use Rattle.multi_stream.specs.declared.Reading.TheVariants as R
-use Rattle.multi_stream.specs.declared.Measured.{Measured}
-use Rattle.multi_stream.specs.declared.Measured.TheVariants as M
+use Rattle.multi_stream.specs.declared.Sizes.{Sizes}
 use Rattle.multi_stream.specs.Layout.{head}
 use Rattle.multi_stream.specs.Rows.{MultiStream}
 use Rattle.multi_stream.specs.Read.{Main}
 use Rattle.multi_stream.specs.Read as Rust
 use Rattle.multi_stream.specs.Kind.{kind}
-use Rattle.multi_stream.specs.Contract.{needed, sized, read, measured}
+use Rattle.multi_stream.specs.Contract.{needed, sized, measured}
 use Rattle.multi_stream.proofs.Bodies.{two_groups, two_rows, no_groups}
 use Rattle.multi_stream.proofs.Lawful.{lawful}
 use Rattle.multi_stream.proofs.Mirrored.{group_so}
@@ -62,7 +60,7 @@ samples = record {
   size' = sized 0 3;
   measures = refl;
   measures' = refl;
-  sizes_differ = λ e. let z : ◌≡◌ {A = ℕ} 6 3 = ap (λ (s : Sizes). s.before) e in omega arith;
+  sizes_differ = λ e. let z : ◌≡◌ {A = ℕ} 6 3 = ap (λ (s : E.Sizes). s.before) e in omega arith;
   count = 0;
   count' = 2;
   tallies = refl;
@@ -103,9 +101,9 @@ unfolding room first_table
 low n groups (this h) = (refl, refl, h)
 low n groups (later h d) = absurd (nothing d refl)
 
-sized_so : (body : List ℕ) (z : Sizes) → measuring kind body ≡ accepted z → (n : ℕ) × (z ≡ sized n z.before)
+sized_so : (body : List ℕ) (z : E.Sizes) → measuring kind body ≡ accepted z → (n : ℕ) × (z ≡ sized n z.before)
 unfolding sizes kind tables needs
-sized_so body z e = let (s, j, q) = was-measured kind body z e in (length s.tree.1.0, sym (subst (λ (z : Sizes). sized (length s.tree.1.0) z.before ≡ z) q refl))
+sized_so body z e = let (s, j, q) = was-measured kind body z e in (length s.tree.1.0, sym (subst (λ (z : E.Sizes). sized (length s.tree.1.0) z.before ≡ z) q refl))
 
 pub lacks_room : (body groups : List ℕ) (t r : ℕ)
     → (reading kind body (groups ∷ []) ≡ leaves (refuses 3 (t ∷ r ∷ [])) (groups ∷ [])) ↔
@@ -118,7 +116,7 @@ lacks_room body groups t r = (forth, back)
     forth h =
         let (z, e, l) = (claims.more_room.no_room body (groups ∷ []) t r).0 h in
         let (n, q) = sized_so body z e in
-        let (a, b, c) = low n groups (subst (λ (z : Sizes). Lowest z.tables (groups ∷ []) t r) q l) in
+        let (a, b, c) = low n groups (subst (λ (z : E.Sizes). Lowest z.tables (groups ∷ []) t r) q l) in
         (a, z.before, e ∙ ap accepted (q ∙ ap (λ (n : ℕ). sized n z.before) (sym b)), subst (λ (n : ℕ). length groups / 5 < n) (sym b) c)
 
     back : (t ≡ 8) × (k : ℕ) × (measuring kind body ≡ accepted (sized r k)) × (length groups / 5 < r)
@@ -183,17 +181,12 @@ absent_part id p p' r groups store out =
 
 -- ---- the promises fix the answers themselves
 
-read_back : (r : Reading) → answer_by R.Done R.Refused (read r) ≡ r
-read_back (R.Done m) = refl
-read_back (R.Refused x) = ap R.Refused (refused_back x)
+measure_of : E.Sizes → Sizes
+measure_of z = record { groups = rows_at 0 z.tables; k = z.before }
 
-measure_of : Sizes → Measured
-measure_of z = M.Done (record { groups = rows_at 0 z.tables; k = z.before })
-
-measured_back : (r : Measured) → answer_by measure_of M.Refused (measured r) ≡ r
+measured_back : (s : Sizes) → measure_of (sized s.groups s.k) ≡ s
 unfolding measure_of
-measured_back (M.Done s) = refl
-measured_back (M.Refused x) = ap M.Refused (refused_back x)
+measured_back s = refl
 
-pub fixed : Fixed kind read measured
-fixed = fixes claims read R.Done R.Refused read_back measured measure_of M.Refused measured_back
+pub fixed : Fixed kind answer_of measured
+fixed = fixes claims (λ s. sized s.groups s.k) measure_of measured_back

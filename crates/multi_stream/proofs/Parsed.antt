@@ -1,4 +1,5 @@
 -- The body byte by byte, over the layout of a group: what follows the bytes of the main part, and what a run that is done says of the body.
+use Rattle.std.specs.Prelude.{Result, Ok, Err}
 use Prim.Native.Nat.{ℕ, ◌+◌, ◌≤◌, ◌<◌}
 use mathlib.Core.Path.{◌≡◌, refl, sym, ap, ◌∙◌}
 use mathlib.Core.List.{List, [], ◌∷◌}
@@ -9,15 +10,13 @@ use lib.Dec.{eqb}
 use Rattle.wire.specs.Lists.{each}
 use Rattle.wire.specs.Bits.{part}
 use Rattle.wire.specs.Prog.{Prog, ret, Out, done, short, run, u8, many, ◌>>=◌}
-use Rattle.wire.specs.Reads.{map_out, end_of, short_of, is_done, pos_of, Summed}
+use Rattle.wire.specs.Reads.{map_out, end_of, is_done, pos_of, Summed}
 use Rattle.wire.specs.Layout.{flat}
 use Rattle.wire.specs.Straight.{ends, ones}
 use Rattle.wire.specs.declared.reads.Short.{Short}
-use Rattle.wire.specs.declared.reads.Sum.{Sum}
-use Rattle.wire.specs.declared.reads.Sum.TheVariants as S
 use Rattle.wire.proofs.Reading.Runs.{run_split, run_ret}
 use Rattle.wire.proofs.Reading.Walk.{From, begun, onward, cut_off, cut_off_as, as_done, finished, byte_taken, is_done_lem, run_ret as run-done}
-use Rattle.wire.proofs.Reading.Loops.{many_long, summed_done, summed_cut, sum_onward, sum_cut_off, sum_small}
+use Rattle.wire.proofs.Reading.Loops.{many_long, summed_done, summed_short, sum_onward, sum_cut_off}
 use Rattle.wire.proofs.Layouts.Straight.{ones_past, singly, singly_there, singly_cut}
 use Rattle.stream_groups.specs.Layout.{group}
 use Rattle.multi_stream.specs.Rows.{MultiStream}
@@ -37,37 +36,36 @@ main_part = main (flat 5 group)
 abbrev pub behind_two : ℕ → ℕ → Prog Main
 behind_two a g = groups (part 0 7 g) >>= λ l. ret (main_of a g l)
 
-module _ (s : List ℕ) (at : ℕ) {o : Out (Unit {0})} (q : o ≡ ends (ones 2) s at) where
-  pub main_cut : {x : Short} → o ≡ short x → run (main_part true) s at ≡ short x
-  unfolding main singly
-  main_cut d = singly_cut 2 (λ l. behind_two (get_or l 0 0) (get_or l 1 0)) s at (sym q ∙ d)
+pub main_cut : (s : List ℕ) (at : ℕ) {x : Short} → short x ≡ ends (ones 2) s at → short x ≡ run (main_part true) s at
+unfolding main singly
+main_cut s at e = sym (singly_cut 2 (λ l. behind_two (get_or l 0 0) (get_or l 1 0)) s at (sym e))
 
 pub behind_there : (s : List ℕ) (at : ℕ) → at + 2 ≤ length s → From (main_part true) s at (behind_two (get_or s at 0) (get_or s (at + 1) 0)) (at + 2)
 unfolding main singly each
 behind_there s at h = record { same = singly_there 2 (λ l. behind_two (get_or l 0 0) (get_or l 1 0)) s at h; inside = h }
 
 -- the groups behind them, by the count as code has it
-module _ (s : List ℕ) (at : ℕ) {o : Out (Unit {0})} (q : o ≡ ends (ones 2) s at) (h : at ≤ length s) {n : ℕ} (d : o ≡ done tt n) {v c : ℕ} (e : v ≡ get_or s (at + 1) 0) (f : c ≡ part 0 7 v) {r : Out (Unit {0})} (w : r ≡ end_of (run (groups c) s n)) where
+module _ (s : List ℕ) (at : ℕ) (h : at ≤ length s) {n : ℕ} (q : done tt n ≡ ends (ones 2) s at) {v c : ℕ} (e : v ≡ get_or s (at + 1) 0) (f : c ≡ part 0 7 v) where
   count : ℕ
   count = part 0 7 (get_or s (at + 1) 0)
 
   place : From (main_part true) s at (behind_two (get_or s at 0) (get_or s (at + 1) 0)) (at + 2)
-  place = behind_there s at (ones_past 2 s at h q d).inside
+  place = behind_there s at (ones_past 2 s at h q).inside
 
-  ended : r ≡ map_out (λ l. tt) (run (groups count) s (at + 2))
+  ended : {r : Out (Unit {0})} → r ≡ end_of (run (groups c) s n) → r ≡ map_out (λ l. tt) (run (groups count) s (at + 2))
   unfolding count
-  ended = w ∙ λ i. end_of (run (groups ((f ∙ ap (part 0 7) e) i)) s ((ones_past 2 s at h q d).is i))
+  ended w = w ∙ λ i. end_of (run (groups ((f ∙ ap (part 0 7) e) i)) s ((ones_past 2 s at h q).is i))
 
-  pub groups_cut : {x y : Short} → r ≡ short x → y ≡ short_of r → short y ≡ run (main_part true) s at
+  pub groups_cut : {x : Short} → short x ≡ end_of (run (groups c) s n) → Summed (main_part true) (λ m. length m.groups) 127 s at (Err x)
   unfolding count
-  groups_cut z u = cut_off_as (groups (part 0 7 (get_or s (at + 1) 0))) (λ l. tt) _ place ended z u
+  groups_cut w = summed_short (cut_off_as (groups (part 0 7 (get_or s (at + 1) 0))) (λ l. tt) _ place (ended w))
 
-  pub groups_summed : {k : ℕ} → r ≡ done tt k → Summed (main_part true) (λ m. length m.groups) 127 s at (S.Got c k)
+  pub groups_summed : {k : ℕ} → done tt k ≡ end_of (run (groups c) s n) → Summed (main_part true) (λ m. length m.groups) 127 s at (Ok (c, k))
   unfolding count
-  groups_summed z =
-      let (l, y, _) = as_done (λ l. tt) (run (groups (part 0 7 (get_or s (at + 1) 0))) s (at + 2)) (sym ended ∙ z) in
+  groups_summed w =
+      let (l, y, _) = as_done (λ l. tt) (run (groups (part 0 7 (get_or s (at + 1) 0))) s (at + 2)) (sym (ended w)) in
       let a = many_long (flat 5 group) s (part 0 7 (get_or s (at + 1) 0)) (at + 2) l _ y in
-      summed_done (finished (onward (groups (part 0 7 (get_or s (at + 1) 0))) _ place refl y) refl) (f ∙ ap (part 0 7) e ∙ sym a) (omega (arith, f))
+      summed_done (finished (onward (groups (part 0 7 (get_or s (at + 1) 0))) _ place (sym y)) refl) (f ∙ ap (part 0 7) e ∙ sym a) (omega (arith, f))
 
 -- a main part that was read: its two bytes, and as many groups as the count says
 pub record MainThere (s : List ℕ) (at : ℕ) (m : Main) (k : ℕ) : Type 0 where
@@ -115,25 +113,25 @@ abbrev pub behind_first : ℕ → Prog MultiStream
 behind_first b = main_part (eqb (part 7 1 b) 1) >>= λ m. ret (stream_of b m)
 
 -- behind its first byte
-module _ (s : List ℕ) {o : Out ℕ} (e : o ≡ run u8 s 0) where
+module _ (s : List ℕ) where
   begins : From (multi_stream_over (flat 5 group)) s 0 (u8 >>= behind_first) 0
   unfolding multi_stream_over
   begins = begun (multi_stream_over (flat 5 group)) s 0 (omega arith)
 
-  pub first_there : {v n : ℕ} → o ≡ done v n → From kind.program s 0 (behind_first v) n
-  first_there d = let w = onward u8 behind_first begins e d in record { same = ap (λ (p : Prog MultiStream). run p s 0) parse_over ∙ w.same; inside = w.inside }
+  pub first_there : {v n : ℕ} → done v n ≡ run u8 s 0 → From kind.program s 0 (behind_first v) n
+  first_there e = let w = onward u8 behind_first begins e in record { same = ap (λ (p : Prog MultiStream). run p s 0) parse_over ∙ w.same; inside = w.inside }
 
-  pub first_cut : {x y : Short} → o ≡ short x → y ≡ short_of o → short y ≡ run kind.program s 0
-  first_cut d h = cut_off u8 behind_first begins e d h ∙ ap (λ (p : Prog MultiStream). run p s 0) (sym parse_over)
+  pub first_cut : {x : Short} → short x ≡ run u8 s 0 → short x ≡ run kind.program s 0
+  first_cut e = cut_off u8 behind_first begins e ∙ ap (λ (p : Prog MultiStream). run p s 0) (sym parse_over)
 
 -- its groups are those of the main part
-pub body_summed : (b : ℕ) {s : List ℕ} {n : ℕ} {r : Sum} → From kind.program s 0 (behind_first b) n
+pub body_summed : (b : ℕ) {s : List ℕ} {n : ℕ} {r : Result (ℕ × ℕ) Short} → From kind.program s 0 (behind_first b) n
     → Summed (main_part (eqb (part 7 1 b) 1)) (λ m. length m.groups) 127 s n r → Summed kind.program (λ t. length t.1.0) 127 s 0 r
-body_summed b {s} {n} {r} w x = go r refl
+body_summed b {s} {n} {r} w x = go r x
   where
-    go : (y : Sum) → r ≡ y → Summed kind.program (λ t. length t.1.0) 127 s 0 r
-    go (S.Got v m) e = let g = sum_onward (main_part (eqb (part 7 1 b) 1)) _ w x e in rw e (summed_done (finished g.place refl) (sym g.is) (sum_small x e))
-    go (S.Short y) e = summed_cut e (sum_cut_off (main_part (eqb (part 7 1 b) 1)) _ w x e)
+    go : (r : Result (ℕ × ℕ) Short) → Summed (main_part (eqb (part 7 1 b) 1)) (λ m. length m.groups) 127 s n r → Summed kind.program (λ t. length t.1.0) 127 s 0 r
+    go (Ok y) x = let g = sum_onward (main_part (eqb (part 7 1 b) 1)) _ w x in summed_done (finished g.place refl) (sym g.is) x.small
+    go (Err y) x = summed_short (sum_cut_off (main_part (eqb (part 7 1 b) 1)) _ w x)
 
 -- a body that was read: its first byte, and the main part that this steers
 pub record BodyRun (s : List ℕ) (t : MultiStream) (k : ℕ) : Type 0 where

@@ -17,11 +17,9 @@ use Rattle.wire.specs.declared.rows.Payload.{Payload}
 use Rattle.wire.specs.Layout.{Cell, num, reserved, flag, column, idle, Columns, of, shown, cells, tally}
 use Rattle.wire.proofs.Layouts.Rowed.{Wide}
 use Rattle.wire.proofs.Layouts.Fronts.{flat_front}
-use Rattle.frame.specs.declared.Room.{Room}
-use Rattle.frame.specs.declared.Room.TheVariants as M
 use Rattle.frame.specs.Numbers.{accepted}
 use Rattle.frame.specs.Entry.{needs, room, first_table, other_tables, lacking, filled, sizes, tail, Measures}
-use Rattle.frame.specs.Sight.{and_table, and_tables, Tops, Fills}
+use Rattle.frame.specs.Sight.{Room, Enough, and_table, and_tables, Tops, Fills}
 use Rattle.frame.specs.Body as B
 use Rattle.frame.specs.Body.{layouts, with_place, tables}
 use Rattle.frame.proofs.Lawful.{Shaped}
@@ -44,14 +42,14 @@ sizes_are t k = refl
 
 -- ---- the room of table 8
 
-module _ (n : ℕ) (t : List ℕ) {r : Room} (e : r ≡ and_table M.Enough (record { number = 8; columns = 5; rows = n }) t) where
-  pub room_so : r ≡ and_tables M.Enough (needed n) (t ∷ [])
+module _ (n : ℕ) (t : List ℕ) where
+  pub room_so : {r : Room} → r ≡ and_table Enough (record { number = 8; columns = 5; rows = n }) t → r ≡ and_tables Enough (needed n) (t ∷ [])
   unfolding and_tables first_table
-  room_so = e
+  room_so e = e
 
-  pub has_room : r ≡ M.Enough → (lacking (needed n) (t ∷ []) ≡ none) × (n ≤ length t / 5)
+  pub has_room : Enough ≡ and_table Enough (record { number = 8; columns = 5; rows = n }) t → (lacking (needed n) (t ∷ []) ≡ none) × (n ≤ length t / 5)
   unfolding room first_table
-  has_room d = let h = enough (needed n) (t ∷ []) (sym room_so ∙ d) in (h, (fit_head (none_fit (needed n) (t ∷ []) h)).0)
+  has_room e = let h = enough (needed n) (t ∷ []) (sym (room_so e)) in (h, (fit_head (none_fit (needed n) (t ∷ []) h)).0)
 
 -- ---- the reserved bits: those of the record alone
 

@@ -1,15 +1,13 @@
 -- The code's answers as the specification's: document 01's numbers and values; and the reserved bits at 0 of a record.
-use Rattle.std.specs.Prelude.{ℕ, ◌+◌, List, [], ◌∷◌}
+use Rattle.std.specs.Prelude.{ℕ, ◌+◌, List, [], ◌∷◌, Result}
 use Rattle.wire.specs.Bits.{zeros}
 use Rattle.wire.specs.Act.{pick}
-use Rattle.frame.specs.Numbers.{Answer, accepted, refused, refusal}
+use Rattle.frame.specs.Numbers.{Answer, answer_as}
 use Rattle.frame.specs.Entry as E
 use Rattle.frame.specs.Entry.{Need}
+use Rattle.frame.specs.declared.Refusal.{Refusal}
 use Rattle.multi_stream.specs.declared.rows.MpegH3dAudioMultiStream.{MpegH3dAudioMultiStream}
-use Rattle.multi_stream.specs.declared.Reading.{Reading}
-use Rattle.multi_stream.specs.declared.Reading.TheVariants as R
-use Rattle.multi_stream.specs.declared.Measured.{Measured}
-use Rattle.multi_stream.specs.declared.Measured.TheVariants as M
+use Rattle.multi_stream.specs.declared.Sizes.{Sizes}
 
 -- table 8 needs so many rows
 abbrev pub needed : ℕ → List Need
@@ -18,13 +16,8 @@ needed rows = record { number = 8; columns = 5; rows = rows } ∷ []
 abbrev pub sized : ℕ → ℕ → E.Sizes
 sized rows k = record { tables = needed rows; before = k }
 
-abbrev pub read : Reading → Answer MpegH3dAudioMultiStream
-read (R.Done m) = accepted m
-read (R.Refused r) = refused (refusal r)
-
-abbrev pub measured : Measured → Answer E.Sizes
-measured (M.Done s) = accepted (sized s.groups s.k)
-measured (M.Refused r) = refused (refusal r)
+abbrev pub measured : Result Sizes Refusal → Answer E.Sizes
+measured r = answer_as (λ s. sized s.groups s.k) r
 
 -- one before each count of the main part, where that part stands in the body
 abbrev pub zeros_of : MpegH3dAudioMultiStream → ℕ

@@ -6,82 +6,52 @@ pub mod rows;
 mod writing;
 
 ghost use Rattle.std.specs.Prelude.{◌≡◌, [], ◌∷◌};
-ghost use Rattle.frame.specs.Numbers.{tallied, written};
+ghost use Rattle.frame.specs.Numbers.{answer_of, written};
 ghost use Rattle.frame.specs.Entry.{Reads, Measures, Tallies, Writes};
 ghost use Rattle.multi_stream.specs.Kind.{kind};
-ghost use Rattle.multi_stream.specs.Contract.{read, measured, zeros_of};
+ghost use Rattle.multi_stream.specs.Contract.{measured, zeros_of};
 
-use frame::{Refusal, Room, Tallied, Written, and_table, write_bare};
+use frame::{Refusal, Unwritten, and_table, write_bare};
 use rows::{GROUP_COLUMNS, MpegH3dAudioMultiStream};
 use wire::bits::{idle_bits, wide};
-use wire::reads::Sum;
-
-// What reading answers: the top record, its trailing run included.
-#[derive(Clone, Copy)]
-pub enum Reading {
-    Done(MpegH3dAudioMultiStream),
-    Refused(Refusal),
-}
 
 // What a body needs: the rows of table 8, and k, the bytes before the trailing run.
-#[derive(Clone, Copy)]
+#[derive(Clone, Copy, PartialEq, Eq)]
 pub struct Sizes {
     pub groups: u16,
     pub k: usize,
 }
 
-#[derive(Clone, Copy)]
-pub enum Measured {
-    Done(Sizes),
-    Refused(Refusal),
-}
-
 // What the body needs, or 2, or 1.
-pub fn measure(body: &[u8]) -> Measured
+pub fn measure(body: &[u8]) -> Result<Sizes, Refusal>
     ensures { Measures kind body.now (measured result) }
 {
     if 65535 < body.len() {
-        return Measured::Refused(Refusal::TooLong(body.len()));
+        return Err(Refusal::TooLong(body.len()));
     }
-    let r = parsing::rows(body);
-    match r {
-        Sum::Got(groups, k) => Measured::Done(Sizes {
-            groups: groups as u16,
-            k,
-        }),
-        Sum::Short(x) => Measured::Refused(Refusal::Short(x)),
-    }
+    let (groups, k) = parsing::rows(body)?;
+    Ok(Sizes {
+        groups: groups as u16,
+        k,
+    })
 }
 
-// The record of a body, its groups in table 8; or 2, or 1, or 3. The table is touched when all of the body is known to be sound.
-pub fn read(body: &[u8], groups: &mut [u16]) -> Reading
-    ensures { Reads kind body.now (groups.old ∷ []) (read result) (groups.new ∷ []) }
+// The record of a body, its trailing run included, and its groups in table 8; or 2, or 1, or 3. The table is touched when all of the body is known to be sound.
+pub fn read(body: &[u8], groups: &mut [u16]) -> Result<MpegH3dAudioMultiStream, Refusal>
+    ensures { Reads kind body.now (groups.old ∷ []) (answer_of result) (groups.new ∷ []) }
 {
-    let m = measure(body);
-    match m {
-        Measured::Refused(r) => Reading::Refused(r),
-        Measured::Done(s) => {
-            let r = and_table(Room::Enough, 8, GROUP_COLUMNS, s.groups as usize, groups);
-            match r {
-                Room::Lacks(table, rows) => Reading::Refused(Refusal::NoRoom(table, rows)),
-                Room::Enough => {
-                    parsing::fill(body, s, groups);
-                    Reading::Done(parsing::record_at(body, s))
-                }
-            }
-        }
-    }
+    let s = measure(body)?;
+    and_table(Ok(()), 8, GROUP_COLUMNS, s.groups as usize, groups)?;
+    parsing::fill(body, s, groups);
+    Ok(parsing::record_at(body, s))
 }
 
 // The reserved bits at 0, or 2, or 1: all of them stand in the record.
-pub fn tally(body: &[u8]) -> Tallied
-    ensures { Tallies kind body.now (tallied result) }
+pub fn tally(body: &[u8]) -> Result<usize, Refusal>
+    ensures { Tallies kind body.now (answer_of result) }
 {
-    let m = measure(body);
-    match m {
-        Measured::Done(s) => Tallied::Done(zero_bits(parsing::record_at(body, s))),
-        Measured::Refused(r) => Tallied::Refused(r),
-    }
+    let s = measure(body)?;
+    Ok(zero_bits(parsing::record_at(body, s)))
 }
 
 fn zero_bits(m: MpegH3dAudioMultiStream) -> usize
@@ -98,16 +68,18 @@ fn zero_bits(m: MpegH3dAudioMultiStream) -> usize
 }
 
 // Writes the value at the front of the output, its groups taken from table 8 and its trailing run from the store: first the faults, then 10, then 4.
-pub fn write(m: MpegH3dAudioMultiStream, groups: &[u16], store: &[u8], out: &mut [u8]) -> Written
+pub fn write(
+    m: MpegH3dAudioMultiStream,
+    groups: &[u16],
+    store: &[u8],
+    out: &mut [u8],
+) -> Result<usize, Unwritten>
     ensures { Writes kind m (groups.now ∷ []) store.now out.old (written result) out.new }
 {
     if !m.main.present {
         return write_bare(&writing::head_bytes(m), m.trailing, store, out);
     }
-    let w = frame::judge(writing::check(m, groups, store), out.len());
-    let Written::Done(_) = w else {
-        return w;
-    };
+    let n = frame::judge(writing::check(m, groups, store), out.len())?;
     writing::fill(m, groups, store, out);
-    w
+    Ok(n)
 }

@@ -14,42 +14,34 @@ ghost use Rattle.multi_stream.specs.Contract.{sized};
 
 use super::Sizes;
 use super::rows::{MainStream, MpegH3dAudioMultiStream, MultiStreamMain};
-use stream_groups::parsing::{fill_groups, measure_groups};
+use stream_groups::parsing::{Group, measure_groups};
 use wire::bits::{part, wide};
-use wire::reads::{Byte, Ends, Sum, byte_at, head};
+use wire::list::store_rows;
+use wire::reads::{Short, byte_at, head};
 use wire::rows::trailing_run;
 
 // ---- the body, measured
 
 // The groups of the main-stream part, if the flag says that it is there, and where it ends.
-fn main_rows(body: &[u8], at: usize, present: bool) -> Sum
+fn main_rows(body: &[u8], at: usize, present: bool) -> Result<(usize, usize), Short>
     requires { at ≤ length body.now }
     ensures { Summed (main (flat 5 group) present) (λ m. length m.groups) 127 body.now at result }
 {
     if present {
-        let a = head(body, at, 2);
-        let Ends::At(n) = a else {
-            return Sum::Short(a.short());
-        };
+        let n = head(body, at, 2)?;
         let count = part(wide(body[at + 1]), 0, 7) as usize;
-        let b = measure_groups(body, n, count);
-        let Ends::At(k) = b else {
-            return Sum::Short(b.short());
-        };
-        Sum::Got(count, k)
+        let k = measure_groups(body, n, count)?;
+        Ok((count, k))
     } else {
-        Sum::Got(0, at)
+        Ok((0, at))
     }
 }
 
 // The groups of a body, and k.
-pub fn rows(body: &[u8]) -> Sum
+pub fn rows(body: &[u8]) -> Result<(usize, usize), Short>
     ensures { Summed kind.program (λ t. length t.1.0) 127 body.now 0 result }
 {
-    let a = byte_at(body, 0);
-    let Byte::Got(b0, n1) = a else {
-        return Sum::Short(a.short());
-    };
+    let (b0, n1) = byte_at(body, 0)?;
     main_rows(body, n1, part(b0, 7, 1) == 1)
 }
 
@@ -94,6 +86,6 @@ pub fn fill(body: &[u8], s: Sizes, groups: &mut [u16])
 {
     let count = s.groups;
     if 0 < count {
-        fill_groups(body, 3, count as usize, groups);
+        let _ = store_rows(&Group, body, 3, count as usize, groups, 0);
     }
 }

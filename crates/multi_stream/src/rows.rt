@@ -8,7 +8,7 @@ use wire::bits::{flag, ones, wide};
 use wire::rows::Payload;
 
 // The main-stream part; its groups are the first rows of table 8, by their count.
-#[derive(Clone, Copy)]
+#[derive(Clone, Copy, PartialEq, Eq)]
 pub struct MultiStreamMain {
     pub reserved_aux: u8,
     pub num_auxiliary_streams: u8,
@@ -31,7 +31,7 @@ impl MultiStreamMain {
 }
 
 // The main-stream part, where there is one: thisIsMainStream is 1.
-#[derive(Clone, Copy)]
+#[derive(Clone, Copy, PartialEq, Eq)]
 pub struct MainStream {
     pub present: bool,
     pub part: MultiStreamMain,
@@ -62,7 +62,7 @@ impl MainStream {
     }
 }
 
-#[derive(Clone, Copy)]
+#[derive(Clone, Copy, PartialEq, Eq)]
 pub struct MpegH3dAudioMultiStream {
     pub this_stream_id: u8,
     pub main: MainStream,

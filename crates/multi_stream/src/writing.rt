@@ -1,19 +1,19 @@
 // Writing the multi_stream body in two passes, each in the Rust's order: the check pass names the first fault or the length, the fill pass stores the bytes.
 ghost use Rattle.std.specs.Prelude.{◌≡◌, true, [], ◌∷◌, ◌<◌};
-ghost use Rattle.wire.specs.Pen.{reach, Checked, Ready, Filled};
+ghost use Rattle.wire.specs.Pen.{reach, Checked, Ready, Filled, At};
 ghost use Rattle.wire.specs.Spell.{Spelt};
-ghost use Rattle.wire.specs.declared.pen.Pen.TheVariants.{At};
 ghost use Rattle.frame.specs.Entry.{all_acts};
 ghost use Rattle.multi_stream.specs.Kind.{kind};
 ghost use Rattle.multi_stream.specs.Write.{head_fields, main_fields, within, main_acts, multi_stream_acts};
 
 use super::rows::{GROUP_COLUMNS, MainStream, MpegH3dAudioMultiStream, MultiStreamMain};
-use stream_groups::writing::{check_groups, fill_groups};
+use stream_groups::writing::Groups;
 use wire::bits::{flag, wide};
 use wire::pen;
-use wire::pen::{Fault, Pen};
+use wire::pen::{Fault, Pen, Stopped};
 use wire::rows::{has_rows, in_store};
 use wire::spell::{check_all, fill_all, two};
+use wire::written::{check_rows, fill_rows};
 
 // ---- the bytes of the top record
 
@@ -53,12 +53,9 @@ fn check_main(p: Pen, main: MainStream, groups: &[u16]) -> Pen
 {
     if main.present {
         let m = main.part;
-        let p1 = check_all(p, true, &main_bytes(m));
-        let Pen::At(n) = p1 else {
-            return p1;
-        };
+        let n = check_all(p, true, &main_bytes(m))?;
         let count = m.groups;
-        check_groups(n, groups, count as usize)
+        check_rows(&Groups { groups }, n, 0, count as usize)
     } else {
         p
     }
@@ -70,10 +67,10 @@ fn check_fields(m: MpegH3dAudioMultiStream, groups: &[u16]) -> Pen
 {
     let main = m.main;
     if groups_within(main, groups) {
-        let p = check_all(Pen::At(0), true, &head_bytes(m));
+        let p = check_all(Ok(0), true, &head_bytes(m));
         check_main(p, main, groups)
     } else {
-        Pen::Stop(Fault::Range, 0)
+        Err(Stopped(Fault::Range, 0))
     }
 }
 
@@ -86,7 +83,7 @@ pub fn check(m: MpegH3dAudioMultiStream, groups: &[u16], store: &[u8]) -> Pen
         let count = trailing.length;
         pen::run(check_fields(m, groups), count as usize)
     } else {
-        Pen::Stop(Fault::Range, 0)
+        Err(Stopped(Fault::Range, 0))
     }
 }
 
@@ -101,7 +98,7 @@ fn fill_main(main: MainStream, groups: &[u16], out: &mut [u8], n: usize) -> usiz
         let m = main.part;
         let n1 = fill_all(out, n, true, &main_bytes(m));
         let count = m.groups;
-        fill_groups(groups, count as usize, out, n1)
+        fill_rows(&Groups { groups }, 0, count as usize, out, n1)
     } else {
         n
     }

@@ -7,17 +7,15 @@ use native.Mathlib.Omega.{arith}
 use lib.ListN.{length, get_or}
 use Rattle.wire.specs.Lists.{each, sum}
 use Rattle.wire.specs.Bits.{part, total, split, zeros, fit}
-use Rattle.wire.specs.Prog.{done, run, many}
-use Rattle.wire.specs.Reads.{map_out, is_done}
-use Rattle.wire.specs.Pen.{looks, glance, look, Checked, Quick, Ready, Filled, clean}
+use Rattle.wire.specs.Prog.{done, run}
+use Rattle.wire.specs.Reads.{is_done}
+use Rattle.wire.specs.Pen.{looks, glance, look, Checked, Quick, Ready, Filled, clean, Pen, At, Stop}
 use Rattle.wire.specs.Layout.{of, put, blank, flat, writes, shown, cells, matches, matched, every, tally}
-use Rattle.wire.specs.Straight.{ends, puts_at, took, spans}
-use Rattle.wire.specs.Spell.{fit_all, Spells, none, more, ReadyAll, FillsAll}
+use Rattle.wire.specs.Straight.{puts_at, took, spans}
+use Rattle.wire.specs.Spell.{fit_all, Spells, none, more, ChecksAll, ReadyAll, FillsAll}
 use Rattle.wire.specs.declared.pen.Fault.TheVariants as F
-use Rattle.wire.specs.declared.pen.Pen.TheVariants.{At, Stop}
-use Rattle.wire.proofs.Reading.Loops.{first_done}
-use Rattle.wire.proofs.Layouts.Straight.{flat_so, flat_done, ends_got}
-use Rattle.wire.proofs.Writing.Plain.{line_acts, line_clean, line_plain, line_odd, line_ready, line_filled}
+use Rattle.wire.proofs.Layouts.Straight.{Whole, flat_done}
+use Rattle.wire.proofs.Writing.Plain.{line_acts, line_clean, line_plain, line_odd, line_checked, line_ready, line_filled}
 use Rattle.pairs.specs.Layout.{pair}
 use Rattle.pairs.specs.Rows.{pair_from}
 use Rattle.pairs.specs.Write.{pair_fields, pair_acts}
@@ -28,14 +26,18 @@ pub pair_one : (s : List ℕ) (at : ℕ) → spans pair blank s at ≡ 1 ∷ []
 unfolding pair took
 pair_one s at = refl
 
--- a pair that is there, and the next position
-pub pair_run : (s : List ℕ) (at : ℕ) → at < length s → done (pair_from (get_or s at 0)) (at + 1) ≡ run (flat 2 pair) s at
-unfolding pair took puts_at put split total each ends
-pair_run s at h = sym (flat_so 2 pair s at ∙ ap (map_out (λ u. pair_from (get_or s at 0))) (ends_got 1 [] s at (omega arith)))
+-- a pair that was measured: its byte is there, and what it gives
+module _ (s : List ℕ) (pos : ℕ) (h : pos ≤ length s) (q : is_done (run (flat 2 pair) s pos) ≡ true) where
+  whole : Whole 2 pair s pos
+  whole = flat_done 2 pair s pos h q
 
-pub pair_there : (s : List ℕ) (left pos : ℕ) → pos ≤ length s → 0 < left → is_done (run (many left (flat 2 pair)) s pos) ≡ true → pos < length s
-unfolding pair took total
-pair_there s left pos h l q = let w = (flat_done 2 pair s pos h (first_done (flat 2 pair) s left pos l q)).there in omega (arith, w)
+  pub pair_there : pos < length s
+  unfolding pair took total
+  pair_there = let w = whole.there in omega (arith, w)
+
+  pub pair_run : run (flat 2 pair) s pos ≡ done (pair_from (get_or s pos 0)) (pos + 1)
+  unfolding pair took puts_at put split total each
+  pair_run = whole.is
 
 pub pair_tally : (b : ℕ) → tally (pair ∷ []) (of (pair_from b)) ≡ zeros 1 (part 7 1 b)
 unfolding tally cells shown pair sum flatten
@@ -63,6 +65,9 @@ module _ (u : List ℕ) (j : ℕ) {v : ℕ} (w : Spells (pair_fields u j) v) whe
 
   pub pair_filled : {n r : ℕ} {l o : List ℕ} → Ready (pair_acts u j) n l → FillsAll true (v ∷ []) n l r o → Filled (pair_acts u j) n l r o
   pair_filled r x = line_filled (pair_acts u j) (pair_fields u j ∷ []) (pair_acts_lem u j) (more w none) r x
+
+  pub pair_checked : {p r : Pen} → ChecksAll true (v ∷ []) p r → Checked (pair_acts u j) 1 p r
+  pair_checked x = line_checked (pair_acts u j) (pair_fields u j ∷ []) (pair_acts_lem u j) (more w none) x
 
 pub pair_stopped : (u : List ℕ) (j n : ℕ) → clean (pair_acts u j) ≡ false → Checked (pair_acts u j) 1 (At n) (Stop F.Field n)
 unfolding fit_all looks glance look

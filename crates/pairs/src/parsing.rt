@@ -1,5 +1,5 @@
 // Reading pairs that were measured: nothing is left to test.
-ghost use Rattle.std.specs.Prelude.{◌≡◌, true, ◌+◌, ◌*◌, ◌<◌, ◌≤◌, length, get_or};
+ghost use Rattle.std.specs.Prelude.{ℕ, List, ◌≡◌, true, ◌+◌, ◌*◌, ◌<◌, ◌≤◌, length, get_or};
 ghost use mathlib.Core.List.{flat_map};
 ghost use Rattle.std.proofs.lemmas.List.Edits.{sets};
 ghost use Rattle.wire.specs.Prog.{run, many};
@@ -10,6 +10,7 @@ ghost use Rattle.pairs.specs.Rows.{pair_from};
 
 use super::PAIR_COLUMNS;
 use wire::bits::{part, wide};
+use wire::list::{Store, store_rows};
 use wire::rows::put_row;
 
 // The columns of the pair that stands here.
@@ -21,19 +22,32 @@ fn pair_at(body: &[u8], at: usize) -> [u16; PAIR_COLUMNS]
     [part(b, 7, 1), part(b, 0, 7)]
 }
 
+// A pair, as a list of them is stored and tallied.
+pub struct Pair;
+
+impl Store for Pair {
+    ghost Read = { List ℕ };
+
+    ghost reads = { λ _. flat 2 pair };
+
+    ghost may = { λ _ _. Unit {0} };
+
+    ghost COLUMNS = { 2 };
+
+    ghost columns = { λ _ r. r };
+
+    const COLUMNS: usize = PAIR_COLUMNS;
+
+    fn store(&self, body: &[u8], at: usize, table: &mut [u16], to: usize) -> usize {
+        put_row(table, to, &pair_at(body, at));
+        at + 1
+    }
+}
+
 // Stores `count` pairs from that column of their table on.
 pub fn fill_pairs(body: &[u8], at: usize, count: usize, table: &mut [u16], column: usize)
     requires { (at ≤ length body.now) × (is_done (run (many count (flat 2 pair)) body.now at) ≡ true) × (column + 2 * count ≤ length table.old) }
     ensures { table.new ≡ sets table.old column (flat_map (λ r. r) (rows_of (run (many count (flat 2 pair)) body.now at))) }
 {
-    let mut pos = at;
-    let mut left = count;
-    let mut to = column;
-    while 0 < left {
-        let row = pair_at(body, pos);
-        put_row(table, to, &row);
-        pos += 1;
-        left -= 1;
-        to += PAIR_COLUMNS;
-    }
+    let _ = store_rows(&Pair, body, at, count, table, column);
 }

@@ -1,4 +1,5 @@
 -- The three bytes of a preset, and its conditions behind them.
+use Rattle.std.specs.Prelude.{Ok, Err}
 use Prim.Native.Nat.{ℕ, ◌+◌, ◌*◌, ◌≤◌}
 use mathlib.Core.Path.{◌≡◌, refl, sym, ap, ◌∙◌}
 use mathlib.Core.List.{List, [], ◌∷◌, flatten, flat_map}
@@ -10,12 +11,11 @@ use lib.Seq.{sets}
 use Rattle.wire.specs.Lists.{each, sum}
 use Rattle.wire.specs.Bits.{part, total, split, zeros}
 use Rattle.wire.specs.Prog.{Out, done, short, run, many}
-use Rattle.wire.specs.Reads.{end_of, is_done, map_out, pos_of, rows_of, short_of, Summed}
+use Rattle.wire.specs.Reads.{end_of, is_done, map_out, pos_of, rows_of, Summed}
 use Rattle.wire.specs.Layout.{Columns, of, put, has, flat, layouts, shown, cells, tally, broken_row, family_tally}
 use Rattle.wire.specs.Straight.{ends, ones, puts_at, took}
 use Rattle.wire.specs.Nest.{Fillable, Nested}
 use Rattle.wire.specs.declared.reads.Short.{Short}
-use Rattle.wire.specs.declared.reads.Sum.TheVariants as S
 use Rattle.wire.proofs.Layouts.Cells.{all}
 use Rattle.wire.proofs.Layouts.Rowed.{weight}
 use Rattle.wire.proofs.Layouts.Straight.{ends_at, ends_within}
@@ -47,30 +47,31 @@ pub record Three (s : List ℕ) (at n : ℕ) : Type 0 where
   pub inside : n ≤ length s
   pub goes : end_of (run presets s at) ≡ behind_head preset (flat 13 condition) s at n
 
-module _ (s : List ℕ) (at : ℕ) (h : at ≤ length s) {o : Out (Unit {0})} where
-  module _ (e : o ≡ ends (ones 3) s at) where
-    pub three : {n : ℕ} → o ≡ done tt n → Three s at n
-    unfolding ones total
-    three d =
-        let i = ends_within (ones 3) s at h (sym e ∙ d) in
-        let q = ends_at (ones 3) s at (sym e ∙ d) in
-        record { there = omega arith; inside = i; goes = head_got preset (flat 13 condition) s at (e ∙ ap (λ (l : List ℕ). ends l s at) (sym (head_sizes_lem s at))) d }
+module _ (s : List ℕ) (at : ℕ) (h : at ≤ length s) where
+  three_bytes : {o : Out (Unit {0})} → o ≡ ends (ones 3) s at → o ≡ ends (head_sizes preset s at) s at
+  three_bytes e = e ∙ ap (λ (l : List ℕ). ends l s at) (sym (head_sizes_lem s at))
 
-    pub three_lack : {x y : Short} → o ≡ short x → y ≡ short_of o → Summed presets (λ x. length x.1) 16 s at (S.Short y)
-    three_lack d q =
-        broken_lacks preset (flat 13 condition) s at 16 h (head_lacks preset (flat 13 condition) s at (e ∙ ap (λ (l : List ℕ). ends l s at) (sym (head_sizes_lem s at))) d) d q
+  pub three : {n : ℕ} → done tt n ≡ ends (ones 3) s at → Three s at n
+  unfolding ones total
+  three e =
+      let i = ends_within (ones 3) s at h (sym e) in
+      let q = ends_at (ones 3) s at (sym e) in
+      record { there = omega arith; inside = i; goes = head_got preset (flat 13 condition) s at (three_bytes e) }
+
+  pub three_lack : {x : Short} → short x ≡ ends (ones 3) s at → Summed presets (λ x. length x.1) 16 s at (Err x)
+  three_lack e = broken_lacks preset (flat 13 condition) s at 16 h (head_lacks preset (flat 13 condition) s at (three_bytes e))
 
   -- behind its conditions
-  module _ {n k : ℕ} (w : Three s at n) (c : k ≡ count_at s at) (e : o ≡ end_of (run (many k (flat 13 condition)) s n)) where
-    kids_end : o ≡ end_of (run (many (kids_of preset s at) (flat 13 condition)) s n)
-    kids_end = e ∙ ap (λ (k : ℕ). end_of (run (many k (flat 13 condition)) s n)) (c ∙ sym (count_so s at))
+  module _ {n k : ℕ} (w : Three s at n) (c : k ≡ count_at s at) where
+    kids_end : {o : Out (Unit {0})} → o ≡ end_of (run (many k (flat 13 condition)) s n) → o ≡ end_of (run (many (kids_of preset s at) (flat 13 condition)) s n)
+    kids_end e = e ∙ ap (λ (k : ℕ). end_of (run (many k (flat 13 condition)) s n)) (c ∙ sym (count_so s at))
 
-    pub preset_lacks : {x y : Short} → o ≡ short x → y ≡ short_of o → Summed presets (λ x. length x.1) 16 s at (S.Short y)
-    preset_lacks d q = broken_lacks preset (flat 13 condition) s at 16 h (kids_lack preset (flat 13 condition) s at n w.goes kids_end d) d q
+    pub preset_lacks : {x : Short} → short x ≡ end_of (run (many k (flat 13 condition)) s n) → Summed presets (λ x. length x.1) 16 s at (Err x)
+    preset_lacks e = broken_lacks preset (flat 13 condition) s at 16 h (kids_lack preset (flat 13 condition) s at n w.goes (kids_end e))
 
-    pub preset_got : {m : ℕ} → o ≡ done tt m → k ≤ 16 → Summed presets (λ x. length x.1) 16 s at (S.Got k m)
+    pub preset_got : {m : ℕ} → done tt m ≡ end_of (run (many k (flat 13 condition)) s n) → k ≤ 16 → Summed presets (λ x. length x.1) 16 s at (Ok (k, m))
     unfolding took ends
-    preset_got d l = broken_got preset (flat 13 condition) s at 16 h (d ∙ sym (kids_got preset (flat 13 condition) s at n w.goes kids_end d)) d (c ∙ sym (count_so s at)) l
+    preset_got e l = broken_got preset (flat 13 condition) s at 16 h (sym (kids_got preset (flat 13 condition) s at n w.goes (kids_end e))) (c ∙ sym (count_so s at)) l
 
 -- ---- filled
 

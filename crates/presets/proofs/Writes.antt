@@ -1,4 +1,5 @@
 -- The actions of a preset: its demands and three bytes, and its conditions.
+use Rattle.std.specs.Prelude.{Err}
 use Prim.Native.Nat.{ℕ, ◌+◌, ◌-◌, ◌*◌, ◌/◌, ◌<◌, ◌≤◌, ◌^◌}
 use mathlib.Core.Path.{◌≡◌, refl, sym, ap, ◌∙◌}
 use mathlib.Core.List.{List, [], ◌∷◌, ◌++◌, map, flatten}
@@ -12,19 +13,18 @@ use Rattle.wire.specs.Bits.{Field, field, fit, total}
 use Rattle.wire.specs.Act.{Act, demand, byte, rows}
 use Rattle.wire.specs.Pen.{Checked, Quick, Ready, clean, bytes}
 use Rattle.wire.specs.Layout.{num, reserved, Columns, at, field_of, writes, shown, cells, matches, matched, every, has, family_acts, broken_acts}
-use Rattle.wire.specs.Spell.{PlainRows, PlainRun, fields_of, fit_all}
+use Rattle.wire.specs.Spell.{PlainRows, fields_of, fit_all}
 use Rattle.wire.specs.declared.pen.Fault.TheVariants as F
 use Rattle.wire.proofs.Fields.{less_one_fits}
 use Rattle.wire.proofs.Writing.Acts.{and_both}
 use Rattle.wire.proofs.Writing.Plain.{clean_all}
-use Rattle.wire.proofs.Writing.Passes.{here, nothing, Filling}
+use Rattle.wire.proofs.Writing.Passes.{nothing, Filling}
 use Rattle.wire.proofs.Layouts.Cells.{all, distinct, free, eights, proper}
 use Rattle.wire.proofs.Layouts.Forms.{sure, below}
 use Rattle.wire.proofs.Layouts.Rowed.{nest_test, weight}
 use Rattle.wire.proofs.Layouts.Families.{Front, front_acts, front_passed, row_is_plain, kids_passed, kids_odd, broken_stopped, broken_checked, broken_quick, broken_odd, broken_odd_kid, broken_ready, broken_filling}
-use Rattle.wire.specs.declared.pen.Fault.{Fault}
-use Rattle.wire.specs.declared.pen.Pen.{Pen}
-use Rattle.wire.specs.declared.pen.Pen.TheVariants.{At, Stop}
+use Rattle.wire.specs.declared.pen.Stopped.{Stopped}
+use Rattle.wire.specs.Pen.{Pen, At}
 use Rattle.conditions.specs.Layout.{condition}
 use Rattle.conditions.specs.Write.{row_acts}
 use Rattle.presets.specs.Layout.{preset}
@@ -58,9 +58,6 @@ row_acts_lem t u i = preset_acts_lem _ _ (preset_cols (preset_of t (i * 7))) ∙
   where
     same : plain_acts (length u / 13) (row_acts u) (preset_cols (preset_of t (i * 7))) ≡ plain_acts (length u / 13) (row_acts u) (at 7 t i)
     same = rw add-zero
-
-pub row_at : (t u : List ℕ) (b i : ℕ) → b ≡ i * 7 → preset_acts (preset_of t b) u ≡ family_acts preset 13 condition t u i
-row_at t u b i e = ap (λ (b : ℕ). preset_acts (preset_of t b) u) e ∙ row_acts_lem t u i
 
 -- ---- its conditions stand in their table, and are at most 16 if the third byte fits
 
@@ -113,19 +110,19 @@ module _ (u : List ℕ) (g : Columns) where
   unfolding writes
   front_few f = record { inside = in_rows (g 5 + g 6) (length u) f.inside; few = most_16 g (sym (clean_all (fields_of g head_cells)) ∙ f.fits) }
 
-  module _ {n : ℕ} {p : Pen} (w : Checked (front_acts preset room g) 3 (At n) p) where
-    pub preset_passed : {m : ℕ} → p ≡ At m → Few g u
-    preset_passed e = front_few (front_passed preset room (row_acts u) g w e)
+  pub preset_stopped : {n : ℕ} {x : Stopped} → Checked (front_acts preset room g) 3 (At n) (Err x) → Checked (broken_acts preset room (row_acts u) g) 99 (At n) (Err x)
+  preset_stopped w = broken_stopped preset room (row_acts u) g w 99 (omega arith) refl
 
-    pub preset_near : {m : ℕ} → p ≡ At m → m ≤ n + 3
-    preset_near e = rw e at w.near
+  module _ {n m : ℕ} (w : Checked (front_acts preset room g) 3 (At n) (At m)) where
+    pub preset_passed : Few g u
+    preset_passed = front_few (front_passed preset room (row_acts u) g w refl)
 
-    pub preset_stopped : {f : Fault} {m : ℕ} → p ≡ Stop f m → Checked (broken_acts preset room (row_acts u) g) 99 (At n) p
-    preset_stopped e = broken_stopped preset room (row_acts u) g w 99 (omega arith) e
+    pub preset_near : m ≤ n + 3
+    preset_near = w.near
 
-    pub preset_checked : {m : ℕ} {r : Pen} → p ≡ At m → Checked (rows (row_acts u) (g 5) (g 6)) (6 * g 6) (At m) r → Checked (broken_acts preset room (row_acts u) g) 99 (At n) r
+    pub preset_checked : {r : Pen} → Checked (rows (row_acts u) (g 5) (g 6)) (6 * g 6) (At m) r → Checked (broken_acts preset room (row_acts u) g) 99 (At n) r
     unfolding writes
-    preset_checked {r = r} e x = broken_checked preset room (row_acts u) g w 99 (here e x) (nothing 0 r) (omega (arith, (preset_passed e).few))
+    preset_checked {r} x = broken_checked preset room (row_acts u) g w 99 x (nothing 0 r) (omega (arith, preset_passed.few))
 
   -- ---- the quick test
 
@@ -152,7 +149,7 @@ module _ (u : List ℕ) (g : Columns) where
   front_odd e = test_odd (ap (λ (b : Bool). leb (g 5 + g 6) room && b) e ∙ and-false (leb (g 5 + g 6) room))
 
   module _ {i long : ℕ} (v : PlainRows (λ j. row_acts u (g 5 + j)) 6 (g 6) i long) where
-    kids_plain : test ≡ true → g 6 ≤ i → Quick (broken_acts preset room (row_acts u) g) 99 (3 + long)
+    pub kids_plain : test ≡ true → g 6 ≤ i → Quick (broken_acts preset room (row_acts u) g) 99 (3 + long)
     unfolding writes bytes
     kids_plain e h =
         let (c, l) = kids_passed (row_acts u) (g 5) (g 6) v h in
@@ -160,16 +157,8 @@ module _ (u : List ℕ) (g : Columns) where
         broken_quick preset room (row_acts u) g 99 preset_passes (plain_row ∙ e) (unfold matches matched clean in refl) c (omega (arith, l)) (omega arith)
         (omega (arith, v.few, v.within, f))
 
-    kid_odd : i < g 6 → Quick (broken_acts preset room (row_acts u) g) 99 0
+    pub kid_odd : i < g 6 → Quick (broken_acts preset room (row_acts u) g) 99 0
     kid_odd h = broken_odd_kid preset room (row_acts u) g 99 (kids_odd (row_acts u) (g 5) (g 6) v h)
-
-  -- the conditions, by one number
-  module _ {long : ℕ} (v : PlainRun (λ j. row_acts u (g 5 + j)) 6 (g 6) long) where
-    pub run_plain : test ≡ true → 0 < long → Quick (broken_acts preset room (row_acts u) g) 99 (3 + long)
-    run_plain e h = kids_plain (v.all h) e (omega arith)
-
-    pub run_odd : long ≡ 0 → Quick (broken_acts preset room (row_acts u) g) 99 0
-    run_odd z = let (i, n, h, w) = v.odd z in kid_odd w h
 
   -- ---- the fill pass
 

@@ -3,18 +3,16 @@ ghost use Rattle.std.specs.Prelude.{◌≡◌, ◌+◌, ◌*◌, ◌<◌, ◌≤
 ghost use mathlib.Core.List.{flatten};
 ghost use Rattle.wire.specs.Bits.{part};
 ghost use Rattle.wire.specs.Prog.{many};
-ghost use Rattle.wire.specs.Reads.{Summed};
-ghost use Rattle.wire.specs.Layout.{kids, broken, broken_row, flat};
-ghost use Rattle.wire.specs.Nest.{Fillable, Nested, Nests};
-ghost use Rattle.conditions.specs.Layout.{condition};
+ghost use Rattle.wire.specs.Layout.{Family, broken_row};
 ghost use Rattle.presets.specs.Layout.{preset, presets};
-ghost use Rattle.presets.specs.Rows.{preset_row, preset_from};
+ghost use Rattle.presets.specs.Rows.{preset_from};
 
 use super::rows::{CONDITION_COLUMNS, GroupPreset, PRESET_COLUMNS};
-use conditions::parsing::{fill_conditions, measure_conditions};
+use conditions::parsing::Condition;
 use wire::bits::{part, wide};
 use wire::ids::GroupPresetId;
-use wire::reads::{Ends, Sum, head};
+use wire::list::{Count, Nest, rows_end, store_rows};
+use wire::reads::{Short, head};
 use wire::rows::{Range, put_row};
 
 // How many conditions a preset has, by its third byte.
@@ -24,41 +22,25 @@ fn count_of(b: u8) -> u16
     part(wide(b), 0, 4) + 1
 }
 
-// The conditions of a preset, and where it ends.
-fn preset_rows(body: &[u8], at: usize) -> Sum
-    requires { at ≤ length body.now }
-    ensures { Summed presets (λ x. length x.1) 16 body.now at result }
-{
-    let a = head(body, at, 3);
-    let Ends::At(n) = a else {
-        return Sum::Short(a.short());
-    };
-    let count = count_of(body[at + 2]) as usize;
-    let b = measure_conditions(body, n, count);
-    let Ends::At(next) = b else {
-        return Sum::Short(b.short());
-    };
-    Sum::Got(count, next)
-}
+// A row of table 4, as a list of them is measured, stored and tallied.
+pub struct Preset;
 
-// The conditions of `count` presets, and where they end.
-pub fn measure_presets(body: &[u8], at: usize, count: usize) -> Sum
-    requires { (at ≤ length body.now) × (count < 32) }
-    ensures { Summed (many count presets) (λ l. length (kids l)) (16 * count) body.now at result }
-{
-    let mut pos = at;
-    let mut left = count;
-    let mut rows = 0;
-    while 0 < left {
-        let a = preset_rows(body, pos);
-        let Sum::Got(n, next) = a else {
-            return a;
-        };
-        rows += n;
-        pos = next;
-        left -= 1;
+// The conditions stand behind the three bytes, and nothing behind them.
+impl Count for Preset {
+    ghost Read = { Family };
+
+    ghost reads = { λ _. presets };
+
+    ghost kids = { λ _ x. length x.1 };
+
+    ghost most = { 16 };
+
+    fn kids(&self, body: &[u8], at: usize) -> Result<(usize, usize), Short> {
+        let n = head(body, at, 3)?;
+        let count = count_of(body[at + 2]) as usize;
+        let next = rows_end(&Condition, body, n, count)?;
+        Ok((count, next))
     }
-    Sum::Got(rows, pos)
 }
 
 // ---- filling: nothing is left to test
@@ -84,46 +66,39 @@ pub fn preset_from(body: &[u8], at: usize, first: u16) -> GroupPreset
     }
 }
 
-// A preset, and the next position.
-#[derive(Clone, Copy)]
-struct Placed {
-    preset: GroupPreset,
-    next: usize,
-}
+impl Nest for Preset {
+    ghost Read = { Family };
 
-// Stores the conditions of a preset from row `first` on.
-fn fill_preset(body: &[u8], at: usize, conditions: &mut [u16], first: usize) -> Placed
-    requires { Fillable presets 13 (λ x. length x.1) body.now at first conditions.old }
-    ensures { Nested presets 13 (λ n x. broken_row preset (n, x)) (λ x. flatten x.1) body.now at first conditions.old (preset_row result.preset) result.next conditions.new }
-{
-    let preset = preset_from(body, at, first as u16);
-    let count = preset.conditions.count as usize;
-    let next = fill_conditions(body, at + 3, count, conditions, first * CONDITION_COLUMNS);
-    Placed { preset, next }
-}
+    ghost reads = { λ _. presets };
 
-// Stores `count` presets that were measured as the first rows of table 4, and their conditions as those of table 5.
-pub fn fill_presets(
-    body: &[u8],
-    at: usize,
-    count: usize,
-    presets: &mut [u16],
-    conditions: &mut [u16],
-)
-    requires { Fillable (many count (broken preset (flat 13 condition))) 13 (λ l. length (kids l)) body.now at 0 conditions.old × (7 * count ≤ length presets.old) }
-    ensures { Nests (broken preset (flat 13 condition)) (λ x. length x.1) (λ n x. broken_row preset (n, x)) (λ x. flatten x.1) body.now at count presets.old conditions.old presets.new conditions.new }
-{
-    let mut pos = at;
-    let mut left = count;
-    let mut to = 0;
-    let mut first = 0;
-    while 0 < left {
-        let p = fill_preset(body, pos, conditions, first);
-        let row = p.preset.columns();
-        put_row(presets, to, &row);
-        first += p.preset.conditions.count as usize;
-        pos = p.next;
-        left -= 1;
-        to += PRESET_COLUMNS;
+    ghost may = { λ _ _. Unit {0} };
+
+    ghost COLUMNS = { 7 };
+
+    ghost KID_COLUMNS = { 13 };
+
+    ghost size = { λ _ x. length x.1 };
+
+    ghost columns = { λ _ n x. broken_row preset (n, x) };
+
+    ghost kids = { λ _ x. flatten x.1 };
+
+    const COLUMNS: usize = PRESET_COLUMNS;
+
+    fn store(
+        &self,
+        body: &[u8],
+        at: usize,
+        outer: &mut [u16],
+        to: usize,
+        inner: &mut [u16],
+        first: usize,
+    ) -> (usize, usize) {
+        let row = preset_from(body, at, first as u16);
+        let count = row.conditions.count as usize;
+        let column = first * CONDITION_COLUMNS;
+        let next = store_rows(&Condition, body, at + 3, count, inner, column);
+        put_row(outer, to, &row.columns());
+        (next, first + count)
     }
 }

@@ -9,7 +9,7 @@ use wire::ids::GroupPresetId;
 use wire::rows::Range;
 
 // A row of table 4: one preset, with the range of its conditions.
-#[derive(Clone, Copy)]
+#[derive(Clone, Copy, PartialEq, Eq)]
 pub struct GroupPreset {
     pub reserved_id: u16,
     pub preset_id: GroupPresetId,

@@ -1,21 +1,21 @@
 // Writing presets with their conditions: the check pass with a quick test of a plain row, and the fill pass.
-ghost use Rattle.std.specs.Prelude.{◌≡◌, ◌&&◌, leb, ◌-◌, ◌*◌, ◌<◌, ◌≤◌, ◌^◌, length};
-ghost use Rattle.wire.specs.Act.{rows};
+ghost use Rattle.std.specs.Prelude.{◌+◌, ◌≡◌, ◌&&◌, leb, ◌-◌, ◌*◌, ◌<◌, ◌^◌};
 ghost use Rattle.wire.specs.Layout.{family_acts};
 ghost use Rattle.wire.specs.Pen.{Checked, Quick, Ready, Filled};
-ghost use Rattle.wire.specs.Spell.{Spelt, PlainRows, fit_all};
-ghost use Rattle.wire.specs.declared.pen.Pen.TheVariants.{At};
+ghost use Rattle.wire.specs.Spell.{Spelt, fit_all};
+ghost use Rattle.wire.specs.Pen.{At};
 ghost use Rattle.conditions.specs.Layout.{condition};
 ghost use Rattle.presets.specs.Layout.{preset};
 ghost use Rattle.presets.specs.Write.{head_fields, preset_acts};
 
 use super::rows::{CONDITION_COLUMNS, GroupPreset, PRESET_COLUMNS};
-use conditions::writing::{check_conditions, fill_conditions, plain_run};
+use conditions::writing::Conditions;
 use wire::bits::{fits, four_fit, less_one};
 use wire::pen;
-use wire::pen::{Fault, Passed, Pen};
+use wire::pen::{Fault, Pen};
 use wire::rows::in_table;
 use wire::spell::{check_all, fill_all, two};
+use wire::written::{Rows, check_rows, fill_rows, plain_rows};
 
 // ---- the bytes
 
@@ -34,18 +34,20 @@ fn head_bytes(p: GroupPreset, stored: u16) -> [u32; 3]
 
 // Its range, then an empty list, at the start of the row; then each byte and each condition at its place.
 fn check_preset(n: usize, p: GroupPreset, conditions: &[u16]) -> Pen
-    requires { n < 2 ^ 19 }
+    requires { n + 99 < 2 ^ 30 }
     ensures { Checked (preset_acts p conditions.now) 99 (At n) result }
 {
     let r = p.conditions;
     let inside = in_table(r, conditions, CONDITION_COLUMNS);
-    let p0 = pen::demand(Pen::At(n), Fault::Range, inside);
+    let p0 = pen::demand(Ok(n), Fault::Range, inside);
     let p1 = pen::demand(p0, Fault::Empty, 1 <= r.count);
-    let p2 = check_all(p1, true, &head_bytes(p, less_one(r.count)));
-    let Pen::At(m) = p2 else {
-        return p2;
-    };
-    check_conditions(m, conditions, r.first as usize, r.count as usize)
+    let m = check_all(p1, true, &head_bytes(p, less_one(r.count)))?;
+    check_rows(
+        &Conditions { conditions },
+        m,
+        r.first as usize,
+        r.count as usize,
+    )
 }
 
 // Whether it has conditions and its three bytes fit: four columns stand side by side, and a count that is stored minus one fits four bits where it is at most 16.
@@ -82,48 +84,9 @@ fn plain_bytes(p: GroupPreset, conditions: &[u16]) -> usize
     if !front_fits(p) {
         return 0;
     }
-    let first = r.first as usize;
-    let k = plain_run(conditions, first, first + (r.count as usize));
-    if k == 0 { 0 } else { 3 + k }
-}
-
-// The plain rows before the first that is not, and their bytes.
-fn plain_presets(presets: &[u16], conditions: &[u16], count: usize) -> Passed
-    requires { (count * 7 ≤ length presets.now) × (count < 32) }
-    ensures { PlainRows (family_acts preset 13 condition presets.now conditions.now) 99 count result.rows result.bytes }
-{
-    let mut bytes: usize = 0;
-    let mut left = count;
-    let mut b: usize = 0;
-    while 0 < left {
-        let k = plain_bytes(GroupPreset::of_columns(presets, b), conditions);
-        if k == 0 {
-            return Passed {
-                rows: count - left,
-                bytes,
-            };
-        }
-        bytes += k;
-        left -= 1;
-        b += PRESET_COLUMNS;
-    }
-    Passed { rows: count, bytes }
-}
-
-// The rows of table 4 from the first; the row that is not plain is looked at again to name its fault.
-pub fn check_presets(n: usize, presets: &[u16], conditions: &[u16], count: usize) -> Pen
-    requires { (count * 7 ≤ length presets.now) × (count < 32) × (n < 2 ^ 16) }
-    ensures { Checked (rows (family_acts preset 13 condition presets.now conditions.now) 0 count) (99 * count) (At n) result }
-{
-    let c = plain_presets(presets, conditions, count);
-    let i = c.rows;
-    let at = n + c.bytes;
-    if i < count {
-        let p = GroupPreset::of_columns(presets, i * PRESET_COLUMNS);
-        check_preset(at, p, conditions)
-    } else {
-        Pen::At(at)
-    }
+    let count = r.count as usize;
+    let c = plain_rows(&Conditions { conditions }, r.first as usize, count);
+    if c.rows < count { 0 } else { 3 + c.bytes }
 }
 
 // ---- the fill pass
@@ -134,28 +97,47 @@ fn fill_preset(p: GroupPreset, conditions: &[u16], out: &mut [u8], n: usize) -> 
 {
     let n1 = fill_all(out, n, true, &head_bytes(p, p.conditions.count - 1));
     let r = p.conditions;
-    fill_conditions(conditions, r.first as usize, r.count as usize, out, n1)
+    fill_rows(
+        &Conditions { conditions },
+        r.first as usize,
+        r.count as usize,
+        out,
+        n1,
+    )
 }
 
-// The rows of table 4 from the first, each with its conditions.
-pub fn fill_presets(
-    presets: &[u16],
-    conditions: &[u16],
-    count: usize,
-    out: &mut [u8],
-    n: usize,
-) -> usize
-    requires { (count * 7 ≤ length presets.now) × (count < 2 ^ 16) × Ready (rows (family_acts preset 13 condition presets.now conditions.now) 0 count) n out.old }
-    ensures { Filled (rows (family_acts preset 13 condition presets.now conditions.now) 0 count) n out.old result out.new }
-{
-    let mut at = n;
-    let mut left = count;
-    let mut b: usize = 0;
-    while 0 < left {
-        let p = GroupPreset::of_columns(presets, b);
-        at = fill_preset(p, conditions, out, at);
-        left -= 1;
-        b += PRESET_COLUMNS;
+// ---- the rows of table 4
+
+// The rows that are written, with their conditions.
+#[derive(Clone, Copy)]
+pub struct Presets<'a> {
+    pub presets: &'a [u16],
+    pub conditions: &'a [u16],
+}
+
+impl Rows for Presets<'_> {
+    ghost columns = { 7 };
+
+    ghost table = { λ t. t.presets.now };
+
+    ghost acts = { λ t i. family_acts preset 13 condition t.presets.now t.conditions.now i };
+
+    ghost most = { 99 };
+
+    ghost may = { λ _. Unit {0} };
+
+    fn plain(&self, i: usize) -> usize {
+        let p = GroupPreset::of_columns(self.presets, i * PRESET_COLUMNS);
+        plain_bytes(p, self.conditions)
     }
-    at
+
+    fn check(&self, n: usize, i: usize) -> Pen {
+        let p = GroupPreset::of_columns(self.presets, i * PRESET_COLUMNS);
+        check_preset(n, p, self.conditions)
+    }
+
+    fn fill(&self, i: usize, out: &mut [u8], n: usize) -> usize {
+        let p = GroupPreset::of_columns(self.presets, i * PRESET_COLUMNS);
+        fill_preset(p, self.conditions, out, n)
+    }
 }

@@ -1,10 +1,9 @@
 -- What the functions of `Reader` promise: the answer of a read at its position, and where it stands afterwards. The position may be any number: a need
 -- that is too large for a `usize` is given as the largest.
-use Rattle.std.specs.Prelude.{ℕ, ◌-◌, ◌<◌, ◌^◌, min, List, ◌≡◌, length, drop}
+use Rattle.std.specs.Prelude.{Result, ℕ, ◌-◌, ◌<◌, ◌^◌, min, List, ◌≡◌, length, drop}
 use Rattle.wire.specs.Prog.{Prog, Out, done, short, needing, run, u8, pass, ◌>>=◌}
-use Rattle.wire.specs.Reads.{byte_out, byte_of, run_out}
-use Rattle.wire.specs.declared.reads.Byte.{Byte}
-use Rattle.wire.specs.declared.reads.Run.{Run}
+use Rattle.wire.specs.Reads.{read_out, number_of}
+use Rattle.wire.specs.declared.reads.Short.{Short}
 use Rattle.reader.specs.declared.Reader.{Reader}
 use Rattle.reader.specs.declared.reads.ByteStep.{ByteStep}
 use Rattle.reader.specs.declared.reads.RunStep.{RunStep}
@@ -20,15 +19,15 @@ after at (done a n) = n
 after at (short x) = at
 
 -- a read of one byte by the reader r, which is r' afterwards
-pub record ReadsByte (r : Reader) (b : Byte) (r' : Reader) : Type 0 where
-  pub is : byte_out b ≡ told (run u8 r.body.now r.pos)
-  pub small : byte_of b < 256
+pub record ReadsByte (r : Reader) (b : Result (ℕ × ℕ) Short) (r' : Reader) : Type 0 where
+  pub is : read_out b ≡ told (run u8 r.body.now r.pos)
+  pub small : number_of b < 256
   pub same : r'.body ≡ r.body
   pub moved : r'.pos ≡ after r.pos (run u8 r.body.now r.pos)
 
 -- a read of `count` bytes, by their place
-pub record TakesRun (count : ℕ) (r : Reader) (n : Run) (r' : Reader) : Type 0 where
-  pub is : run_out n ≡ told (run (pass count) r.body.now r.pos)
+pub record TakesRun (count : ℕ) (r : Reader) (n : Result (ℕ × ℕ) Short) (r' : Reader) : Type 0 where
+  pub is : read_out n ≡ told (run (pass count) r.body.now r.pos)
   pub same : r'.body ≡ r.body
   pub moved : r'.pos ≡ after r.pos (run (pass count) r.body.now r.pos)
 
@@ -42,13 +41,13 @@ pub record GivesRest (r : Reader) (s : List ℕ) (r' : Reader) : Type 0 where
 
 -- a read of one byte, with the position after it
 pub record SteppedByte (s : List ℕ) (at : ℕ) (r : ByteStep) : Type 0 where
-  pub is : byte_out r.byte ≡ told (run u8 s at)
-  pub small : byte_of r.byte < 256
+  pub is : read_out r.byte ≡ told (run u8 s at)
+  pub small : number_of r.byte < 256
   pub moved : r.next ≡ after at (run u8 s at)
 
 -- a read of `count` bytes
 pub record SteppedRun (count : ℕ) (s : List ℕ) (at : ℕ) (r : RunStep) : Type 0 where
-  pub is : run_out r.run ≡ told (run (pass count) s at)
+  pub is : read_out r.run ≡ told (run (pass count) s at)
   pub moved : r.next ≡ after at (run (pass count) s at)
 
 -- two reads of one byte, of which the second is the answer

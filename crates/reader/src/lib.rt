@@ -4,9 +4,9 @@
 ghost use Rattle.std.specs.Prelude.{◌≡◌};
 ghost use Rattle.reader.specs.Reading.{ReadsByte, TakesRun, GivesRest, second_byte};
 ghost use Rattle.wire.specs.Prog.{run};
-ghost use Rattle.wire.specs.Reads.{byte_out};
+ghost use Rattle.wire.specs.Reads.{read_out};
 
-use wire::reads::{Byte, Run};
+use wire::reads::Short;
 
 mod reads;
 
@@ -23,8 +23,8 @@ impl<'a> Reader<'a> {
         Reader { body, pos: 0 }
     }
 
-    // The next byte.
-    pub fn u8(&mut self) -> Byte
+    // The next byte, and the position behind it.
+    pub fn u8(&mut self) -> Result<(u16, usize), Short>
         ensures { ReadsByte self.old result self.new }
     {
         let step = reads::byte_from(self.body, self.pos);
@@ -32,8 +32,8 @@ impl<'a> Reader<'a> {
         step.byte
     }
 
-    // The next `count` bytes, by their place: an enum cannot hold a slice.
-    pub fn take(&mut self, count: usize) -> Run
+    // The next `count` bytes, by their place, and the position behind them.
+    pub fn take(&mut self, count: usize) -> Result<(usize, usize), Short>
         ensures { TakesRun count self.old result self.new }
     {
         let step = reads::run_from(self.body, self.pos, count);
@@ -52,10 +52,10 @@ impl<'a> Reader<'a> {
 }
 
 // The second byte of a plain slice, or the first refusal: whoever calls this needs no proof by hand.
-pub fn second(body: &[u8]) -> Byte
-    ensures { byte_out result ≡ run second_byte body.now 0 }
+pub fn second(body: &[u8]) -> Result<(u16, usize), Short>
+    ensures { read_out result ≡ run second_byte body.now 0 }
 {
     let mut reader = Reader::new(body);
-    reader.u8();
+    let _ = reader.u8();
     reader.u8()
 }

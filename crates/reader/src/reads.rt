@@ -2,18 +2,18 @@
 ghost use Rattle.std.specs.Prelude.{◌≡◌, ◌+◌, ◌-◌, ◌^◌, min, drop};
 ghost use Rattle.reader.specs.Reading.{SteppedByte, SteppedRun};
 
-use wire::reads::{Byte, Run, Short};
+use wire::reads::Short;
 
 // A read's answer, and where the reader stands after it.
-#[derive(Clone, Copy)]
+#[derive(Clone, Copy, PartialEq, Eq)]
 pub struct ByteStep {
-    pub byte: Byte,
+    pub byte: Result<(u16, usize), Short>,
     pub next: usize,
 }
 
-#[derive(Clone, Copy)]
+#[derive(Clone, Copy, PartialEq, Eq)]
 pub struct RunStep {
-    pub run: Run,
+    pub run: Result<(usize, usize), Short>,
     pub next: usize,
 }
 
@@ -28,7 +28,7 @@ pub fn byte_from(body: &[u8], at: usize) -> ByteStep
         }
     } else {
         ByteStep {
-            byte: Byte::Short(Short { need: end }),
+            byte: Err(Short { need: end }),
             next: at,
         }
     }
@@ -40,12 +40,12 @@ pub fn run_from(body: &[u8], start: usize, count: usize) -> RunStep
     let end = capped_sum(start, count);
     if end <= body.len() {
         RunStep {
-            run: Run::Got(start, end),
+            run: Ok((start, end)),
             next: end,
         }
     } else {
         RunStep {
-            run: Run::Short(Short { need: end }),
+            run: Err(Short { need: end }),
             next: start,
         }
     }

@@ -1,11 +1,11 @@
 // Bodies that are read, measured and tallied. What is lent is in arrays of its own during a call: no two parts of one array can be lent at once.
-use cases::list::State;
+use cases::list::{Kind, State};
 use cases::tables;
 use cases::tables::{Columns, copy_columns, front_mut};
 use mpegh_c::{base_body, drc_loudness_body, multi_stream_body, scene_body, text_label_body};
 
 // What the three entry points answer, and a digest of the lent memory afterwards: top record, tables, and what measuring was lent.
-#[derive(Clone, Copy)]
+#[derive(Clone, Copy, PartialEq, Eq)]
 pub struct Answers {
     pub read: u64,
     pub measured: u64,
@@ -102,27 +102,28 @@ fn read_drc_loudness(s: State, body: &[u8], columns: &mut Columns) -> u64 {
 }
 
 fn read(s: State, body: &[u8], columns: &mut Columns) -> u64 {
-    let kind = s.kind;
-    match kind {
-        1 => read_base(s, body, columns),
-        2 => read_scene(s, body, columns),
-        3 => read_text_label(s, body, columns),
-        4 => read_multi_stream(s, body, columns),
-        _ => read_drc_loudness(s, body, columns),
+    match s.kind {
+        Kind::Base => read_base(s, body, columns),
+        Kind::Scene => read_scene(s, body, columns),
+        Kind::TextLabel => read_text_label(s, body, columns),
+        Kind::MultiStream => read_multi_stream(s, body, columns),
+        Kind::DrcLoudness | Kind::Other => read_drc_loudness(s, body, columns),
     }
 }
 
-fn measure_into(kind: usize, body: &[u8], rows: &mut [u16]) -> u64 {
+fn measure_into(kind: Kind, body: &[u8], rows: &mut [u16]) -> u64 {
     match kind {
-        1 => base_body::mpegh_base_measure(body, rows),
-        2 => scene_body::mpegh_scene_measure(body, rows),
-        3 => text_label_body::mpegh_text_label_measure(body, rows),
-        4 => multi_stream_body::mpegh_multi_stream_measure(body, rows),
-        _ => drc_loudness_body::mpegh_drc_loudness_measure(body, rows),
+        Kind::Base => base_body::mpegh_base_measure(body, rows),
+        Kind::Scene => scene_body::mpegh_scene_measure(body, rows),
+        Kind::TextLabel => text_label_body::mpegh_text_label_measure(body, rows),
+        Kind::MultiStream => multi_stream_body::mpegh_multi_stream_measure(body, rows),
+        Kind::DrcLoudness | Kind::Other => drc_loudness_body::mpegh_drc_loudness_measure(
+            body, rows,
+        ),
     }
 }
 
-fn measure(kind: usize, body: &[u8], columns: &mut Columns) -> u64 {
+fn measure(kind: Kind, body: &[u8], columns: &mut Columns) -> u64 {
     let n = tables::rows_lent(kind);
     let mut rows = [43981u16; 8];
     let answer = measure_into(kind, body, front_mut(&mut rows, n));
@@ -130,13 +131,13 @@ fn measure(kind: usize, body: &[u8], columns: &mut Columns) -> u64 {
     answer
 }
 
-fn tally(kind: usize, body: &[u8]) -> u64 {
+fn tally(kind: Kind, body: &[u8]) -> u64 {
     match kind {
-        1 => base_body::mpegh_base_tally(body),
-        2 => scene_body::mpegh_scene_tally(body),
-        3 => text_label_body::mpegh_text_label_tally(body),
-        4 => multi_stream_body::mpegh_multi_stream_tally(body),
-        _ => drc_loudness_body::mpegh_drc_loudness_tally(body),
+        Kind::Base => base_body::mpegh_base_tally(body),
+        Kind::Scene => scene_body::mpegh_scene_tally(body),
+        Kind::TextLabel => text_label_body::mpegh_text_label_tally(body),
+        Kind::MultiStream => multi_stream_body::mpegh_multi_stream_tally(body),
+        Kind::DrcLoudness | Kind::Other => drc_loudness_body::mpegh_drc_loudness_tally(body),
     }
 }
 

@@ -1,5 +1,5 @@
 // Values that are written: the top record and the tables as they stand.
-use cases::list::State;
+use cases::list::{Kind, State};
 use cases::tables;
 use cases::tables::{Columns, column, part};
 use mpegh_c::{base_body, drc_loudness_body, multi_stream_body, scene_body, text_label_body};
@@ -110,12 +110,11 @@ fn write_drc_loudness(s: State, columns: &Columns, store: &[u8], out: &mut [u8])
 }
 
 pub fn write(s: State, columns: &Columns, store: &[u8], out: &mut [u8]) -> u64 {
-    let kind = s.kind;
-    match kind {
-        1 => write_base(columns, store, out),
-        2 => write_scene(s, columns, store, out),
-        3 => write_text_label(s, columns, store, out),
-        4 => write_multi_stream(s, columns, store, out),
-        _ => write_drc_loudness(s, columns, store, out),
+    match s.kind {
+        Kind::Base => write_base(columns, store, out),
+        Kind::Scene => write_scene(s, columns, store, out),
+        Kind::TextLabel => write_text_label(s, columns, store, out),
+        Kind::MultiStream => write_multi_stream(s, columns, store, out),
+        Kind::DrcLoudness | Kind::Other => write_drc_loudness(s, columns, store, out),
     }
 }

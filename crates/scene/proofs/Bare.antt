@@ -1,4 +1,5 @@
 -- A body whose sections have no rows is found at once, and needs no table; one that ends before the byte of its first section is short.
+use Rattle.std.specs.Prelude.{Ok}
 use Prim.Native.Nat.{ℕ, zero, suc, ◌+◌, ◌≤◌, ◌<◌}
 use mathlib.Core.Path.{◌≡◌, refl, sym, ap, subst, ◌∙◌}
 use mathlib.Core.List.{List, [], ◌∷◌, flat_map}
@@ -10,7 +11,7 @@ use borrow.Author.Tests.{eqb-true, ne_eqb, eq-eqb, leb-false}
 use Rattle.wire.specs.Lists.{Every, all_nil, all_cons, firsts}
 use Rattle.wire.specs.Bits.{part, total}
 use Rattle.wire.specs.Prog.{Prog, Out, done, short, needing, run, many, ◌>>=◌}
-use Rattle.wire.specs.Reads.{map_out, short_of}
+use Rattle.wire.specs.Reads.{map_out}
 use Rattle.wire.specs.Act.{pick}
 use Rattle.wire.specs.Straight.{ends, ones}
 use Rattle.wire.specs.declared.reads.Short.{Short}
@@ -30,7 +31,6 @@ use Rattle.scene_kind.specs.Read.{Section, section}
 use Rattle.scene_kind.specs.Rows.{Scene, scene_is}
 use Rattle.scene_kind.specs.Kind.{kind}
 use Rattle.scene.specs.declared.parsing.Places.{Places}
-use Rattle.scene.specs.declared.Opening.TheVariants as O
 use Rattle.scene.specs.Walk.{Flags, rows_at, count_at, groups_flag, switches_flag, presets_flag, tree, Bare, Opens}
 use Rattle.scene.proofs.Sections.{section_of, section_so, section_cut}
 use Rattle.scene.proofs.Walked.{behind_groups, head_there, head_cut, found_reads}
@@ -115,7 +115,7 @@ none_so {s} {n} {v} h e l =
     (uncounted 5 _ n z)
 
 -- they need no table, and none changes
-pub bare_opens : {s : List ℕ} {p : Places} → Bare s p → length s < 65536 → (x y z u v : List ℕ) → Opens s (x ∷ y ∷ z ∷ u ∷ v ∷ []) (O.At p) (x ∷ y ∷ z ∷ u ∷ v ∷ [])
+pub bare_opens : {s : List ℕ} {p : Places} → Bare s p → length s < 65536 → (x y z u v : List ℕ) → Opens s (x ∷ y ∷ z ∷ u ∷ v ∷ []) (Ok p) (x ∷ y ∷ z ∷ u ∷ v ∷ [])
 unfolding kind tables firsts flat_map
 bare_opens {s} {p} b h x y z u v =
     let f = b.found in
@@ -142,7 +142,7 @@ section_passed p r w full s flag l e =
 
 cut : {A : Type 0} (p : Prog A) {s : List ℕ} (f : A → Prog Scene) → From kind.program s 0 (p >>= f) 2 → run p s 2 ≡ short (needing 3)
     → run kind.program s 0 ≡ short (needing 3)
-cut p f w e = sym (cut_off p f w refl e (sym (ap short_of e)))
+cut p f w e = sym (cut_off p f w (sym e))
 
 flag_is : (v : ℕ) → eqb v 1 ≡ true → v ≡ 1
 flag_is v e = eqb-true v 1 e
@@ -169,14 +169,14 @@ first_cut s l low high = go (eqb (groups_flag s) 1) (eqb (switches_flag s) 1) (e
     w₀ = head_there s (omega arith)
 
     w₁ : (groups_flag s ≡ 1 → ⊥) → From kind.program s 0 (behind_groups s (section_of (flat 27 group) 1 7 1 s (groups_flag s) 2 [])) 2
-    w₁ a = onward groups (behind_groups s) w₀ refl (section_passed (flat 27 group) 1 7 1 s (groups_flag s) l a)
+    w₁ a = onward groups (behind_groups s) w₀ (sym (section_passed (flat 27 group) 1 7 1 s (groups_flag s) l a))
 
     go : (x y z : Bool) → eqb (groups_flag s) 1 ≡ x → eqb (switches_flag s) 1 ≡ y → eqb (presets_flag s) 1 ≡ z → run kind.program s 0 ≡ short (needing 3)
     go true y z a b c = cut groups (behind_groups s) w₀ (section_missing (flat 27 group) 1 7 1 s (groups_flag s) l (flag_is _ a))
     go false true z a b c = cut switches _ (w₁ (flag_is_not _ a)) (section_missing switch_group_list 3 5 7 s (switches_flag s) l (flag_is _ b))
     go false false true a b c =
         cut (section (presets_flag s) 3 5 7 presets) _
-        (onward switches _ (w₁ (flag_is_not _ a)) refl (section_passed switch_group_list 3 5 7 s (switches_flag s) l (flag_is_not _ b)))
+        (onward switches _ (w₁ (flag_is_not _ a)) (sym (section_passed switch_group_list 3 5 7 s (switches_flag s) l (flag_is_not _ b))))
         (section_missing presets 3 5 7 s (presets_flag s) l (flag_is _ c))
     go false false false a b c =
         let x = flag_off (groups_flag s) (omega arith) a in
@@ -186,19 +186,19 @@ first_cut s l low high = go (eqb (groups_flag s) 1) (eqb (switches_flag s) 1) (e
         absurd (omega (arith, flag_off (presets_flag s) (omega arith) c, lower))
 
 -- the read of that byte tells: it is there, or the body is cut
-module _ (s : List ℕ) (h : 2 ≤ length s) {o : Out (Unit {0})} (e : o ≡ ends (ones 1) s 2) where
-  pub first_there : {n : ℕ} → o ≡ done tt n → 3 ≤ length s
-  first_there d = (ones_past 1 s 2 h e d).inside
+module _ (s : List ℕ) (h : 2 ≤ length s) where
+  pub first_there : {n : ℕ} → done tt n ≡ ends (ones 1) s 2 → 3 ≤ length s
+  first_there e = (ones_past 1 s 2 h e).inside
 
-  pub cut_so : 32 ≤ get_or s 0 0 → get_or s 0 0 < 256 → {x y : Short} → o ≡ short x → y ≡ short_of o → run kind.program s 0 ≡ short y
+  pub cut_so : 32 ≤ get_or s 0 0 → get_or s 0 0 < 256 → {x : Short} → short x ≡ ends (ones 1) s 2 → run kind.program s 0 ≡ short x
   unfolding ends ones
-  cut_so low high {x} {y} d z = go (leb 3 (length s)) refl (sym e ∙ d)
+  cut_so low high {x} e = go (leb 3 (length s)) refl (sym e)
     where
-      go : (b : Bool) → leb 3 (length s) ≡ b → ◌≡◌ {A = Out (Unit {0})} (elim b [ true ↦ done tt 3 | false ↦ short (needing 3) ]) (short x) → run kind.program s 0 ≡ short y
+      go : (b : Bool) → leb 3 (length s) ≡ b → ◌≡◌ {A = Out (Unit {0})} (elim b [ true ↦ done tt 3 | false ↦ short (needing 3) ]) (short x) → run kind.program s 0 ≡ short x
       go true q w = absurd (let z : ◌≡◌ {A = ℕ} 0 1 = cc w in omega arith)
-      go false q w = let k = leb-false 3 (length s) q in let v : needing 3 ≡ x = cc w in first_cut s (omega (arith, k)) low high ∙ ap short (v ∙ sym (z ∙ ap short_of d))
+      go false q w = let k = leb-false 3 (length s) q in let v : needing 3 ≡ x = cc w in first_cut s (omega (arith, k)) low high ∙ ap short v
 
 -- without its first two bytes
-pub headless : (s : List ℕ) {o : Out (Unit {0})} {x : Short} → o ≡ ends (ones 2) s 0 → o ≡ short x → Measures kind s (too_short (short_of o))
+pub headless : (s : List ℕ) {x : Short} → short x ≡ ends (ones 2) s 0 → Measures kind s (too_short x)
 unfolding kind ones total
-headless s e d = measures_short kind s (omega (arith, ends_few (ones 2) s 0 (sym e ∙ d))) (head_cut s (sym e ∙ d) ∙ ap short (sym (ap short_of d)))
+headless s e = measures_short kind s (omega (arith, ends_few (ones 2) s 0 (sym e))) (head_cut s e)

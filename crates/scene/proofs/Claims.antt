@@ -1,35 +1,27 @@
 -- What is claimed of the entry points of the scene body: all claims hold of its kind (scene_kind, proofs/Claims), and each promise fixes the answer itself and the five tables.
-use mathlib.Core.Path.{◌≡◌, refl, ap}
+use mathlib.Core.Path.{◌≡◌, refl}
+use Rattle.frame.specs.Numbers.{answer_of}
 use Rattle.frame.specs.Entry as E
 use Rattle.frame.specs.Claims.{Claims, Fixed}
-use Rattle.frame.proofs.Numbers.{refused_back, answer_by, fixes}
+use Rattle.frame.proofs.Numbers.{fixes}
 use Rattle.frame.proofs.Tables.{rows_at}
 use Rattle.scene_kind.specs.Kind.{kind}
 use Rattle.scene_kind.proofs.Claims as K
-use Rattle.scene.specs.declared.Reading.{Reading}
-use Rattle.scene.specs.declared.Reading.TheVariants as R
-use Rattle.scene.specs.declared.Measured.{Measured}
-use Rattle.scene.specs.declared.Measured.TheVariants as M
-use Rattle.scene.specs.Contract.{read, measured}
+use Rattle.scene.specs.declared.Sizes.{Sizes}
+use Rattle.scene.specs.Contract.{sized, measured}
 
 pub claims : Claims kind
 claims = K.claims
 
 -- ---- the promises fix the answers themselves
 
-read_back : (r : Reading) → answer_by R.Done R.Refused (read r) ≡ r
-read_back (R.Done m) = refl
-read_back (R.Refused x) = ap R.Refused (refused_back x)
-
-measure_of : E.Sizes → Measured
+measure_of : E.Sizes → Sizes
 measure_of z =
-    M.Done
-    (record { groups = rows_at 0 z.tables; switch_groups = rows_at 1 z.tables; members = rows_at 2 z.tables; presets = rows_at 3 z.tables; conditions = rows_at 4 z.tables; k = z.before })
+    record { groups = rows_at 0 z.tables; switch_groups = rows_at 1 z.tables; members = rows_at 2 z.tables; presets = rows_at 3 z.tables; conditions = rows_at 4 z.tables; k = z.before }
 
-measured_back : (r : Measured) → answer_by measure_of M.Refused (measured r) ≡ r
+measured_back : (s : Sizes) → measure_of (sized s) ≡ s
 unfolding measure_of
-measured_back (M.Done s) = refl
-measured_back (M.Refused x) = ap M.Refused (refused_back x)
+measured_back s = refl
 
-pub fixed : Fixed kind read measured
-fixed = fixes claims read R.Done R.Refused read_back measured measure_of M.Refused measured_back
+pub fixed : Fixed kind answer_of measured
+fixed = fixes claims sized measure_of measured_back

@@ -1,6 +1,6 @@
 -- Of a body whose sections were found: where its rows stand, its sizes and its record.
 use Prim.Native.Nat.{ℕ, ◌≤◌, ◌<◌}
-use mathlib.Core.Path.{◌≡◌, refl, sym, ap, ◌∙◌}
+use mathlib.Core.Path.{◌≡◌, sym, ap, ◌∙◌}
 use mathlib.Core.List.{List}
 use lib.ListN.{length, get_or}
 use Rattle.wire.specs.Lists.{each}
@@ -32,13 +32,13 @@ use Rattle.scene.proofs.Walked.{found_reads}
 module _ {s : List ℕ} {p : Places} (f : Found s p) where
   -- each section begins in the body
   pub at_switches : p.switch_groups ≤ length s
-  at_switches = ends _ s 2 f.head refl f.groups_read
+  at_switches = ends _ s 2 f.head (sym f.groups_read)
 
   pub at_presets : p.presets ≤ length s
-  at_presets = ends _ s p.switch_groups at_switches refl f.switches_read
+  at_presets = ends _ s p.switch_groups at_switches (sym f.switches_read)
 
   pub at_end : p.k ≤ length s
-  at_end = ends _ s p.presets at_presets refl f.presets_read
+  at_end = ends _ s p.presets at_presets (sym f.presets_read)
 
   -- and stands where its byte says
   pub groups_stand : Stands (flat 27 group) 1 7 1 s (groups_flag s) 2 f.in_groups p.switch_groups

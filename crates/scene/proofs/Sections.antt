@@ -1,4 +1,5 @@
 -- A section of the scene body: its byte, if it is there, and its rows behind it; and what the walk finds is what the whole program reads.
+use Rattle.std.specs.Prelude.{Result, Err}
 use Prim.Native.Nat.{ℕ, ◌+◌, ◌^◌, ◌≤◌, ◌<◌}
 use mathlib.Core.Path.{◌≡◌, refl, sym, ap, subst, ◌∙◌}
 use mathlib.Core.List.{List, []}
@@ -11,27 +12,19 @@ use lib.Pow.{pow_pos}
 use borrow.Author.Tests.{leb-true, leb-false, eq-eqb, ne_eqb}
 use Rattle.wire.specs.Bits.{part, total, zeros}
 use Rattle.wire.specs.Prog.{Prog, ret, Out, done, short, needing, run, u8, many, ◌>>=◌}
-use Rattle.wire.specs.Reads.{map_out, end_of, short_of, Summed}
-use Rattle.wire.specs.declared.reads.Sum.{Sum}
-use Rattle.wire.specs.declared.reads.Sum.TheVariants as N
+use Rattle.wire.specs.Reads.{map_out, end_of, Summed}
 use Rattle.wire.specs.Act.{pick}
 use Rattle.wire.specs.Straight.{ends, ones}
 use Rattle.wire.specs.declared.reads.Short.{Short}
 use Rattle.wire.proofs.Reading.Runs.{out_and_then, run_bind}
 use Rattle.wire.proofs.Reading.Walk.{byte_next, as_done}
+use Rattle.wire.proofs.Reading.Loops.{summed_short}
 use Rattle.wire.proofs.Fields.{part_below, wider}
 use Rattle.wire.proofs.Layouts.Straight.{ends_at, ends_within, ones_lacks, size_there}
 use Rattle.scene_kind.specs.Read.{Section, section}
 use Rattle.scene.specs.Walk.{rows_at, count_at, reserved_at, reserved_zeros}
 
 -- ---- its byte
-
-pub size_small : (flag : ℕ) {k : ℕ} → k ≡ pick (eqb flag 1) 1 0 → k < 2 ^ 32
-size_small flag e = rw e (go (eqb flag 1))
-  where
-    go : (x : Bool) → pick x 1 0 < 2 ^ 32
-    go true = omega arith
-    go false = omega arith
 
 pub rows_at_so : (flag at : ℕ) {k : ℕ} → k ≡ pick (eqb flag 1) 1 0 → at + k ≡ rows_at flag at
 unfolding rows_at
@@ -65,10 +58,10 @@ module _ (s : List ℕ) (flag at : ℕ) where
     pub there_is : rows_at flag at ≤ length s
     pub inside : n ≤ length s
 
-  pub begins : {o : Out (Unit {0})} {n k : ℕ} → at ≤ length s → k ≡ pick (eqb flag 1) 1 0 → o ≡ ends (ones k) s at → o ≡ done tt n → Begun n
+  pub begins : {n k : ℕ} → at ≤ length s → k ≡ pick (eqb flag 1) 1 0 → done tt n ≡ ends (ones k) s at → Begun n
   unfolding ones total rows_at
-  begins {n = n} {k} h q e d =
-      let e' : ends (ones (pick (eqb flag 1) 1 0)) s at ≡ done tt n = ap (λ (k : ℕ). ends (ones k) s at) (sym q) ∙ sym e ∙ d in
+  begins {n} {k} h q e =
+      let e' : ends (ones (pick (eqb flag 1) 1 0)) s at ≡ done tt n = ap (λ (k : ℕ). ends (ones k) s at) (sym q) ∙ sym e in
       let m : n ≡ rows_at flag at = ends_at (ones (pick (eqb flag 1) 1 0)) s at e' ∙ go (eqb flag 1) in
       let i = ends_within (ones (pick (eqb flag 1) 1 0)) s at h e' in
       record { at_rows = m; there_is = rw (← m) i; inside = i }
@@ -131,15 +124,15 @@ module _ {A : Type 0} (p : Prog A) (r w none : ℕ) (s : List ℕ) (flag at : �
       go true e = cut (leb (at + 1) (length s)) _ e
       go false e = absurd (let z : ◌≡◌ {A = ℕ} 0 1 = cc e in omega arith)
 
-  pub section_cut_off : {o : Out (Unit {0})} {k : ℕ} {x : Short} → k ≡ pick (eqb flag 1) 1 0 → o ≡ ends (ones k) s at → o ≡ short x → o ≡ end_of (run (section flag r w none p) s at)
-  section_cut_off q e d = d ∙ sym (ap end_of (section_cut (ap (λ (k : ℕ). ends (ones k) s at) (sym q) ∙ sym e ∙ d)))
+  missing : {k : ℕ} {x : Short} → k ≡ pick (eqb flag 1) 1 0 → short x ≡ ends (ones k) s at → run (section flag r w none p) s at ≡ short x
+  missing q e = section_cut (ap (λ (k : ℕ). ends (ones k) s at) (sym q) ∙ sym e)
 
-  pub section_cut_sum : (f : List A → ℕ) {o : Out (Unit {0})} {k all : ℕ} {x y : Short} → k ≡ pick (eqb flag 1) 1 0 → o ≡ ends (ones k) s at → o ≡ short x → y ≡ short_of o
-      → Summed (section flag r w none p) (λ z. f z.rows) all s at (N.Short y)
-  section_cut_sum f {all = all} {x} {y} q e d h = record {
-    is = ap short (h ∙ ap short_of d) ∙ sym (ap (map_out (λ (z : Section A). f z.rows)) (section_cut (ap (λ (k : ℕ). ends (ones k) s at) (sym q) ∙ sym e ∙ d)));
-    small = omega arith;
-  }
+  pub section_cut_off : {k : ℕ} {x : Short} → k ≡ pick (eqb flag 1) 1 0 → short x ≡ ends (ones k) s at → short x ≡ end_of (run (section flag r w none p) s at)
+  section_cut_off q e = sym (ap end_of (missing q e))
+
+  pub section_cut_sum : (f : List A → ℕ) {k all : ℕ} {x : Short} → k ≡ pick (eqb flag 1) 1 0 → short x ≡ ends (ones k) s at
+      → Summed (section flag r w none p) (λ z. f z.rows) all s at (Err x)
+  section_cut_sum f q e = summed_short (sym (missing q e))
 
   -- the rows decide the end of the section, and what is known of them
   pub section_ends : {n k : ℕ} {o : Out (Unit {0})} → Begun s flag at n → k ≡ count_at w s flag at → o ≡ end_of (run (many k p) s n) → o ≡ end_of (run (section flag r w none p) s at)
@@ -150,7 +143,7 @@ module _ {A : Type 0} (p : Prog A) (r w none : ℕ) (s : List ℕ) (flag at : �
       go (done l m) = refl
       go (short x) = refl
 
-  pub section_sum : (f : List A → ℕ) {n k most all : ℕ} {x : Sum} → Begun s flag at n → k ≡ count_at w s flag at → most ≤ all → Summed (many k p) f most s n x
+  pub section_sum : (f : List A → ℕ) {n k most all : ℕ} {x : Result (ℕ × ℕ) Short} → Begun s flag at n → k ≡ count_at w s flag at → most ≤ all → Summed (many k p) f most s n x
       → Summed (section flag r w none p) (λ y. f y.rows) all s at x
   section_sum f {n} {k} b q l v = record {
     is = v.is ∙ (λ i. map_out f (run (many (q i) p) s (b.at_rows i))) ∙ sym (ap (map_out (λ (y : Section A). f y.rows)) (section_so b.there_is) ∙ go (run (many (count_at w s flag at) p) s (rows_at flag at)));

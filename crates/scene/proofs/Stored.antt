@@ -6,11 +6,12 @@ use mathlib.Core.Bool.{true}
 use native.Mathlib.Omega.{arith}
 use lib.ListN.{length, drop}
 use lib.Seq.{sets}
-use Rattle.wire.specs.Lists.{Every, all_nil, all_cons}
+use Rattle.wire.specs.Lists.{Every, all_nil, all_cons, sum}
 use Rattle.wire.specs.Prog.{run, many}
 use Rattle.wire.specs.Reads.{rows_of, is_done}
 use Rattle.wire.specs.Nest.{Fillable, Nests}
 use Rattle.wire.specs.Layout.{flat, kids, broken_row}
+use Rattle.wire.proofs.Layouts.Families.{kids_summed}
 use Rattle.wire.proofs.Layouts.Rowed.{Wide, parents_long}
 use Rattle.wire.proofs.Layouts.Fronts.{flat_front, Both, both}
 use Rattle.frame.specs.Body.{tables}
@@ -61,18 +62,18 @@ module _ {s : List ℕ} {p : Places} (f : Found s p) (short : length s < 65536) 
   groups_ask e = let w = groups_stand f in rw e (w.there_is, ap is_done w.reads, omega (arith, space.groups, groups_counted f), omega arith)
 
   pub switches_ask : {t : ℕ} → t ≡ switches_flag s
-      → Fillable (many (count_at 5 s t p.switch_groups) switch_group_list) 2 (λ l. length (kids l)) s (rows_at t p.switch_groups) 0 t₃ × (9 * count_at 5 s t p.switch_groups ≤ length t₂) × (p.switch_groups < 2 ^ 32)
+      → Fillable (many (count_at 5 s t p.switch_groups) switch_group_list) 2 (sum (λ x. length x.1)) s (rows_at t p.switch_groups) 0 t₃ × Unit {0} × (9 * count_at 5 s t p.switch_groups ≤ length t₂) × (p.switch_groups < 2 ^ 32)
   switches_ask e =
       let w = switches_stand f in
-      rw e
-      (record { value = f.in_switches.rows; end = p.presets; reads = w.reads; begun = w.there_is; all = short; before = omega arith; room = omega (arith, space.members) }, omega (arith, space.switches, switches_counted f), omega (arith, at_switches f, short))
+      rw (e, kids_summed)
+      (record { value = f.in_switches.rows; end = p.presets; reads = w.reads; begun = w.there_is; all = short; before = omega arith; room = omega (arith, space.members) }, tt, omega (arith, space.switches, switches_counted f), omega (arith, at_switches f, short))
 
   pub presets_ask : {q : ℕ} → q ≡ presets_flag s
-      → Fillable (many (count_at 5 s q p.presets) presets) 13 (λ l. length (kids l)) s (rows_at q p.presets) 0 t₅ × (7 * count_at 5 s q p.presets ≤ length t₄) × (p.presets < 2 ^ 32)
+      → Fillable (many (count_at 5 s q p.presets) presets) 13 (sum (λ x. length x.1)) s (rows_at q p.presets) 0 t₅ × Unit {0} × (7 * count_at 5 s q p.presets ≤ length t₄) × (p.presets < 2 ^ 32)
   presets_ask e =
       let w = presets_stand f in
-      rw e
-      (record { value = f.in_presets.rows; end = p.k; reads = w.reads; begun = w.there_is; all = short; before = omega arith; room = omega (arith, space.conditions) }, omega (arith, space.presets, presets_counted f), omega (arith, at_presets f, short))
+      rw (e, kids_summed)
+      (record { value = f.in_presets.rows; end = p.k; reads = w.reads; begun = w.there_is; all = short; before = omega arith; room = omega (arith, space.conditions) }, tt, omega (arith, space.presets, presets_counted f), omega (arith, at_presets f, short))
 
   -- ---- and what they leave
 

@@ -1,5 +1,5 @@
 -- What the walk along a scene body finds: where its sections stand, and how many rows they need of the tables below theirs. The promises of the entry points do not rest on it.
-use Rattle.std.specs.Prelude.{ℕ, ◌+◌, ◌≤◌, List, [], ◌∷◌, ◌≡◌, length, get_or, eqb}
+use Rattle.std.specs.Prelude.{Result, Ok, Err, Option, Some, None, ℕ, ◌+◌, ◌≤◌, List, [], ◌∷◌, ◌≡◌, length, get_or, eqb}
 use Rattle.wire.specs.Bits.{part, zeros}
 use Rattle.wire.specs.Prog.{done, short, run}
 use Rattle.wire.specs.Act.{pick}
@@ -12,12 +12,8 @@ use Rattle.scene_groups.specs.Layout.{group}
 use Rattle.switch_groups.specs.Layout.{switch_group_list}
 use Rattle.presets.specs.Layout.{presets}
 use Rattle.scene.specs.declared.parsing.Places.{Places}
-use Rattle.scene.specs.declared.parsing.Look.{Look}
-use Rattle.scene.specs.declared.parsing.Look.TheVariants as L
-use Rattle.scene.specs.declared.parsing.Walk.{Walk}
-use Rattle.scene.specs.declared.parsing.Walk.TheVariants as W
-use Rattle.scene.specs.declared.Opening.{Opening}
-use Rattle.scene.specs.declared.Opening.TheVariants as O
+use Rattle.wire.specs.declared.reads.Short.{Short}
+use Rattle.frame.specs.declared.Refusal.{Refusal}
 use Rattle.scene_kind.specs.Rows.{Scene, scene_is}
 use Rattle.scene_kind.specs.Read.{all, Section, section}
 use Rattle.scene_kind.specs.Kind.{kind}
@@ -76,11 +72,11 @@ tree_of s g x p = scene_is (top_of s g x p) g.rows x.rows p.rows
 abbrev pub tree : {s : List ℕ} {p : Places} → Found s p → Scene
 tree {s} f = tree_of s f.in_groups f.in_switches f.in_presets
 
-abbrev pub walks : List ℕ → Walk → Type 0
-walks s (W.Done p) = Found s p
-walks s (W.Short x) = run kind.program s 0 ≡ short x
+abbrev pub walks : List ℕ → Result Places Short → Type 0
+walks s (Ok p) = Found s p
+walks s (Err x) = run kind.program s 0 ≡ short x
 
-pub record Walks (s : List ℕ) (r : Walk) : Type 0 where
+pub record Walks (s : List ℕ) (r : Result Places Short) : Type 0 where
   pub finds : walks s r
 
 -- sections that have no rows
@@ -90,18 +86,19 @@ pub record Bare (s : List ℕ) (p : Places) : Type 0 where
   pub no_switches : found.in_switches.rows ≡ []
   pub no_presets : found.in_presets.rows ≡ []
 
-abbrev pub looks : List ℕ → Look → Type 0
-looks s (L.Bare p) = Bare s p
-looks s (L.Short x) = run kind.program s 0 ≡ short x
-looks s L.Rows = 2 ≤ length s
+-- what the first bytes tell: sections without rows, or nothing yet; or that the body is cut
+abbrev pub looks : List ℕ → Result (Option Places) Short → Type 0
+looks s (Ok (Some p)) = Bare s p
+looks s (Ok None) = 2 ≤ length s
+looks s (Err x) = run kind.program s 0 ≡ short x
 
-pub record Looks (s : List ℕ) (r : Look) : Type 0 where
+pub record Looks (s : List ℕ) (r : Result (Option Places) Short) : Type 0 where
   pub sees : looks s r
 
 -- a body that was opened, or why it is refused
-abbrev pub opens : List ℕ → Lent → Opening → Lent → Type 0
-opens s lent (O.At p) after = Opened kind (Found s p) s lent after
-opens s lent (O.Refused x) after = Reads kind s lent (refused (refusal x)) after
+abbrev pub opens : List ℕ → Lent → Result Places Refusal → Lent → Type 0
+opens s lent (Ok p) after = Opened kind (Found s p) s lent after
+opens s lent (Err x) after = Reads kind s lent (refused (refusal x)) after
 
-pub record Opens (s : List ℕ) (lent : Lent) (r : Opening) (after : Lent) : Type 0 where
+pub record Opens (s : List ℕ) (lent : Lent) (r : Result Places Refusal) (after : Lent) : Type 0 where
   pub gives : opens s lent r after

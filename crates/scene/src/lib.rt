@@ -6,39 +6,24 @@ pub mod rows;
 mod tallying;
 
 ghost use Rattle.std.specs.Prelude.{◌≡◌, [], ◌∷◌, ◌<◌, ◌^◌, length};
-ghost use Rattle.frame.specs.declared.Room.TheVariants.{Enough};
-ghost use Rattle.frame.specs.Numbers.{tallied, written};
+ghost use Rattle.frame.specs.Numbers.{answer_of, written};
 ghost use Rattle.frame.specs.Entry.{Reads, Measures, Tallies, Writes};
-ghost use Rattle.frame.specs.Sight.{and_tables};
+ghost use Rattle.frame.specs.Sight.{and_tables, Enough};
 ghost use Rattle.scene_kind.specs.Kind.{kind};
-ghost use Rattle.scene.specs.Contract.{sized, read, measured};
+ghost use Rattle.scene.specs.Contract.{sized, measured};
 ghost use Rattle.scene.specs.Walk.{Found, Opens};
 
 use conditions::rows::CONDITION_COLUMNS;
-use frame::{Refusal, Room, Tallied, Written, and_table, write_bare};
-use parsing::{Look, Places, Walk};
+use frame::{Refusal, Room, Unwritten, and_table, write_bare};
+use parsing::Places;
 use presets::rows::PRESET_COLUMNS;
 use rows::MpegH3dAudioScene;
 use scene_groups::rows::GROUP_COLUMNS;
 use scene_writing::writing;
 use switch_groups::rows::{MEMBER_COLUMNS, SWITCH_GROUP_COLUMNS};
 
-// What reading answers: the top record, its trailing run included.
-#[derive(Clone, Copy)]
-pub enum Reading {
-    Done(MpegH3dAudioScene),
-    Refused(Refusal),
-}
-
-// What opening a body gives: its places, its rows being in the tables; or why it is refused.
-#[derive(Clone, Copy)]
-pub enum Opening {
-    At(Places),
-    Refused(Refusal),
-}
-
 // What a body needs: the rows of tables 1 to 5, and k, the bytes before the trailing run.
-#[derive(Clone, Copy)]
+#[derive(Clone, Copy, PartialEq, Eq)]
 pub struct Sizes {
     pub groups: u16,
     pub switch_groups: u16,
@@ -48,27 +33,18 @@ pub struct Sizes {
     pub k: usize,
 }
 
-#[derive(Clone, Copy)]
-pub enum Measured {
-    Done(Sizes),
-    Refused(Refusal),
-}
-
 // What the body needs, or 2, or 1.
-pub fn measure(body: &[u8]) -> Measured
+pub fn measure(body: &[u8]) -> Result<Sizes, Refusal>
     ensures { Measures kind body.now (measured result) }
 {
     if 65535 < body.len() {
-        return Measured::Refused(Refusal::TooLong(body.len()));
+        return Err(Refusal::TooLong(body.len()));
     }
-    let w = parsing::find_sections(body);
-    match w {
-        Walk::Done(p) => Measured::Done(parsing::sizes_at(body, p)),
-        Walk::Short(x) => Measured::Refused(Refusal::Short(x)),
-    }
+    let p = parsing::find_sections(body)?;
+    Ok(parsing::sizes_at(body, p))
 }
 
-// The record of a body, its rows in tables 1 to 5; or 2, or 1, or 3.
+// The record of a body, its trailing run included, and its rows in tables 1 to 5; or 2, or 1, or 3.
 pub fn read(
     body: &[u8],
     groups: &mut [u16],
@@ -76,17 +52,14 @@ pub fn read(
     members: &mut [u16],
     presets: &mut [u16],
     conditions: &mut [u16],
-) -> Reading
-    ensures { Reads kind body.now (groups.old ∷ switch_groups.old ∷ members.old ∷ presets.old ∷ conditions.old ∷ []) (read result) (groups.new ∷ switch_groups.new ∷ members.new ∷ presets.new ∷ conditions.new ∷ []) }
+) -> Result<MpegH3dAudioScene, Refusal>
+    ensures { Reads kind body.now (groups.old ∷ switch_groups.old ∷ members.old ∷ presets.old ∷ conditions.old ∷ []) (answer_of result) (groups.new ∷ switch_groups.new ∷ members.new ∷ presets.new ∷ conditions.new ∷ []) }
 {
-    let o = opened(body, groups, switch_groups, members, presets, conditions);
-    match o {
-        Opening::At(p) => Reading::Done(parsing::record_at(body, p)),
-        Opening::Refused(x) => Reading::Refused(x),
-    }
+    let p = opened(body, groups, switch_groups, members, presets, conditions)?;
+    Ok(parsing::record_at(body, p))
 }
 
-// All of reading but the record, which the places give. The tables are touched when all of the body is known to be sound.
+// All of reading but the record, which the places give; or why the body is refused. The tables are touched when all of the body is known to be sound.
 pub fn opened(
     body: &[u8],
     groups: &mut [u16],
@@ -94,17 +67,16 @@ pub fn opened(
     members: &mut [u16],
     presets: &mut [u16],
     conditions: &mut [u16],
-) -> Opening
+) -> Result<Places, Refusal>
     ensures { Opens body.now (groups.old ∷ switch_groups.old ∷ members.old ∷ presets.old ∷ conditions.old ∷ []) result (groups.new ∷ switch_groups.new ∷ members.new ∷ presets.new ∷ conditions.new ∷ []) }
 {
     if 65535 < body.len() {
-        return Opening::Refused(Refusal::TooLong(body.len()));
+        return Err(Refusal::TooLong(body.len()));
     }
-    let l = parsing::first_look(body);
-    match l {
-        Look::Bare(p) => Opening::At(p),
-        Look::Short(x) => Opening::Refused(Refusal::Short(x)),
-        Look::Rows => opened_rows(body, groups, switch_groups, members, presets, conditions),
+    let bare = parsing::first_look(body)?;
+    match bare {
+        Some(p) => Ok(p),
+        None => opened_rows(body, groups, switch_groups, members, presets, conditions),
     }
 }
 
@@ -116,15 +88,12 @@ fn opened_rows(
     members: &mut [u16],
     presets: &mut [u16],
     conditions: &mut [u16],
-) -> Opening
+) -> Result<Places, Refusal>
     requires { length body.now < 2 ^ 16 }
     ensures { Opens body.now (groups.old ∷ switch_groups.old ∷ members.old ∷ presets.old ∷ conditions.old ∷ []) result (groups.new ∷ switch_groups.new ∷ members.new ∷ presets.new ∷ conditions.new ∷ []) }
 {
-    let w = parsing::find_sections(body);
-    match w {
-        Walk::Done(p) => opened_found(body, p, groups, switch_groups, members, presets, conditions),
-        Walk::Short(x) => Opening::Refused(Refusal::Short(x)),
-    }
+    let p = parsing::find_sections(body)?;
+    opened_found(body, p, groups, switch_groups, members, presets, conditions)
 }
 
 // The lowest table that is short, else the rows.
@@ -136,19 +105,14 @@ fn opened_found(
     members: &mut [u16],
     presets: &mut [u16],
     conditions: &mut [u16],
-) -> Opening
+) -> Result<Places, Refusal>
     requires { Found body.now p × (length body.now < 2 ^ 16) }
     ensures { Opens body.now (groups.old ∷ switch_groups.old ∷ members.old ∷ presets.old ∷ conditions.old ∷ []) result (groups.new ∷ switch_groups.new ∷ members.new ∷ presets.new ∷ conditions.new ∷ []) }
 {
     let s = parsing::sizes_at(body, p);
-    let r = room(s, groups, switch_groups, members, presets, conditions);
-    match r {
-        Room::Lacks(table, rows) => Opening::Refused(Refusal::NoRoom(table, rows)),
-        Room::Enough => {
-            parsing::fill(body, p, groups, switch_groups, members, presets, conditions);
-            Opening::At(p)
-        }
-    }
+    room(s, groups, switch_groups, members, presets, conditions)?;
+    parsing::fill(body, p, groups, switch_groups, members, presets, conditions);
+    Ok(p)
 }
 
 // Whether the tables have the rows, from table to table.
@@ -162,7 +126,7 @@ fn room(
 ) -> Room
     ensures { result ≡ and_tables Enough (sized s).tables (groups.now ∷ switch_groups.now ∷ members.now ∷ presets.now ∷ conditions.now ∷ []) }
 {
-    let a = and_table(Room::Enough, 1, GROUP_COLUMNS, s.groups as usize, groups);
+    let a = and_table(Ok(()), 1, GROUP_COLUMNS, s.groups as usize, groups);
     let b = and_table(
         a,
         2,
@@ -176,17 +140,14 @@ fn room(
 }
 
 // The reserved bits at 0, or 2, or 1.
-pub fn tally(body: &[u8]) -> Tallied
-    ensures { Tallies kind body.now (tallied result) }
+pub fn tally(body: &[u8]) -> Result<usize, Refusal>
+    ensures { Tallies kind body.now (answer_of result) }
 {
     if 65535 < body.len() {
-        return Tallied::Refused(Refusal::TooLong(body.len()));
+        return Err(Refusal::TooLong(body.len()));
     }
-    let w = parsing::find_sections(body);
-    match w {
-        Walk::Done(p) => Tallied::Done(tallying::zero_bits(body, p)),
-        Walk::Short(x) => Tallied::Refused(Refusal::Short(x)),
-    }
+    let p = parsing::find_sections(body)?;
+    Ok(tallying::zero_bits(body, p))
 }
 
 // Writes the value at the front of the output, its rows taken from tables 1 to 5 and its trailing run from the store: first the faults, then 10, then 4.
@@ -199,7 +160,7 @@ pub fn write(
     conditions: &[u16],
     store: &[u8],
     out: &mut [u8],
-) -> Written
+) -> Result<usize, Unwritten>
     ensures { Writes kind m (groups.now ∷ switch_groups.now ∷ members.now ∷ presets.now ∷ conditions.now ∷ []) store.now out.old (written result) out.new }
 {
     let sections = m.groups.present | (m.switch_groups.present | m.presets.present);
@@ -215,10 +176,7 @@ pub fn write(
         conditions,
         store,
     );
-    let w = frame::judge(p, out.len());
-    let Written::Done(_) = w else {
-        return w;
-    };
+    let n = frame::judge(p, out.len())?;
     writing::fill(
         m,
         groups,
@@ -229,5 +187,5 @@ pub fn write(
         store,
         out,
     );
-    w
+    Ok(n)
 }

@@ -1,18 +1,17 @@
 // Reading the scene body: one walk finds its sections and touches nothing, then the record is taken and the tables are filled, and nothing is tested.
-ghost use Rattle.std.specs.Prelude.{◌≡◌, true, ◌+◌, ◌*◌, ◌-◌, ◌<◌, ◌≤◌, ◌^◌, length, get_or};
-ghost use mathlib.Core.List.{[], ◌∷◌, flatten, flat_map};
+ghost use Rattle.std.specs.Prelude.{Ok, ◌≡◌, true, ◌+◌, ◌*◌, ◌-◌, ◌<◌, ◌≤◌, ◌^◌, length, get_or};
+ghost use mathlib.Core.List.{[], ◌∷◌, flat_map};
 ghost use Rattle.wire.specs.Bits.{part};
 ghost use Rattle.std.proofs.lemmas.List.Edits.{sets};
+ghost use Rattle.wire.specs.Lists.{sum};
 ghost use Rattle.wire.specs.Prog.{run, many};
 ghost use Rattle.wire.specs.Reads.{end_of, is_done, rows_of, ends_out, Summed};
 ghost use Rattle.wire.specs.Nest.{Fillable, Nests};
-ghost use Rattle.wire.specs.Layout.{flat, broken_row, kids};
+ghost use Rattle.wire.specs.Layout.{flat};
 ghost use Rattle.frame.specs.Numbers.{accepted};
 ghost use Rattle.frame.specs.Entry.{Measures};
 ghost use Rattle.frame.specs.Sight.{Tops, Roomy, Fills};
 ghost use Rattle.scene_groups.specs.Layout.{group};
-ghost use Rattle.switch_groups.specs.Layout.{switch_group, switch_group_list};
-ghost use Rattle.presets.specs.Layout.{preset, presets as preset_rows};
 ghost use Rattle.scene_kind.specs.Read.{section};
 ghost use Rattle.scene_kind.specs.Rows.{section as sectionIs};
 ghost use Rattle.scene_kind.specs.Kind.{kind};
@@ -20,28 +19,23 @@ ghost use Rattle.scene.specs.Contract.{sized};
 ghost use Rattle.scene.specs.Walk.{rows_at, count_at, reserved_at, Flags, Found, Looks, Walks};
 
 use super::Sizes;
-use presets::parsing::{fill_presets, measure_presets};
-use scene_groups::parsing::{fill_groups, measure_groups, size};
+use presets::parsing::Preset;
+use scene_groups::parsing::{Group, size};
 use scene_kind::rows::{MpegH3dAudioScene, Section};
-use switch_groups::parsing::{fill_switch_groups, measure_switch_groups};
+use switch_groups::parsing::Switch;
 use wire::bits::{part, wide};
-use wire::reads::{Ends, Short, Sum, head};
+use wire::list::{Count, Nest, nest_rows, rows_end, rows_kids, store_rows};
+use wire::reads::{Short, head};
 use wire::rows::trailing_run;
 
 // Where the second and the third section of a body begin, the rows of the tables below theirs, and k.
-#[derive(Clone, Copy)]
+#[derive(Clone, Copy, PartialEq, Eq)]
 pub struct Places {
     pub switch_groups: usize,
     pub presets: usize,
     pub members: usize,
     pub conditions: usize,
     pub k: usize,
-}
-
-#[derive(Clone, Copy)]
-pub enum Walk {
-    Done(Places),
-    Short(Short),
 }
 
 // How many rows a section has whose byte stands at a position, if its flag is 1.
@@ -57,62 +51,41 @@ pub fn count_at(body: &[u8], at: usize, flag: u16, width: u32) -> u16
 }
 
 // Where the section of the groups ends.
-fn groups_end(body: &[u8], at: usize, flag: u16) -> Ends
+fn groups_end(body: &[u8], at: usize, flag: u16) -> Result<usize, Short>
     requires { at ≤ length body.now }
     ensures { ends_out result ≡ end_of (run (section flag 1 7 1 (flat 27 group)) body.now at) }
 {
-    let a = head(body, at, size(flag, 1));
-    let Ends::At(n) = a else {
-        return a;
-    };
-    measure_groups(body, n, count_at(body, at, flag, 7) as usize)
+    let n = head(body, at, size(flag, 1))?;
+    rows_end(&Group, body, n, count_at(body, at, flag, 7) as usize)
 }
 
-// The members in the section of the switch groups, and where it ends.
-fn switch_groups_rows(body: &[u8], at: usize, flag: u16) -> Sum
-    requires { at ≤ length body.now }
-    ensures { Summed (section flag 3 5 7 switch_group_list) (λ x. length (kids x.rows)) 992 body.now at result }
+// How many rows of the table below theirs the rows of a section have, and where it ends.
+fn section_rows<R: Count>(
+    row: &R,
+    body: &[u8],
+    at: usize,
+    flag: u16,
+) -> Result<(usize, usize), Short>
+    requires { (at ≤ length body.now) × (R.Count.most * 31 < 2 ^ 32) }
+    ensures { Summed (section flag 3 5 7 (R.Count.reads row.now)) (λ x. sum (R.Count.kids row.now) x.rows) (R.Count.most * 31) body.now at result }
 {
-    let a = head(body, at, size(flag, 1));
-    let Ends::At(n) = a else {
-        return Sum::Short(a.short());
-    };
-    measure_switch_groups(body, n, count_at(body, at, flag, 5) as usize)
+    let n = head(body, at, size(flag, 1))?;
+    rows_kids(row, body, n, count_at(body, at, flag, 5) as usize)
 }
 
-// The conditions in the section of the presets, and where it ends.
-fn presets_rows(body: &[u8], at: usize, flag: u16) -> Sum
-    requires { at ≤ length body.now }
-    ensures { Summed (section flag 3 5 7 preset_rows) (λ x. length (kids x.rows)) 496 body.now at result }
-{
-    let a = head(body, at, size(flag, 1));
-    let Ends::At(n) = a else {
-        return Sum::Short(a.short());
-    };
-    measure_presets(body, n, count_at(body, at, flag, 5) as usize)
-}
-
-// What the first bytes of a body tell: it is cut there; or its sections have no rows, so that it needs no table; or it may have rows.
-#[derive(Clone, Copy)]
-pub enum Look {
-    Bare(Places),
-    Short(Short),
-    Rows,
-}
-
-// The places of sections that have no rows, which stand one behind the other: they need no table.
-fn bare(body: &[u8], g: u16, s: u16, q: u16) -> Look
+// The places of sections that have no rows, which stand one behind the other: they need no table. Else the body may have rows.
+fn bare(body: &[u8], g: u16, s: u16, q: u16) -> Option<Places>
     requires { (2 ≤ length body.now) × Flags body.now g s q × (count_at 7 body.now g 2 ≡ 0) }
-    ensures { Looks body.now result }
+    ensures { Looks body.now (Ok result) }
 {
     let switch_groups = rows_at(2, g);
     let presets = rows_at(switch_groups, s);
     let k = rows_at(presets, q);
     if body.len() < k {
-        return Look::Rows;
+        return None;
     }
     if (count_at(body, switch_groups, s, 5) == 0) & (count_at(body, presets, q, 5) == 0) {
-        Look::Bare(Places {
+        Some(Places {
             switch_groups,
             presets,
             members: 0,
@@ -120,42 +93,36 @@ fn bare(body: &[u8], g: u16, s: u16, q: u16) -> Look
             k,
         })
     } else {
-        Look::Rows
+        None
     }
 }
 
 // A body that has a section, whose byte stands behind the first two. Groups are seen there at once.
-fn first_section(body: &[u8], g: u16, s: u16, q: u16) -> Look
+fn first_section(body: &[u8], g: u16, s: u16, q: u16) -> Result<Option<Places>, Short>
     requires { (2 ≤ length body.now) × Flags body.now g s q × (32 ≤ get_or body.now 0 0) × (get_or body.now 0 0 < 256) }
     ensures { Looks body.now result }
 {
-    let a = head(body, 2, 1);
-    let Ends::At(_) = a else {
-        return Look::Short(a.short());
-    };
+    head(body, 2, 1)?;
     if count_at(body, 2, g, 7) != 0 {
-        return Look::Rows;
+        return Ok(None);
     }
-    bare(body, g, s, q)
+    Ok(bare(body, g, s, q))
 }
 
-// A body that is cut in its first bytes or has no rows is seen at once.
-pub fn first_look(body: &[u8]) -> Look
+// What the first bytes of a body tell: it is cut there; or its sections have no rows, and these are their places; or it may have rows.
+pub fn first_look(body: &[u8]) -> Result<Option<Places>, Short>
     ensures { Looks body.now result }
 {
-    let a = head(body, 0, 2);
-    let Ends::At(n) = a else {
-        return Look::Short(a.short());
-    };
+    let n = head(body, 0, 2)?;
     let flags = wide(body[0]);
     if flags < 32 {
-        return Look::Bare(Places {
+        return Ok(Some(Places {
             switch_groups: n,
             presets: n,
             members: 0,
             conditions: 0,
             k: n,
-        });
+        }));
     }
     first_section(
         body,
@@ -166,27 +133,15 @@ pub fn first_look(body: &[u8]) -> Look
 }
 
 // The sections one after the other.
-pub fn find_sections(body: &[u8]) -> Walk
+pub fn find_sections(body: &[u8]) -> Result<Places, Short>
     ensures { Walks body.now result }
 {
-    let a = head(body, 0, 2);
-    let Ends::At(n) = a else {
-        return Walk::Short(a.short());
-    };
+    let n = head(body, 0, 2)?;
     let flags = wide(body[0]);
-    let g = groups_end(body, n, part(flags, 7, 1));
-    let Ends::At(switch_groups) = g else {
-        return Walk::Short(g.short());
-    };
-    let s = switch_groups_rows(body, switch_groups, part(flags, 6, 1));
-    let Sum::Got(members, presets) = s else {
-        return Walk::Short(s.short());
-    };
-    let p = presets_rows(body, presets, part(flags, 5, 1));
-    let Sum::Got(conditions, k) = p else {
-        return Walk::Short(p.short());
-    };
-    Walk::Done(Places {
+    let switch_groups = groups_end(body, n, part(flags, 7, 1))?;
+    let (members, presets) = section_rows(&Switch, body, switch_groups, part(flags, 6, 1))?;
+    let (conditions, k) = section_rows(&Preset, body, presets, part(flags, 5, 1))?;
+    Ok(Places {
         switch_groups,
         presets,
         members,
@@ -272,41 +227,23 @@ fn fill_groups_section(body: &[u8], at: usize, flag: u16, groups: &mut [u16])
     ensures { groups.new ≡ sets groups.old 0 (flat_map (λ r. r) (rows_of (run (many (count_at 7 body.now flag at) (flat 27 group)) body.now (rows_at flag at)))) }
 {
     let count = count_at(body, at, flag, 7);
-    fill_groups(body, rows_at(at, flag), count as usize, groups);
+    let _ = store_rows(&Group, body, rows_at(at, flag), count as usize, groups, 0);
 }
 
-fn fill_switch_groups_section(
+// Of a section whose rows have rows of the table below theirs.
+fn nest_section<R: Nest>(
+    row: &R,
     body: &[u8],
     at: usize,
     flag: u16,
-    switch_groups: &mut [u16],
-    members: &mut [u16],
+    outer: &mut [u16],
+    inner: &mut [u16],
 )
-    requires { Fillable (many (count_at 5 body.now flag at) switch_group_list) 2 (λ l. length (kids l)) body.now (rows_at flag at) 0 members.old × (9 * count_at 5 body.now flag at ≤ length switch_groups.old) × (at < 2 ^ 32) }
-    ensures { Nests switch_group_list (λ x. length x.1) (λ n x. broken_row switch_group (n, x)) (λ x. flatten x.1) body.now (rows_at flag at) (count_at 5 body.now flag at) switch_groups.old members.old switch_groups.new members.new }
+    requires { Fillable (many (count_at 5 body.now flag at) (R.Nest.reads row.now)) R.Nest.KID_COLUMNS (sum (R.Nest.size row.now)) body.now (rows_at flag at) 0 inner.old × R.Nest.may row.now body.now × (R.Nest.COLUMNS * count_at 5 body.now flag at ≤ length outer.old) × (at < 2 ^ 32) }
+    ensures { Nests (R.Nest.reads row.now) (R.Nest.size row.now) (R.Nest.columns row.now) (R.Nest.kids row.now) body.now (rows_at flag at) (count_at 5 body.now flag at) outer.old inner.old outer.new inner.new }
 {
     let count = count_at(body, at, flag, 5);
-    fill_switch_groups(
-        body,
-        rows_at(at, flag),
-        count as usize,
-        switch_groups,
-        members,
-    );
-}
-
-fn fill_presets_section(
-    body: &[u8],
-    at: usize,
-    flag: u16,
-    presets: &mut [u16],
-    conditions: &mut [u16],
-)
-    requires { Fillable (many (count_at 5 body.now flag at) preset_rows) 13 (λ l. length (kids l)) body.now (rows_at flag at) 0 conditions.old × (7 * count_at 5 body.now flag at ≤ length presets.old) × (at < 2 ^ 32) }
-    ensures { Nests preset_rows (λ x. length x.1) (λ n x. broken_row preset (n, x)) (λ x. flatten x.1) body.now (rows_at flag at) (count_at 5 body.now flag at) presets.old conditions.old presets.new conditions.new }
-{
-    let count = count_at(body, at, flag, 5);
-    fill_presets(body, rows_at(at, flag), count as usize, presets, conditions);
+    nest_rows(row, body, rows_at(at, flag), count as usize, outer, inner);
 }
 
 // Tables 1 to 5.
@@ -325,7 +262,7 @@ pub fn fill(
     let flags = wide(body[0]);
     fill_groups_section(body, 2, part(flags, 7, 1), groups);
     let s = part(flags, 6, 1);
-    fill_switch_groups_section(body, p.switch_groups, s, switch_groups, members);
+    nest_section(&Switch, body, p.switch_groups, s, switch_groups, members);
     let q = part(flags, 5, 1);
-    fill_presets_section(body, p.presets, q, presets, conditions);
+    nest_section(&Preset, body, p.presets, q, presets, conditions);
 }

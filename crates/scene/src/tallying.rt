@@ -1,23 +1,21 @@
 // The reserved bits at 0 of a body whose sections were found: those of each section, its byte and its rows.
-ghost use Rattle.std.specs.Prelude.{◌≡◌, true, [], ◌∷◌, ◌+◌, ◌<◌, ◌≤◌, ◌^◌, length};
+ghost use Rattle.std.specs.Prelude.{◌≡◌, true, ◌+◌, ◌-◌, ◌*◌, ◌<◌, ◌≤◌, ◌^◌, length};
 ghost use Rattle.wire.specs.Lists.{sum};
 ghost use Rattle.wire.specs.Prog.{run, many};
 ghost use Rattle.wire.specs.Reads.{is_done, rows_of};
-ghost use Rattle.wire.specs.Layout.{flat, of, tally, family_tally};
+ghost use Rattle.wire.specs.Layout.{of};
 ghost use Rattle.frame.specs.Numbers.{accepted};
 ghost use Rattle.frame.specs.Entry.{Tallies};
-ghost use Rattle.scene_groups.specs.Layout.{group};
-ghost use Rattle.switch_groups.specs.Layout.{member, switch_group, switch_group_list};
-ghost use Rattle.conditions.specs.Layout.{condition};
-ghost use Rattle.presets.specs.Layout.{preset, presets};
+ghost use Rattle.presets.specs.Layout.{presets};
 ghost use Rattle.scene_kind.specs.Kind.{kind};
 ghost use Rattle.scene.specs.Walk.{rows_at, count_at, reserved_zeros, Found};
 
 use super::parsing::{Places, count_at, rows_at};
-use presets::tallying::tally_presets;
-use scene_groups::tallying::tally_groups;
-use switch_groups::tallying::tally_switch_groups;
+use presets::parsing::Preset;
+use scene_groups::parsing::Group;
+use switch_groups::parsing::Switch;
 use wire::bits::{idle_bits, part, wide};
+use wire::list::{Tally, rows_zeros};
 
 // The reserved bits above the count of a section.
 fn reserved_zeros(body: &[u8], at: usize, flag: u16, width: u32, low: u32) -> u32
@@ -31,31 +29,14 @@ fn reserved_zeros(body: &[u8], at: usize, flag: u16, width: u32, low: u32) -> u3
     }
 }
 
-fn groups_zeros(body: &[u8], at: usize, flag: u16) -> usize
-    requires { (rows_at flag at ≤ length body.now) × (is_done (run (many (count_at 7 body.now flag at) (flat 27 group)) body.now (rows_at flag at)) ≡ true) × (at < 2 ^ 32) }
-    ensures { (result ≡ reserved_zeros 1 7 body.now flag at + sum (λ r. tally (group ∷ []) (of r)) (rows_of (run (many (count_at 7 body.now flag at) (flat 27 group)) body.now (rows_at flag at)))) × (result < 2 ^ 33) }
+// Of a section: those above its count of `width` bits, and those of its rows.
+fn section_zeros<R: Tally>(row: &R, body: &[u8], at: usize, flag: u16, width: u32) -> usize
+    requires { (rows_at flag at ≤ length body.now) × (is_done (run (many (count_at width body.now flag at) (R.Tally.reads row.now)) body.now (rows_at flag at)) ≡ true) × R.Tally.may row.now body.now × (width < 8) × (R.Tally.most * 2 ^ width < 2 ^ 32) × (at < 2 ^ 32) }
+    ensures { (result ≡ reserved_zeros (8 - width) width body.now flag at + sum (R.Tally.zeros row.now) (rows_of (run (many (count_at width body.now flag at) (R.Tally.reads row.now)) body.now (rows_at flag at)))) × (result < 2 ^ 33) }
 {
-    let reserved = reserved_zeros(body, at, flag, 1, 7) as usize;
-    let count = count_at(body, at, flag, 7) as usize;
-    reserved + (tally_groups(body, rows_at(at, flag), count) as usize)
-}
-
-fn switch_groups_zeros(body: &[u8], at: usize, flag: u16) -> usize
-    requires { (rows_at flag at ≤ length body.now) × (is_done (run (many (count_at 5 body.now flag at) switch_group_list) body.now (rows_at flag at)) ≡ true) × (at < 2 ^ 32) }
-    ensures { (result ≡ reserved_zeros 3 5 body.now flag at + sum (family_tally switch_group member) (rows_of (run (many (count_at 5 body.now flag at) switch_group_list) body.now (rows_at flag at)))) × (result < 2 ^ 33) }
-{
-    let reserved = reserved_zeros(body, at, flag, 3, 5) as usize;
-    let count = count_at(body, at, flag, 5) as usize;
-    reserved + (tally_switch_groups(body, rows_at(at, flag), count) as usize)
-}
-
-fn presets_zeros(body: &[u8], at: usize, flag: u16) -> usize
-    requires { (rows_at flag at ≤ length body.now) × (is_done (run (many (count_at 5 body.now flag at) presets) body.now (rows_at flag at)) ≡ true) × (at < 2 ^ 32) }
-    ensures { (result ≡ reserved_zeros 3 5 body.now flag at + sum (family_tally preset condition) (rows_of (run (many (count_at 5 body.now flag at) presets) body.now (rows_at flag at)))) × (result < 2 ^ 33) }
-{
-    let reserved = reserved_zeros(body, at, flag, 3, 5) as usize;
-    let count = count_at(body, at, flag, 5) as usize;
-    reserved + (tally_presets(body, rows_at(at, flag), count) as usize)
+    let reserved = reserved_zeros(body, at, flag, 8 - width, width) as usize;
+    let count = count_at(body, at, flag, width) as usize;
+    reserved + (rows_zeros(row, body, rows_at(at, flag), count).zeros as usize)
 }
 
 // All of them.
@@ -65,7 +46,8 @@ pub fn zero_bits(body: &[u8], p: Places) -> usize
 {
     let flags = wide(body[0]);
     let top = idle_bits(part(flags, 0, 5), 5) as usize;
-    let g = groups_zeros(body, 2, part(flags, 7, 1));
-    let s = switch_groups_zeros(body, p.switch_groups, part(flags, 6, 1));
-    top + g + (s + presets_zeros(body, p.presets, part(flags, 5, 1)))
+    let g = section_zeros(&Group, body, 2, part(flags, 7, 1), 7);
+    let s = section_zeros(&Switch, body, p.switch_groups, part(flags, 6, 1), 5);
+    let q = section_zeros(&Preset, body, p.presets, part(flags, 5, 1), 5);
+    top + g + (s + q)
 }

@@ -12,20 +12,21 @@ use borrow.Author.Tests.{eq-eqb, ne_eqb}
 use Rattle.wire.specs.Lists.{each}
 use Rattle.wire.specs.Bits.{part, total, split}
 use Rattle.wire.specs.Prog.{Out, done, short, run}
-use Rattle.wire.specs.Reads.{end_of}
+use Rattle.wire.specs.Reads.{end_of, is_done}
 use Rattle.wire.specs.Act.{pick}
 use Rattle.wire.specs.Layout.{Layout, end, optional, Columns, flat, put, blank, has, row}
+use Rattle.wire.specs.Nest.{RowStored}
 use Rattle.wire.specs.Straight.{ends, ones, puts_at, took, taken, spans, sizes, PartTaken, blanks}
 use Rattle.wire.proofs.Layouts.Cells.{all, free}
 use Rattle.wire.proofs.Reading.Steps.{sets_append}
 use Rattle.wire.proofs.Fields.{part_below}
-use Rattle.wire.proofs.Layouts.Straight.{Whole, flat_ends, sizes_so, steered, ends_within, ends_at, ends_on, ends_cut, heads, each_off, taken_none, taken_there}
+use Rattle.wire.proofs.Layouts.Straight.{Whole, flat_done, flat_ends, sizes_so, steered, ends_within, ends_at, ends_on, ends_cut, heads, each_off, taken_none, taken_there}
 use Rattle.wire.specs.declared.reads.Short.{Short}
 use Rattle.scene_groups.specs.Layout.{group, position, gain, language}
 use Rattle.scene_groups.specs.declared.rows.PositionInteractivity.{PositionInteractivity}
 use Rattle.scene_groups.specs.declared.rows.GainInteractivity.{GainInteractivity}
 use Rattle.scene_groups.specs.declared.rows.ContentLanguage.{ContentLanguage}
-use Rattle.scene_groups.specs.Rows.{id_cells, flag_cells, content_cells, parts, position_row, gain_row, language_row, position_from, gain_from, language_from, head_of, PartPut, RowPut}
+use Rattle.scene_groups.specs.Rows.{id_cells, flag_cells, content_cells, parts, position_row, gain_row, language_row, position_from, gain_from, language_from, head_of, PartPut}
 
 -- the columns after the three bytes
 abbrev headed : List ℕ → ℕ → Columns
@@ -72,26 +73,26 @@ pub record Three (s : List ℕ) (at n : ℕ) : Type 0 where
   pub inside : n ≤ length s
   pub goes : end_of (run (flat 27 group) s at) ≡ ends (single_sizes (get_or s (at + 1) 0) ++ language_sizes (get_or s (at + 1) 0)) s n
 
-pub three : (s : List ℕ) (at : ℕ) {o : Out (Unit {0})} {n : ℕ} → at ≤ length s → o ≡ ends (ones 3) s at → o ≡ done tt n → Three s at n
+pub three : (s : List ℕ) (at : ℕ) {n : ℕ} → at ≤ length s → done tt n ≡ ends (ones 3) s at → Three s at n
 unfolding ones total
-three s at h e d =
-    let i = ends_within (ones 3) s at h (sym e ∙ d) in
-    let q = ends_at (ones 3) s at (sym e ∙ d) in
-    record { there = omega arith; inside = i; goes = group_ends s at ∙ ends_on (ones 3) _ s at e d }
+three s at h e =
+    let i = ends_within (ones 3) s at h (sym e) in
+    let q = ends_at (ones 3) s at (sym e) in
+    record { there = omega arith; inside = i; goes = group_ends s at ∙ ends_on (ones 3) _ s at e }
 
 pub record Singly (s : List ℕ) (at m : ℕ) : Type 0 where
   pub inside : m ≤ length s
   pub goes : end_of (run (flat 27 group) s at) ≡ ends (language_sizes (get_or s (at + 1) 0)) s m
 
-module _ {s : List ℕ} {at n flags : ℕ} (r : ℕ) (w : Three s at n) (b : flags ≡ get_or s (at + 1) 0) (q : ones r ≡ single_sizes flags) {o : Out (Unit {0})} (e : o ≡ ends (ones r) s n) where
-  same : o ≡ ends (single_sizes (get_or s (at + 1) 0)) s n
-  same = e ∙ ap (λ (l : List ℕ). ends l s n) (q ∙ ap single_sizes b)
+module _ {s : List ℕ} {at n flags : ℕ} (r : ℕ) (w : Three s at n) (b : flags ≡ get_or s (at + 1) 0) (q : ones r ≡ single_sizes flags) where
+  same : {o : Out (Unit {0})} → o ≡ ends (ones r) s n → o ≡ ends (single_sizes (get_or s (at + 1) 0)) s n
+  same e = e ∙ ap (λ (l : List ℕ). ends l s n) (q ∙ ap single_sizes b)
 
-  pub singly : {m : ℕ} → o ≡ done tt m → Singly s at m
-  singly d = record { inside = ends_within (ones r) s n w.inside (sym e ∙ d); goes = w.goes ∙ ends_on (single_sizes (get_or s (at + 1) 0)) _ s n same d }
+  pub singly : {m : ℕ} → done tt m ≡ ends (ones r) s n → Singly s at m
+  singly e = record { inside = ends_within (ones r) s n w.inside (sym e); goes = w.goes ∙ ends_on (single_sizes (get_or s (at + 1) 0)) _ s n (same e) }
 
-  pub singly_cut : {x : Short} → o ≡ short x → o ≡ end_of (run (flat 27 group) s at)
-  singly_cut d = ends_cut (single_sizes (get_or s (at + 1) 0)) (language_sizes (get_or s (at + 1) 0)) s n same d ∙ sym w.goes
+  pub singly_cut : {x : Short} → short x ≡ ends (ones r) s n → short x ≡ end_of (run (flat 27 group) s at)
+  singly_cut e = ends_cut (single_sizes (get_or s (at + 1) 0)) (language_sizes (get_or s (at + 1) 0)) s n (same e) ∙ sym w.goes
 
 module _ {s : List ℕ} {at m flags v : ℕ} (w : Singly s at m) (b : flags ≡ get_or s (at + 1) 0) (q : v ≡ part 0 1 flags) {o : Out (Unit {0})} where
   pub with_language : v ≡ 1 → o ≡ ends (3 ∷ []) s m → o ≡ end_of (run (flat 27 group) s at)
@@ -234,38 +235,46 @@ module _ (s : List ℕ) (at : ℕ) {b m n : ℕ} (e : b ≡ get_or s (at + 1) 0)
       (λ t. h' t ++ (i t ++ (j t ++ k t))) ∙ ap (row 27) (sym parts_taken)
 
 -- a group that was measured, from what stands in its bytes
-module _ {s : List ℕ} {at : ℕ} (w : Whole 27 group s at) {b : ℕ} (e : b ≡ get_or s (at + 1) 0) {p g l : ℕ} (ep : p ≡ part 2 1 b) (eg : g ≡ part 1 1 b) (el : l ≡ part 0 1 b) where
-  long : total (spans group blank s at) ≡ 3 + (fives p + (twos g + threes l))
-  long = group_long s at e ∙ sym (λ i. 3 + (fives (ep i) + (twos (eg i) + threes (el i))))
+module _ (s : List ℕ) (at : ℕ) (begun : at ≤ length s) (sound : is_done (run (flat 27 group) s at) ≡ true) where
+  whole : Whole 27 group s at
+  whole = flat_done 27 group s at begun sound
 
-  pub group_room : at + (3 + (fives p + (twos g + threes l))) ≤ length s
-  group_room = rw long at w.there
+  -- the three bytes are there
+  pub head_there : at + 3 ≤ length s
+  head_there = omega (arith, group_long s at refl, whole.there)
 
-  pub group_done : {x y z : ℕ} → x ≡ fives p → y ≡ twos g → z ≡ threes l → {h u v t : List ℕ} → h ≡ head_of (get_or s at 0) b (get_or s (at + 2) 0)
-      → PartTaken 7 11 position p (blanks 10) s (at + 3) u → PartTaken 18 5 gain g (blanks 4) s (at + 3 + x) v → PartTaken 23 4 language l (blanks 3) s (at + 3 + x + y) t
-      → done (h ++ (u ++ (v ++ t))) (at + 3 + x + y + z) ≡ run (flat 27 group) s at
-  group_done {x} {y} {z} ex ey ez {h} {u} {v} {t} q i j k =
-      let m : at + 3 + x ≡ at + 3 + fives (part 2 1 b) = ap (λ (k : ℕ). at + 3 + k) (ex ∙ ap fives ep) in
-      let n : at + 3 + x + y ≡ at + 3 + x + twos (part 1 1 b) = ap (λ (k : ℕ). at + 3 + x + k) (ey ∙ ap twos eg) in
-      let r = (λ o. q o ++ (u ++ (v ++ t))) ∙ group_taken s at e m n (rw ep at i) (rw eg at j) (rw el at k) in
-      let f : at + 3 + x + y + z ≡ at + total (spans group blank s at) = omega (arith, long, ex, ey, ez) in
-      (λ o. done (r o) (f o)) ∙ sym w.is
+  module _ {b : ℕ} (e : b ≡ get_or s (at + 1) 0) {p g l : ℕ} (ep : p ≡ part 2 1 b) (eg : g ≡ part 1 1 b) (el : l ≡ part 0 1 b) where
+    long : total (spans group blank s at) ≡ 3 + (fives p + (twos g + threes l))
+    long = group_long s at e ∙ sym (λ i. 3 + (fives (ep i) + (twos (eg i) + threes (el i))))
 
-  -- the same, stored part by part
-  pub group_put : {t t₁ t₂ t₃ t₄ h : List ℕ} {to i j k : ℕ} → h ≡ head_of (get_or s at 0) b (get_or s (at + 2) 0) → t₁ ≡ sets t to h
-      → PartPut 7 11 position p (blanks 10) 5 s (at + 3) t₁ (to + 7) i t₂ → PartPut 18 5 gain g (blanks 4) 2 s i t₂ (to + 18) j t₃
-      → PartPut 23 4 language l (blanks 3) 3 s j t₃ (to + 23) k t₄ → RowPut s at t to k t₄
-  group_put {t} {h = h} {to = to} q e x y z =
-      let l : length h ≡ 7 = ap length q in
-      let n =
-      length-append h (x.row ++ (y.row ++ z.row))
-      ∙ ap (λ (k : ℕ). length h + k) (length-append x.row (y.row ++ z.row) ∙ ap (λ (k : ℕ). length x.row + k) (length-append y.row z.row)) in
-      let f : List ℕ → List ℕ = λ t. sets t (to + 7) x.row in
-      let v : List ℕ → List ℕ = λ t. sets t (to + 18) y.row in
-      let w : List ℕ → List ℕ = λ t. sets t (to + 23) z.row in
-      record {
-        row = h ++ (x.row ++ (y.row ++ z.row));
-        long = n ∙ omega (arith, l, x.long, y.long, z.long);
-        read = rw (z.on, y.on, x.on) (group_done refl refl refl q x.takes (rw x.on at y.takes) (rw (y.on, x.on) at z.takes));
-        stored = z.stored ∙ ap w (y.stored ∙ ap v (x.stored ∙ ap f e)) ∙ four_stored t to h x.row y.row z.row l x.long y.long;
-      }
+    pub group_room : at + (3 + (fives p + (twos g + threes l))) ≤ length s
+    group_room = rw long at whole.there
+
+    pub group_done : {x y z : ℕ} → x ≡ fives p → y ≡ twos g → z ≡ threes l → {h u v t : List ℕ} → h ≡ head_of (get_or s at 0) b (get_or s (at + 2) 0)
+        → PartTaken 7 11 position p (blanks 10) s (at + 3) u → PartTaken 18 5 gain g (blanks 4) s (at + 3 + x) v → PartTaken 23 4 language l (blanks 3) s (at + 3 + x + y) t
+        → done (h ++ (u ++ (v ++ t))) (at + 3 + x + y + z) ≡ run (flat 27 group) s at
+    group_done {x} {y} {z} ex ey ez {h} {u} {v} {t} q i j k =
+        let m : at + 3 + x ≡ at + 3 + fives (part 2 1 b) = ap (λ (k : ℕ). at + 3 + k) (ex ∙ ap fives ep) in
+        let n : at + 3 + x + y ≡ at + 3 + x + twos (part 1 1 b) = ap (λ (k : ℕ). at + 3 + x + k) (ey ∙ ap twos eg) in
+        let r = (λ o. q o ++ (u ++ (v ++ t))) ∙ group_taken s at e m n (rw ep at i) (rw eg at j) (rw el at k) in
+        let f : at + 3 + x + y + z ≡ at + total (spans group blank s at) = omega (arith, long, ex, ey, ez) in
+        (λ o. done (r o) (f o)) ∙ sym whole.is
+
+    -- the same, stored part by part
+    pub group_put : {t t₁ t₂ t₃ t₄ h : List ℕ} {to i j k : ℕ} → h ≡ head_of (get_or s at 0) b (get_or s (at + 2) 0) → t₁ ≡ sets t to h
+        → PartPut 7 11 position p (blanks 10) 5 s (at + 3) t₁ (to + 7) i t₂ → PartPut 18 5 gain g (blanks 4) 2 s i t₂ (to + 18) j t₃
+        → PartPut 23 4 language l (blanks 3) 3 s j t₃ (to + 23) k t₄ → RowStored (flat 27 group) (λ r. r) 27 s at t to k t₄
+    group_put {t} {h = h} {to = to} q e x y z =
+        let l : length h ≡ 7 = ap length q in
+        let n =
+        length-append h (x.row ++ (y.row ++ z.row))
+        ∙ ap (λ (k : ℕ). length h + k) (length-append x.row (y.row ++ z.row) ∙ ap (λ (k : ℕ). length x.row + k) (length-append y.row z.row)) in
+        let f : List ℕ → List ℕ = λ t. sets t (to + 7) x.row in
+        let v : List ℕ → List ℕ = λ t. sets t (to + 18) y.row in
+        let w : List ℕ → List ℕ = λ t. sets t (to + 23) z.row in
+        record {
+          value = h ++ (x.row ++ (y.row ++ z.row));
+          wide = n ∙ omega (arith, l, x.long, y.long, z.long);
+          reads = sym (rw (z.on, y.on, x.on) (group_done refl refl refl q x.takes (rw x.on at y.takes) (rw (y.on, x.on) at z.takes)));
+          stored = z.stored ∙ ap w (y.stored ∙ ap v (x.stored ∙ ap f e)) ∙ four_stored t to h x.row y.row z.row l x.long y.long;
+        }

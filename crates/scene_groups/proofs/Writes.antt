@@ -78,13 +78,6 @@ group_acts_lem g =
 
 -- ---- the quick test
 
--- the fields of a part that is there, and of one that is not
-pub fits_there : {v : ℕ} (fields : List (List Field)) → v ≡ 1 → {r : Bool} → r ≡ fit_all fields → r ≡ part_fits v fields
-fits_there {v} fields t e = e ∙ ap (λ (x : Bool). pick x (fit_all fields) true) (sym (eq-eqb v 1 t))
-
-pub fits_absent : {v : ℕ} (fields : List (List Field)) → (v ≡ 1 → ⊥) → true ≡ part_fits v fields
-fits_absent {v} fields t = ap (λ (x : Bool). pick x (fit_all fields) true) (sym (ne_eqb v 1 t))
-
 -- ---- the fill pass of a part that is there, and of one that is not
 
 ready : (fss : List (List Field)) {v n : ℕ} {l : List ℕ} → v ≡ 1 → Ready (when (eqb v 1) (map byte fss)) n l → Ready (map byte fss) n l

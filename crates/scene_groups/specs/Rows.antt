@@ -4,10 +4,9 @@ use mathlib.Core.List.{List, [], ◌∷◌, ◌++◌, flatten}
 use Rattle.std.proofs.lemmas.List.Edits.{sets}
 use Rattle.wire.specs.Bits.{part}
 use Rattle.wire.specs.Act.{pick}
-use Rattle.wire.specs.Layout.{Cell, Layout, end, optional, ◌▹◌, num, reserved, flag, Columns, of, flat}
-use Rattle.wire.specs.Prog.{done, run}
+use Rattle.wire.specs.Layout.{Cell, Layout, end, optional, ◌▹◌, num, reserved, flag, Columns, of}
 use Rattle.wire.specs.Straight.{PartTaken}
-use Rattle.scene_groups.specs.Layout.{group, position, gain, language}
+use Rattle.scene_groups.specs.Layout.{position, gain, language}
 use Rattle.scene_groups.specs.declared.rows.PositionInteractivity.{PositionInteractivity}
 use Rattle.scene_groups.specs.declared.rows.GainInteractivity.{GainInteractivity}
 use Rattle.scene_groups.specs.declared.rows.ContentLanguage.{ContentLanguage}
@@ -125,13 +124,6 @@ pub record PartPut (k n : ℕ) (p : Layout) (v : ℕ) (zeros : List ℕ) (m : �
   pub takes : PartTaken k n p v zeros s at row
   pub stored : u ≡ sets t to row
   pub on : next ≡ at + pick (eqb v 1) m 0
-
--- the 27 columns of the group that begins at `at`
-pub record RowPut (s : List ℕ) (at : ℕ) (t : List ℕ) (to next : ℕ) (u : List ℕ) : Type 0 where
-  pub row : List ℕ
-  pub long : length row ≡ 27
-  pub read : done row next ≡ run (flat 27 group) s at
-  pub stored : u ≡ sets t to row
 
 -- ---- the layout of a group in its parts: the bytes that are always there, and three parts
 

@@ -1,22 +1,22 @@
 // Reading groups: one pass measures, one takes what was measured and tests nothing.
-ghost use Rattle.std.specs.Prelude.{◌≡◌, true, ◌+◌, ◌*◌, ◌≤◌, length, eqb};
-ghost use mathlib.Core.List.{[], ◌++◌, flat_map};
-ghost use Rattle.std.proofs.lemmas.List.Edits.{sets};
+ghost use Rattle.std.specs.Prelude.{ℕ, List, ◌≡◌, true, ◌+◌, ◌*◌, ◌≤◌, length, eqb};
+ghost use mathlib.Core.List.{[], ◌++◌};
 ghost use Rattle.wire.specs.Bits.{part};
 ghost use Rattle.wire.specs.Act.{pick};
-ghost use Rattle.wire.specs.Prog.{done, run, many};
-ghost use Rattle.wire.specs.Reads.{end_of, is_done, rows_of, ends_out};
+ghost use Rattle.wire.specs.Prog.{done, run};
+ghost use Rattle.wire.specs.Reads.{is_done};
 ghost use Rattle.wire.specs.Layout.{flat};
 ghost use Rattle.wire.specs.Straight.{ones, PartTaken, blanks};
 ghost use Rattle.scene_groups.specs.Layout.{group, position, gain, language};
-ghost use Rattle.scene_groups.specs.Rows.{group_row, position_row, gain_row, language_row, position_from, gain_from, language_from, head_of, PartPut, RowPut};
+ghost use Rattle.scene_groups.specs.Rows.{group_row, position_row, gain_row, language_row, position_from, gain_from, language_from, head_of, PartPut};
 
 use super::rows::{
     ContentLanguage, GROUP_COLUMNS, GainInteractivity, PositionInteractivity, SceneGroup,
 };
 use wire::bits::{part, wide};
 use wire::ids::GroupId;
-use wire::reads::{Ends, bytes_end, head};
+use wire::list::{Measure, Store};
+use wire::reads::{Short, bytes_end, head};
 use wire::rows::put_row;
 
 // The reads of one byte in the position and the gain of a group whose flags these are.
@@ -26,49 +26,33 @@ fn singles(flags: u16) -> usize
     (part(flags, 2, 1) * 5 + part(flags, 1, 1) * 2) as usize
 }
 
-// Where a group ends.
-pub fn group_end(body: &[u8], at: usize) -> Ends
-    requires { at ≤ length body.now }
-    ensures { ends_out result ≡ end_of (run (flat 27 group) body.now at) }
-{
-    let a = head(body, at, 3);
-    let Ends::At(n) = a else {
-        return a;
-    };
-    let flags = wide(body[at + 1]);
-    let b = head(body, n, singles(flags));
-    let Ends::At(m) = b else {
-        return b;
-    };
-    if part(flags, 0, 1) == 1 {
-        bytes_end(body, m, 3)
-    } else {
-        b
-    }
-}
+// A row of table 1, as a list of them is measured, stored and tallied.
+pub struct Group;
 
-// Where `count` groups end.
-pub fn measure_groups(body: &[u8], at: usize, count: usize) -> Ends
-    requires { at ≤ length body.now }
-    ensures { ends_out result ≡ end_of (run (many count (flat 27 group)) body.now at) }
-{
-    let mut pos = at;
-    let mut left = count;
-    while 0 < left {
-        let a = group_end(body, pos);
-        let Ends::At(next) = a else {
-            return a;
-        };
-        pos = next;
-        left -= 1;
+// ---- measured
+
+// The three bytes, then the single bytes of the parts that their flags steer, then the language as one read.
+impl Measure for Group {
+    ghost Read = { List ℕ };
+
+    ghost reads = { λ _. flat 27 group };
+
+    fn end(&self, body: &[u8], at: usize) -> Result<usize, Short> {
+        let n = head(body, at, 3)?;
+        let flags = wide(body[at + 1]);
+        let m = head(body, n, singles(flags))?;
+        if part(flags, 0, 1) == 1 {
+            bytes_end(body, m, 3)
+        } else {
+            Ok(m)
+        }
     }
-    Ends::At(pos)
 }
 
 // ---- taken, once measured
 
 // A group, and the next position.
-#[derive(Clone, Copy)]
+#[derive(Clone, Copy, PartialEq, Eq)]
 pub struct Placed {
     pub group: SceneGroup,
     pub next: usize,
@@ -290,34 +274,29 @@ fn head_row(id: u16, flags: u16, content: u16) -> [u16; 7]
     ]
 }
 
-// Stores a group that was measured as the row whose first column is `to`, and answers the next position.
-fn fill_group(body: &[u8], at: usize, groups: &mut [u16], to: usize) -> usize
-    requires { (at ≤ length body.now) × (is_done (run (flat 27 group) body.now at) ≡ true) × (to + 27 ≤ length groups.old) }
-    ensures { RowPut body.now at groups.old to result groups.new }
-{
-    let id = wide(body[at]);
-    let flags = wide(body[at + 1]);
-    let content = wide(body[at + 2]);
-    let p = part(flags, 2, 1);
-    let g = part(flags, 1, 1);
-    let l = part(flags, 0, 1);
-    put_row(groups, to, &head_row(id, flags, content));
-    let at_gain = fill_position(body, at + 3, p, groups, to + 7);
-    let at_language = fill_gain(body, at_gain, g, groups, to + 18);
-    fill_language(body, at_language, l, groups, to + 23)
-}
+impl Store for Group {
+    ghost Read = { List ℕ };
 
-// Stores `count` groups that were measured as the first rows of table 1.
-pub fn fill_groups(body: &[u8], at: usize, count: usize, groups: &mut [u16])
-    requires { (at ≤ length body.now) × (is_done (run (many count (flat 27 group)) body.now at) ≡ true) × (27 * count ≤ length groups.old) }
-    ensures { groups.new ≡ sets groups.old 0 (flat_map (λ r. r) (rows_of (run (many count (flat 27 group)) body.now at))) }
-{
-    let mut pos = at;
-    let mut left = count;
-    let mut to = 0;
-    while 0 < left {
-        pos = fill_group(body, pos, groups, to);
-        left -= 1;
-        to += GROUP_COLUMNS;
+    ghost reads = { λ _. flat 27 group };
+
+    ghost may = { λ _ _. Unit {0} };
+
+    ghost COLUMNS = { 27 };
+
+    ghost columns = { λ _ r. r };
+
+    const COLUMNS: usize = GROUP_COLUMNS;
+
+    fn store(&self, body: &[u8], at: usize, table: &mut [u16], to: usize) -> usize {
+        let id = wide(body[at]);
+        let flags = wide(body[at + 1]);
+        let content = wide(body[at + 2]);
+        let p = part(flags, 2, 1);
+        let g = part(flags, 1, 1);
+        let l = part(flags, 0, 1);
+        put_row(table, to, &head_row(id, flags, content));
+        let at_gain = fill_position(body, at + 3, p, table, to + 7);
+        let at_language = fill_gain(body, at_gain, g, table, to + 18);
+        fill_language(body, at_language, l, table, to + 23)
     }
 }

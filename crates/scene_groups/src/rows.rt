@@ -15,7 +15,7 @@ pub fn column(t: &[u16], b: usize, k: usize) -> u16
 }
 
 // mae_groupPositionInteractivity, where it is there.
-#[derive(Clone, Copy)]
+#[derive(Clone, Copy, PartialEq, Eq)]
 pub struct PositionInteractivity {
     pub present: u16,
     pub reserved_min_az: u16,
@@ -31,7 +31,7 @@ pub struct PositionInteractivity {
 }
 
 // mae_groupGainInteractivity, where it is there.
-#[derive(Clone, Copy)]
+#[derive(Clone, Copy, PartialEq, Eq)]
 pub struct GainInteractivity {
     pub present: u16,
     pub reserved_min: u16,
@@ -41,7 +41,7 @@ pub struct GainInteractivity {
 }
 
 // mae_contentLanguage, where it is there.
-#[derive(Clone, Copy)]
+#[derive(Clone, Copy, PartialEq, Eq)]
 pub struct ContentLanguage {
     pub present: u16,
     pub first: u16,
@@ -193,7 +193,7 @@ impl ContentLanguage {
     }
 }
 
-#[derive(Clone, Copy)]
+#[derive(Clone, Copy, PartialEq, Eq)]
 pub struct SceneGroup {
     pub reserved_id: u16,
     pub group_id: GroupId,

@@ -1,17 +1,15 @@
 // The reserved bits at 0 of groups that were measured.
-ghost use Rattle.std.specs.Prelude.{◌≡◌, true, [], ◌∷◌, ◌<◌, ◌≤◌, ◌^◌, length, eqb};
-ghost use Rattle.wire.specs.Lists.{sum};
+ghost use Rattle.std.specs.Prelude.{ℕ, List, ◌≡◌, [], ◌∷◌, ◌≤◌, eqb};
 ghost use Rattle.wire.specs.Act.{pick};
-ghost use Rattle.wire.specs.Prog.{run, many};
-ghost use Rattle.wire.specs.Reads.{is_done, rows_of};
 ghost use Rattle.wire.specs.Layout.{flat, of, tally};
 ghost use Rattle.scene_groups.specs.Layout.{group};
 ghost use Rattle.scene_groups.specs.Rows.{group_cols};
 ghost use Rattle.scene_groups.specs.Tally.{position_zeros, gain_zeros};
 
-use super::parsing::group_at;
+use super::parsing::{Group, group_at};
 use super::rows::{GainInteractivity, PositionInteractivity, SceneGroup};
 use wire::bits::idle_bits;
+use wire::list::{Tally, Zeros};
 
 fn position_zeros(p: PositionInteractivity) -> u32
     ensures { (result ≡ pick (eqb p.present 1) (position_zeros p) 0) × (result ≤ 8) }
@@ -43,19 +41,22 @@ fn group_zeros(g: SceneGroup) -> u32
     head + position_zeros(g.position) + gain_zeros(g.gain)
 }
 
-// The reserved bits at 0 of `count` groups that were measured.
-pub fn tally_groups(body: &[u8], at: usize, count: usize) -> u32
-    requires { (at ≤ length body.now) × (is_done (run (many count (flat 27 group)) body.now at) ≡ true) × (count < 2 ^ 16) }
-    ensures { result ≡ sum (λ r. tally (group ∷ []) (of r)) (rows_of (run (many count (flat 27 group)) body.now at)) }
-{
-    let mut pos = at;
-    let mut left = count;
-    let mut zeros: u32 = 0;
-    while 0 < left {
-        let p = group_at(body, pos);
-        zeros += group_zeros(p.group);
-        pos = p.next;
-        left -= 1;
+impl Tally for Group {
+    ghost Read = { List ℕ };
+
+    ghost reads = { λ _. flat 27 group };
+
+    ghost may = { λ _ _. Unit {0} };
+
+    ghost zeros = { λ _ r. tally (group ∷ []) (of r) };
+
+    ghost most = { 21 };
+
+    fn zeros(&self, body: &[u8], at: usize) -> Zeros {
+        let p = group_at(body, at);
+        Zeros {
+            zeros: group_zeros(p.group),
+            next: p.next,
+        }
     }
-    zeros
 }

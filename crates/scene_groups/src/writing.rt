@@ -1,10 +1,9 @@
 // Writing groups: their bytes as numbers, the check pass with a quick test of a plain row, and the fill pass.
 ghost use Rattle.std.specs.Prelude.{◌≡◌, map, ◌+◌, ◌*◌, ◌<◌, ◌≤◌, ◌^◌, length};
-ghost use Rattle.wire.specs.Act.{rows};
 ghost use Rattle.wire.specs.Layout.{field_of};
 ghost use Rattle.wire.specs.Pen.{Checked, Quick, Ready, Filled};
-ghost use Rattle.wire.specs.Spell.{Spells, Spelt, PlainRows, fit_all};
-ghost use Rattle.wire.specs.declared.pen.Pen.TheVariants.{At};
+ghost use Rattle.wire.specs.Spell.{Spells, Spelt, fit_all};
+ghost use Rattle.wire.specs.Pen.{At};
 ghost use Rattle.scene_groups.specs.Rows.{group_cols, group_of, position_of, gain_of, language_of, flag_cells};
 ghost use Rattle.scene_groups.specs.Write.{head_fields, position_fields, gain_fields, language_fields, group_flags, position_fits, gain_fits, language_fits, id_fits, kind_fits, plain_fits, no_parts, position_part, gain_part, language_part, group_acts, row_acts};
 
@@ -14,8 +13,9 @@ use super::rows::{
 };
 use wire::bits::{fits, four_fit, is_flag};
 use wire::pen;
-use wire::pen::{Fault, Passed, Pen};
+use wire::pen::{Fault, Pen};
 use wire::spell::{Joined, check_all, fill_all, fits_all, one, two};
+use wire::written::Rows;
 
 // ---- the bytes
 
@@ -90,7 +90,7 @@ fn check_group(n: usize, groups: &[u16], b: usize) -> Pen
     ensures { Checked (group_acts (group_of groups.now b)) 13 (At n) result }
 {
     let g = SceneGroup::of_columns(groups, b);
-    let p0 = pen::demand(Pen::At(n), Fault::Field, flags_hold(g));
+    let p0 = pen::demand(Ok(n), Fault::Field, flags_hold(g));
     let p1 = check_all(p0, true, &head_bytes(groups, b));
     let p2 = check_all(p1, g.position.present == 1, &position_bytes(g.position));
     let p3 = check_all(p2, g.gain.present == 1, &gain_bytes(g.gain));
@@ -226,41 +226,6 @@ fn plain_bytes(groups: &[u16], b: usize) -> usize
     }
 }
 
-// The plain rows before the first that is not, and their bytes.
-fn plain_rows(groups: &[u16], count: usize) -> Passed
-    requires { (count * 27 ≤ length groups.now) × (count < 2 ^ 16) }
-    ensures { PlainRows (row_acts groups.now) 13 count result.rows result.bytes }
-{
-    let mut bytes: usize = 0;
-    let mut i: usize = 0;
-    let mut b: usize = 0;
-    while i < count {
-        let k = plain_bytes(groups, b);
-        if k == 0 {
-            return Passed { rows: i, bytes };
-        }
-        bytes += k;
-        i += 1;
-        b += GROUP_COLUMNS;
-    }
-    Passed { rows: i, bytes }
-}
-
-// The rows of table 1 from the first; the row that is not plain is looked at again to name its fault.
-pub fn check_groups(n: usize, groups: &[u16], count: usize) -> Pen
-    requires { (count * 27 ≤ length groups.now) × (count < 2 ^ 16) × (n < 2 ^ 16) }
-    ensures { Checked (rows (row_acts groups.now) 0 count) (13 * count) (At n) result }
-{
-    let p = plain_rows(groups, count);
-    let i = p.rows;
-    let at = n + p.bytes;
-    if i < count {
-        check_group(at, groups, i * GROUP_COLUMNS)
-    } else {
-        Pen::At(at)
-    }
-}
-
 // ---- the fill pass
 
 // Each part behind its flag: a store to `out` would keep the compiler from moving a load there.
@@ -310,16 +275,34 @@ fn fill_group(groups: &[u16], b: usize, out: &mut [u8], n: usize) -> usize
     fill_language(groups, b, out, n3)
 }
 
-// The rows of table 1, from the first.
-pub fn fill_groups(groups: &[u16], count: usize, out: &mut [u8], n: usize) -> usize
-    requires { (count * 27 ≤ length groups.now) × (count < 2 ^ 16) × Ready (rows (row_acts groups.now) 0 count) n out.old }
-    ensures { Filled (rows (row_acts groups.now) 0 count) n out.old result out.new }
-{
-    let mut at = n;
-    let mut i: usize = 0;
-    while i < count {
-        at = fill_group(groups, i * GROUP_COLUMNS, out, at);
-        i += 1;
+// ---- the rows of table 1
+
+// The rows that are written.
+#[derive(Clone, Copy)]
+pub struct Groups<'a> {
+    pub groups: &'a [u16],
+}
+
+impl Rows for Groups<'_> {
+    ghost columns = { 27 };
+
+    ghost table = { λ t. t.groups.now };
+
+    ghost acts = { λ t i. row_acts t.groups.now i };
+
+    ghost most = { 13 };
+
+    ghost may = { λ _. Unit {0} };
+
+    fn plain(&self, i: usize) -> usize {
+        plain_bytes(self.groups, i * GROUP_COLUMNS)
     }
-    at
+
+    fn check(&self, n: usize, i: usize) -> Pen {
+        check_group(n, self.groups, i * GROUP_COLUMNS)
+    }
+
+    fn fill(&self, i: usize, out: &mut [u8], n: usize) -> usize {
+        fill_group(self.groups, i * GROUP_COLUMNS, out, n)
+    }
 }

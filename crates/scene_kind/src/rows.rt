@@ -7,7 +7,7 @@ use wire::bits::{flag, wide};
 use wire::rows::Payload;
 
 // A list that is there or not, and how many rows it has.
-#[derive(Clone, Copy)]
+#[derive(Clone, Copy, PartialEq, Eq)]
 pub struct Section {
     pub present: bool,
     pub count: u16,
@@ -33,7 +33,7 @@ impl Section {
     }
 }
 
-#[derive(Clone, Copy)]
+#[derive(Clone, Copy, PartialEq, Eq)]
 pub struct MpegH3dAudioScene {
     pub reserved_flags: u8,
     pub scene_info_id: u8,

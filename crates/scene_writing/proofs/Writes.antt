@@ -1,18 +1,17 @@
 -- The layouts write the scene body section after section.
-use Prim.Native.Nat.{ℕ, ◌^◌, ◌<◌}
+use Prim.Native.Nat.{ℕ, ◌*◌, ◌-◌, ◌^◌, ◌<◌, ◌≤◌}
 use mathlib.Core.List.{List, [], ◌∷◌, ◌++◌, append-nil, map, flatten}
 use mathlib.Core.Bool.{Bool, true, false, not, ◌&&◌, ◌||◌}
 use mathlib.Core.Path.{◌≡◌, refl, sym, ◌∙◌}
 use native.Mathlib.Omega.{arith}
+use native.Mathlib.Nat.{mul-le-mul_left}
 use borrow.Author.Tests.{not-true}
 use Rattle.wire.specs.Lists.{each}
 use Rattle.wire.specs.Bits.{Field}
 use Rattle.wire.specs.Act as A
 use Rattle.wire.specs.Act.{Act, demand, byte, when, rows}
 use Rattle.wire.specs.declared.pen.Fault.TheVariants as F
-use Rattle.wire.specs.Pen.{Checked, Ready}
-use Rattle.wire.specs.declared.pen.Pen.{Pen}
-use Rattle.wire.specs.declared.pen.Pen.TheVariants.{At}
+use Rattle.wire.specs.Pen.{Pen, At, Checked, Ready}
 use Rattle.wire.proofs.Fields.{fits_cons}
 use Rattle.wire.proofs.Writing.Acts.{and_both}
 use Rattle.wire.proofs.Writing.Parts.{part_begins, within_absent}
@@ -71,8 +70,12 @@ scene_acts_lem m lent store = go m m.groups.present m.switch_groups.present m.pr
 -- ---- a section in the check pass
 
 -- a count that fits its byte
-pub count_fits : (r w v : ℕ) (s : Section) {p q : Pen} {n : ℕ} → Checked (byte (count_byte r w v s) ∷ []) 1 p q → q ≡ At n → s.count < 2 ^ w
-count_fits r w v s {p} c e = (fits_cons w s.count [] (fits_cons r v _ (byte_fits p c e)).1).0
+pub count_fits : (r w v : ℕ) (s : Section) {p : Pen} {n : ℕ} → Checked (byte (count_byte r w v s) ∷ []) 1 p (At n) → s.count < 2 ^ w
+count_fits r w v s {p} c = (fits_cons w s.count [] (fits_cons r v _ (byte_fits p c refl)).1).0
+
+-- so many rows of at most so many bytes each
+pub count_most : (r w v : ℕ) (s : Section) (most : ℕ) {p : Pen} {n : ℕ} → Checked (byte (count_byte r w v s) ∷ []) 1 p (At n) → most * s.count ≤ most * (2 ^ w - 1)
+count_most r w v s most c = let h = count_fits r w v s c in mul-le-mul_left most (omega (arith, h))
 
 -- the three of them
 pub record Inside (m : MpegH3dAudioScene) (g x p : List ℕ) : Type 0 where

@@ -1,29 +1,25 @@
 // Writing the scene body in two passes, each in the Rust's order: the check pass names the first fault or the length, the fill pass stores the bytes.
-ghost use Rattle.std.specs.Prelude.{◌≡◌, true, [], ◌∷◌, ◌+◌, ◌<◌, ◌≤◌, ◌^◌};
+ghost use Rattle.std.specs.Prelude.{◌≡◌, true, [], ◌∷◌, ◌+◌, ◌-◌, ◌*◌, ◌<◌, ◌≤◌, ◌^◌};
 ghost use Rattle.wire.specs.Pen.{reach, Checked, Ready, Filled};
 ghost use Rattle.wire.specs.Spell.{Spells, Spelt};
-ghost use Rattle.wire.specs.declared.pen.Pen.TheVariants.{At};
-ghost use Rattle.wire.specs.Layout.{family_acts};
-ghost use Rattle.scene_groups.specs.Write.{row_acts};
-ghost use Rattle.switch_groups.specs.Layout.{member, switch_group};
-ghost use Rattle.conditions.specs.Layout.{condition};
-ghost use Rattle.presets.specs.Layout.{preset};
+ghost use Rattle.wire.specs.Pen.{At};
 ghost use Rattle.frame.specs.Entry.{all_acts};
 ghost use Rattle.scene_kind.specs.Kind.{kind};
-ghost use Rattle.scene_writing.specs.Write.{flags_byte, head_bytes, count_byte, groups_acts, switch_groups_acts, presets_acts, scene_acts, within, all_within};
+ghost use Rattle.scene_writing.specs.Write.{flags_byte, head_bytes, count_byte, section_acts, scene_acts, within, all_within};
 
 use presets::rows::PRESET_COLUMNS;
-use presets::writing::{check_presets, fill_presets};
+use presets::writing::Presets;
 use scene_groups::rows::GROUP_COLUMNS;
-use scene_groups::writing::{check_groups, fill_groups};
+use scene_groups::writing::Groups;
 use scene_kind::rows::{MpegH3dAudioScene, Section};
 use switch_groups::rows::SWITCH_GROUP_COLUMNS;
-use switch_groups::writing::{check_switch_groups, fill_switch_groups};
+use switch_groups::writing::Switches;
 use wire::bits::{flag, wide};
 use wire::pen;
-use wire::pen::{Fault, Pen};
+use wire::pen::{Fault, Pen, Stopped};
 use wire::rows::{has_rows, in_store};
 use wire::spell::{Joined, check_all, fill_all, one, two};
+use wire::written::{Rows, check_rows, fill_rows};
 
 // ---- the bytes of the top record
 
@@ -43,12 +39,12 @@ pub fn head_bytes(m: MpegH3dAudioScene) -> [u32; 2]
     [flags_byte(m), one(wide(m.scene_info_id))]
 }
 
-// The reserved bits and the count of a section.
-fn count_byte(reserved: u8, r: u32, s: Section, w: u32) -> [u32; 1]
-    requires { r + w ≤ 8 }
-    ensures { Spelt (count_byte r w reserved s ∷ []) result }
+// The reserved bits of a section, and its count of `w` bits.
+fn count_byte(reserved: u8, s: Section, w: u32) -> [u32; 1]
+    requires { w ≤ 8 }
+    ensures { Spelt (count_byte (8 - w) w reserved s ∷ []) result }
 {
-    [two(wide(reserved), r, s.count, w)]
+    [two(wide(reserved), 8 - w, s.count, w)]
 }
 
 // Whether the rows of a section stand in its table.
@@ -74,57 +70,15 @@ fn all_within(m: MpegH3dAudioScene, groups: &[u16], switch_groups: &[u16], prese
 
 // ---- the check pass
 
-fn check_groups_section(p: Pen, m: MpegH3dAudioScene, groups: &[u16]) -> Pen
-    requires { (within m.groups 27 groups.now ≡ true) × (reach p < 2 ^ 15) }
-    ensures { Checked (groups_acts m (row_acts groups.now)) 1652 p result }
+// A section that is there: its byte, and its rows.
+fn check_section<R: Rows>(p: Pen, s: Section, reserved: u8, w: u32, rows: &R) -> Pen
+    requires { (within s R.Rows.columns (R.Rows.table rows.now) ≡ true) × R.Rows.may rows.now × (0 < R.Rows.columns) × (w ≤ 8) × (reach p + (1 + R.Rows.most * (2 ^ w - 1)) < 2 ^ 30) }
+    ensures { Checked (section_acts s (count_byte (8 - w) w reserved s) (R.Rows.acts rows.now)) (1 + R.Rows.most * (2 ^ w - 1)) p result }
 {
-    let s = m.groups;
     if s.present {
-        let p1 = check_all(p, true, &count_byte(m.reserved_groups, 1, s, 7));
-        let Pen::At(n) = p1 else {
-            return p1;
-        };
+        let n = check_all(p, true, &count_byte(reserved, s, w))?;
         let count = s.count;
-        check_groups(n, groups, count as usize)
-    } else {
-        p
-    }
-}
-
-fn check_switch_groups_section(
-    p: Pen,
-    m: MpegH3dAudioScene,
-    switch_groups: &[u16],
-    members: &[u16],
-) -> Pen
-    requires { (within m.switch_groups 9 switch_groups.now ≡ true) × (reach p < 2 ^ 15) }
-    ensures { Checked (switch_groups_acts m (family_acts switch_group 2 member switch_groups.now members.now)) 1086 p result }
-{
-    let s = m.switch_groups;
-    if s.present {
-        let p1 = check_all(p, true, &count_byte(m.reserved_switch_groups, 3, s, 5));
-        let Pen::At(n) = p1 else {
-            return p1;
-        };
-        let count = s.count;
-        check_switch_groups(n, switch_groups, members, count as usize)
-    } else {
-        p
-    }
-}
-
-fn check_presets_section(p: Pen, m: MpegH3dAudioScene, presets: &[u16], conditions: &[u16]) -> Pen
-    requires { (within m.presets 7 presets.now ≡ true) × (reach p < 2 ^ 15) }
-    ensures { Checked (presets_acts m (family_acts preset 13 condition presets.now conditions.now)) 3070 p result }
-{
-    let s = m.presets;
-    if s.present {
-        let p1 = check_all(p, true, &count_byte(m.reserved_presets, 3, s, 5));
-        let Pen::At(n) = p1 else {
-            return p1;
-        };
-        let count = s.count;
-        check_presets(n, presets, conditions, count as usize)
+        check_rows(rows, n, 0, count as usize)
     } else {
         p
     }
@@ -142,12 +96,20 @@ fn check_fields(
     ensures { Checked (scene_acts m (groups.now ∷ switch_groups.now ∷ members.now ∷ presets.now ∷ conditions.now ∷ [])) 5810 (At 0) result }
 {
     if all_within(m, groups, switch_groups, presets) {
-        let p1 = check_all(Pen::At(0), true, &head_bytes(m));
-        let p2 = check_groups_section(p1, m, groups);
-        let p3 = check_switch_groups_section(p2, m, switch_groups, members);
-        check_presets_section(p3, m, presets, conditions)
+        let p1 = check_all(Ok(0), true, &head_bytes(m));
+        let p2 = check_section(p1, m.groups, m.reserved_groups, 7, &Groups { groups });
+        let s = Switches {
+            switch_groups,
+            members,
+        };
+        let p3 = check_section(p2, m.switch_groups, m.reserved_switch_groups, 5, &s);
+        let t = Presets {
+            presets,
+            conditions,
+        };
+        check_section(p3, m.presets, m.reserved_presets, 5, &t)
     } else {
-        Pen::Stop(Fault::Range, 0)
+        Err(Stopped(Fault::Range, 0))
     }
 }
 
@@ -168,61 +130,27 @@ pub fn check(
         let p = check_fields(m, groups, switch_groups, members, presets, conditions);
         pen::payload_run(p, trailing)
     } else {
-        Pen::Stop(Fault::Range, 0)
+        Err(Stopped(Fault::Range, 0))
     }
 }
 
 // ---- the fill pass
 
-fn fill_groups_section(m: MpegH3dAudioScene, groups: &[u16], out: &mut [u8], n: usize) -> usize
-    requires { (within m.groups 27 groups.now ≡ true) × Ready (groups_acts m (row_acts groups.now)) n out.old }
-    ensures { Filled (groups_acts m (row_acts groups.now)) n out.old result out.new }
-{
-    let s = m.groups;
-    if s.present {
-        let n1 = fill_all(out, n, true, &count_byte(m.reserved_groups, 1, s, 7));
-        let count = s.count;
-        fill_groups(groups, count as usize, out, n1)
-    } else {
-        n
-    }
-}
-
-fn fill_switch_groups_section(
-    m: MpegH3dAudioScene,
-    switch_groups: &[u16],
-    members: &[u16],
+fn fill_section<R: Rows>(
+    s: Section,
+    reserved: u8,
+    w: u32,
+    rows: &R,
     out: &mut [u8],
     n: usize,
 ) -> usize
-    requires { (within m.switch_groups 9 switch_groups.now ≡ true) × Ready (switch_groups_acts m (family_acts switch_group 2 member switch_groups.now members.now)) n out.old }
-    ensures { Filled (switch_groups_acts m (family_acts switch_group 2 member switch_groups.now members.now)) n out.old result out.new }
+    requires { (within s R.Rows.columns (R.Rows.table rows.now) ≡ true) × R.Rows.may rows.now × (0 < R.Rows.columns) × (w ≤ 8) × Ready (section_acts s (count_byte (8 - w) w reserved s) (R.Rows.acts rows.now)) n out.old }
+    ensures { Filled (section_acts s (count_byte (8 - w) w reserved s) (R.Rows.acts rows.now)) n out.old result out.new }
 {
-    let s = m.switch_groups;
     if s.present {
-        let n1 = fill_all(out, n, true, &count_byte(m.reserved_switch_groups, 3, s, 5));
+        let n1 = fill_all(out, n, true, &count_byte(reserved, s, w));
         let count = s.count;
-        fill_switch_groups(switch_groups, members, count as usize, out, n1)
-    } else {
-        n
-    }
-}
-
-fn fill_presets_section(
-    m: MpegH3dAudioScene,
-    presets: &[u16],
-    conditions: &[u16],
-    out: &mut [u8],
-    n: usize,
-) -> usize
-    requires { (within m.presets 7 presets.now ≡ true) × Ready (presets_acts m (family_acts preset 13 condition presets.now conditions.now)) n out.old }
-    ensures { Filled (presets_acts m (family_acts preset 13 condition presets.now conditions.now)) n out.old result out.new }
-{
-    let s = m.presets;
-    if s.present {
-        let n1 = fill_all(out, n, true, &count_byte(m.reserved_presets, 3, s, 5));
-        let count = s.count;
-        fill_presets(presets, conditions, count as usize, out, n1)
+        fill_rows(rows, 0, count as usize, out, n1)
     } else {
         n
     }
@@ -241,9 +169,17 @@ fn fill_fields(
     ensures { Filled (scene_acts m (groups.now ∷ switch_groups.now ∷ members.now ∷ presets.now ∷ conditions.now ∷ [])) 0 out.old result out.new }
 {
     let n1 = fill_all(out, 0, true, &head_bytes(m));
-    let n2 = fill_groups_section(m, groups, out, n1);
-    let n3 = fill_switch_groups_section(m, switch_groups, members, out, n2);
-    fill_presets_section(m, presets, conditions, out, n3)
+    let n2 = fill_section(m.groups, m.reserved_groups, 7, &Groups { groups }, out, n1);
+    let s = Switches {
+        switch_groups,
+        members,
+    };
+    let n3 = fill_section(m.switch_groups, m.reserved_switch_groups, 5, &s, out, n2);
+    let t = Presets {
+        presets,
+        conditions,
+    };
+    fill_section(m.presets, m.reserved_presets, 5, &t, out, n3)
 }
 
 pub fn fill(

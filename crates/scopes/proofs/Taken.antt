@@ -4,9 +4,7 @@ use mathlib.Core.Path.{◌≡◌, refl, sym, ap, subst, ◌∙◌}
 use mathlib.Core.List.{List, [], ◌∷◌}
 use mathlib.Core.Bool.{Bool, true, false, ◌||◌}
 use native.Mathlib.Omega.{arith}
-use native.Mathlib.Numerals.{add-one}
-use lib.ListN.{length, get_or, drop, drop_of_length-le}
-use lib.Seq.{drop-cons}
+use lib.ListN.{get_or}
 use lib.Dec.{eqb}
 use borrow.Author.Tests.{eqb-true, eq-eqb, ne_eqb}
 use Rattle.wire.specs.Lists.{each}
@@ -14,20 +12,26 @@ use Rattle.wire.specs.Bits.{part, split, total}
 use Rattle.wire.specs.Act.{pick}
 use Rattle.wire.specs.Layout.{num, reserved, Columns, put, set, row, blank, has}
 use Rattle.wire.specs.Straight.{ones, puts_at, took, taken, spans}
+use Rattle.std.specs.List.{list_any}
 use Rattle.wire.proofs.Fields.{part_below}
+use Rattle.wire.proofs.Writing.Plain.{no_quick}
 use Rattle.scopes.specs.Layout.{case_of, case_at, ids, scope}
 use Rattle.scopes.specs.Rows.{id_bytes, scope_row, scope_at}
 use Rattle.scopes.specs.declared.rows.DrcScope.TheVariants.{Plain, Group, Preset}
 
--- ---- what is left of the list
+-- ---- the list, searched as std does
 
-pub has_turn : (k : ℕ) (l : List ℕ) (i : ℕ) → i < length l → has k (drop i l) ≡ eqb k (get_or l i 0) || has k (drop (i + 1) l)
-unfolding has
-has_turn k l i h = rw (add-one, drop-cons l i 0 h) refl
+eqb_swap : (x y : ℕ) → eqb x y ≡ eqb y x
+eqb_swap x y = go (eqb x y) refl
+  where
+    go : (b : Bool) → eqb x y ≡ b → eqb x y ≡ eqb y x
+    go true e = e ∙ sym (eq-eqb y x (sym (eqb-true x y e)))
+    go false e = e ∙ sym (ne_eqb y x (λ q. no_quick e (eq-eqb x y (sym q))))
 
-pub has_end : (k : ℕ) (l : List ℕ) (i : ℕ) → length l ≤ i → has k (drop i l) ≡ false
+has_any : (k : ℕ) (l : List ℕ) → list_any (λ t. eqb t k) l ≡ has k l
 unfolding has
-has_end k l i h = rw (drop_of_length-le l h) refl
+has_any k [] = refl
+has_any k (t ∷ l) = λ i. eqb_swap t k i || has_any k l i
 
 -- ---- the case of a type
 
@@ -47,9 +51,9 @@ case_past types (suc (suc zero)) h = absurd (omega arith)
 case_past types (suc (suc (suc zero))) h = absurd (omega arith)
 case_past types (suc (suc (suc (suc k)))) h = refl
 
-module _ (types : List ℕ) (kind : ℕ) (h : kind ≤ 3) {b : Bool} (e : b ≡ has kind types) where
+module _ (types : List ℕ) (kind : ℕ) (h : kind ≤ 3) {b : Bool} (e : b ≡ list_any (λ t. eqb t kind) types) where
   case_so : case_at types kind ≡ pick b 1 (pick (eqb kind 3) 2 0)
-  case_so = case_at_lem types kind (omega arith) ∙ ap (λ (x : Bool). pick x 1 (pick (eqb kind 3) 2 0)) (sym e)
+  case_so = case_at_lem types kind (omega arith) ∙ ap (λ (x : Bool). pick x 1 (pick (eqb kind 3) 2 0)) (sym (e ∙ has_any kind types))
 
   pub case_group : b ≡ true → 1 ≡ case_at types kind
   case_group t = sym (case_so ∙ ap (λ (x : Bool). pick x 1 (pick (eqb kind 3) 2 0)) t)

@@ -8,9 +8,8 @@ use lib.ListN.{length}
 use native.Mathlib.Omega.{arith}
 use Rattle.wire.specs.Bits.{Field, fit}
 use Rattle.wire.specs.Act.{Act, demand, byte, when, pick}
-use Rattle.wire.specs.Pen.{Checked, Quick, Ready, Filled, clean, bytes}
+use Rattle.wire.specs.Pen.{Checked, Quick, Ready, Filled, clean, bytes, Pen}
 use Rattle.wire.specs.Spell.{Spells, fit_all, FitsAll, ChecksAll, ReadyAll, FillsAll, none, more}
-use Rattle.wire.specs.declared.pen.Pen.{Pen}
 use Rattle.wire.proofs.Writing.Acts.{and_both, both_and}
 use Rattle.wire.proofs.Writing.Passes.{then, quick_clean, quick_odd, Filling, fill_start, fill_last}
 use Rattle.wire.proofs.Writing.Plain.{all_checked, no_quick, ready_part, fill_part_lem}

@@ -10,20 +10,6 @@ use super::rows::DrcScope;
 use wire::bits::{part, wide};
 use wire::ids::{GroupId, GroupPresetId};
 
-// Whether a type is one of those that carry a group ID.
-pub fn contains(types: &[u16], kind: u16) -> bool
-    ensures { result ≡ has kind types.now }
-{
-    let mut i = 0;
-    while i < types.len() {
-        if kind == types[i] {
-            return true;
-        }
-        i += 1;
-    }
-    false
-}
-
 // The case of a type: 0 plain, 1 with a group ID, 2 with a preset ID.
 pub fn case_of(types: &[u16], kind: u16) -> u16
     ensures { result ≡ case_at types.now kind }
@@ -31,7 +17,7 @@ pub fn case_of(types: &[u16], kind: u16) -> u16
     if 3 < kind {
         return 0;
     }
-    if contains(types, kind) {
+    if types.contains(&kind) {
         return 1;
     }
     if kind == 3 { 2 } else { 0 }
@@ -45,7 +31,7 @@ pub fn id_bytes(types: &[u16], kind: u16) -> usize
 }
 
 // A scope with the reserved bits of its type byte.
-#[derive(Clone, Copy)]
+#[derive(Clone, Copy, PartialEq, Eq)]
 pub struct Typed {
     pub reserved_type: u16,
     pub scope: DrcScope,

@@ -5,7 +5,7 @@ ghost use Rattle.scopes.specs.Rows.{scope_row, scope_of};
 use wire::ids::{GroupId, GroupPresetId};
 
 // What a row is about: no ID, a group or a preset. `Unknown` has a case above 2, which no body has and writing refuses.
-#[derive(Clone, Copy)]
+#[derive(Clone, Copy, PartialEq, Eq)]
 pub enum DrcScope {
     Plain(u16),
     Group {

@@ -9,7 +9,7 @@ use lib.Dec.{leb}
 use Rattle.wire.specs.Lists.{each}
 use Rattle.wire.specs.Bits.{part, total, split}
 use Rattle.wire.specs.Prog.{Out, done, short, needing, run, u8}
-use Rattle.wire.specs.Reads.{end_of, short_of}
+use Rattle.wire.specs.Reads.{end_of}
 use Rattle.wire.specs.Layout.{Layout, end, one, optional, follows, ◌▹◌, flag, Columns, set, put, row, blank, flat}
 use Rattle.wire.specs.Straight.{ends, ones, puts_at, took}
 use Rattle.wire.specs.declared.reads.Short.{Short}
@@ -17,7 +17,7 @@ use Rattle.wire.specs.declared.pen.Fault.TheVariants as F
 use Rattle.wire.proofs.Fields.{part_below}
 use Rattle.wire.proofs.Reading.Runs.{run_u8, u8_done}
 use Rattle.wire.proofs.Reading.Walk.{as_done}
-use Rattle.wire.proofs.Reading.Loops.{Measuring, carry_turn}
+use Rattle.wire.proofs.Reading.Loops.{Measuring, carry_turn, all_left, one_less_left}
 use Rattle.wire.proofs.Layouts.Straight.{Whole, flat_ends, ones_got, Behind, behind_one, one_cut, one_more}
 use Rattle.stream_groups.specs.Layout.{group}
 use Rattle.stream_groups.specs.Rows.{located, group_id, in_main, in_auxiliary, group_row, location_cells}
@@ -57,17 +57,17 @@ byte_ends s at = ap end_of (run_u8 s at) ∙ go (leb (at + 1) (length s))
     go false = refl
 
 -- the first byte is not there, or is there
-module _ (s : List ℕ) (at : ℕ) {o : Out ℕ} (e : o ≡ run u8 s at) where
-  pub group_cut : {x y : Short} → o ≡ short x → y ≡ short_of o → short y ≡ end_of (run (flat 5 group) s at)
-  group_cut d q = ap short (q ∙ ap short_of d) ∙ sym (ap end_of d) ∙ one_cut _ s at (ap end_of e ∙ byte_ends s at) (ap end_of d) ∙ sym (group_ends s at)
+module _ (s : List ℕ) (at : ℕ) where
+  pub group_cut : {x : Short} → short x ≡ run u8 s at → short x ≡ end_of (run (flat 5 group) s at)
+  group_cut e = one_cut _ s at (ap end_of e ∙ byte_ends s at) ∙ sym (group_ends s at)
 
-  module _ (h : at ≤ length s) {b n : ℕ} (d : o ≡ done b n) where
+  module _ (h : at ≤ length s) {b n : ℕ} (e : done b n ≡ run u8 s at) where
     pub group_behind : Behind s at n
-    group_behind = behind_one s at h (ap end_of e ∙ byte_ends s at) (ap end_of d)
+    group_behind = behind_one s at h (ap end_of e ∙ byte_ends s at)
 
     group_more : {p : ℕ} → p ≡ part 0 1 b → {r : Out (Unit {0})} → r ≡ ends (ones (1 - p)) s n → r ≡ end_of (run (flat 5 group) s at)
     group_more q w =
-        let i : b ≡ get_or s at 0 = (u8_done s at (sym e ∙ d)).0 in
+        let i : b ≡ get_or s at 0 = (u8_done s at (sym e)).0 in
         one_more group_behind (ap (λ (k : ℕ). 1 - k) (q ∙ ap (part 0 1) i)) w ∙ sym (group_ends s at)
 
     module _ {p : ℕ} (q : p ≡ part 0 1 b) where
@@ -116,9 +116,13 @@ module _ {s : List ℕ} {at : ℕ} (w : Whole 5 group s at) where
 
 -- ---- groups passed without a test: the body has a byte for each that is left, and some to spare
 
-pub record Sparing (s : List ℕ) (at count spare pos left : ℕ) : Type 0 where
-  pub measures : Measuring (flat 5 group) s at count pos left
-  pub room : pos + left + spare ≡ length s
+-- the first i of them are passed
+pub record Sparing (s : List ℕ) (at count spare pos i : ℕ) : Type 0 where
+  pub measures : Measuring (flat 5 group) s at count pos (count - i)
+  pub room : pos + (count - i) + spare ≡ length s
+
+pub sparing_start : (s : List ℕ) (at count : ℕ) → at + count ≤ length s → Sparing s at count (length s - at - count) at 0
+sparing_start s at count h = record { measures = rw all_left (record { inside = omega arith; same = refl }); room = omega arith }
 
 -- a group whose bytes are there ends behind them
 group_there : (s : List ℕ) (at more : ℕ) → 1 - part 0 1 (get_or s at 0) ≡ more → at + more < length s → end_of (run (flat 5 group) s at) ≡ done tt (at + more + 1)
@@ -127,9 +131,9 @@ group_there s at more z h =
     group_ends s at ∙ ap (λ (k : ℕ). ends (ones (1 + k)) s at) z ∙ ones_got (1 + more) s at (omega arith) ∙ ap (done tt) n
 
 -- the next group, whose second byte, if it has one, is of those to spare
-pub spare_turn : {s : List ℕ} {at count spare pos left : ℕ} → Sparing s at count spare pos left → 0 < left → {b p : ℕ} → b ≡ get_or s pos 0 → p ≡ part 0 1 b
-    → (more : ℕ) {spare' pos' : ℕ} → 1 - p ≡ more → more ≤ spare → spare' ≡ spare - more → pos' ≡ pos + more → Sparing s at count spare' (pos' + 1) (left - 1)
-spare_turn {s} {pos = pos} i h e q more z l x y =
+pub spare_turn : {s : List ℕ} {at count spare pos j : ℕ} → Sparing s at count spare pos j → j < count → {b p : ℕ} → b ≡ get_or s pos 0 → p ≡ part 0 1 b
+    → (more : ℕ) {spare' pos' : ℕ} → 1 - p ≡ more → more ≤ spare → spare' ≡ spare - more → pos' ≡ pos + more → Sparing s at count spare' (pos' + 1) (j + 1)
+spare_turn {s} {count = count} {pos = pos} {j} i h e q more z l x y =
     let k = group_there s pos more (ap (λ (b : ℕ). 1 - part 0 1 b) (sym e) ∙ ap (λ (p : ℕ). 1 - p) (sym q) ∙ z) (omega (arith, i.room)) in
     let (_, r, _) = as_done (λ g. tt) (run (flat 5 group) s pos) (k ∙ ap (λ (n : ℕ). done tt (n + 1)) (sym y)) in
-    record { measures = carry_turn i.measures h r (λ l. refl); room = omega (arith, i.room) }
+    record { measures = rw (one_less_left count j) (carry_turn i.measures (omega arith) (sym r) (λ l. refl)); room = omega (arith, i.room) }

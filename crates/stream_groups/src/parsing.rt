@@ -1,5 +1,5 @@
 // Reading groups: one pass measures, one takes what was measured and tests nothing.
-ghost use Rattle.std.specs.Prelude.{◌≡◌, true, ◌+◌, ◌*◌, ◌≤◌, length};
+ghost use Rattle.std.specs.Prelude.{ℕ, List, ◌≡◌, true, ◌+◌, ◌*◌, ◌≤◌, length};
 ghost use mathlib.Core.List.{flat_map};
 ghost use Rattle.std.proofs.lemmas.List.Edits.{sets};
 ghost use Rattle.wire.specs.Prog.{done, run, many};
@@ -11,26 +11,32 @@ ghost use Rattle.stream_groups.specs.Rows.{group_row};
 use super::rows::{AuxiliaryLocation, GROUP_COLUMNS, MultiStreamGroup};
 use wire::bits::{part, wide};
 use wire::ids::GroupId;
-use wire::reads::{Byte, Ends, byte_at, head};
+use wire::list::{Measure, Store, rows_end};
+use wire::reads::{Short, byte_at, head};
 use wire::rows::put_row;
 
-// Where a group ends: an auxiliary byte follows exactly if isInMainStream is 0.
-fn group_end(body: &[u8], at: usize) -> Ends
-    requires { at ≤ length body.now }
-    ensures { ends_out result ≡ end_of (run (flat 5 group) body.now at) }
-{
-    let a = byte_at(body, at);
-    let Byte::Got(e, next) = a else {
-        return Ends::Short(a.short());
-    };
-    if part(e, 0, 1) == 0 {
-        return head(body, next, 1);
+// A row of table 8, as a list of them is measured and stored.
+pub struct Group;
+
+// ---- measured
+
+// An auxiliary byte follows exactly if isInMainStream is 0.
+impl Measure for Group {
+    ghost Read = { List ℕ };
+
+    ghost reads = { λ _. flat 5 group };
+
+    fn end(&self, body: &[u8], at: usize) -> Result<usize, Short> {
+        let (e, next) = byte_at(body, at)?;
+        if part(e, 0, 1) == 0 {
+            return head(body, next, 1);
+        }
+        Ok(next)
     }
-    Ends::At(next)
 }
 
 // How far groups were passed: the next position, and the groups that are left.
-#[derive(Clone, Copy)]
+#[derive(Clone, Copy, PartialEq, Eq)]
 struct Reached {
     pos: usize,
     left: usize,
@@ -44,56 +50,39 @@ fn quick_groups(body: &[u8], at: usize, count: usize) -> Reached
 {
     let mut spare = body.len() - at - count;
     let mut pos = at;
-    let mut left = count;
-    while 0 < left {
+    for i in 0..count {
         if part(wide(body[pos]), 0, 1) == 0 {
             if spare == 0 {
-                return Reached { pos, left };
+                return Reached {
+                    pos,
+                    left: count - i,
+                };
             }
             spare -= 1;
             pos += 1;
         }
         pos += 1;
-        left -= 1;
     }
-    Reached { pos, left }
+    Reached { pos, left: 0 }
 }
 
-// Where groups end, with a test of each byte.
-fn groups_end(body: &[u8], at: usize, count: usize) -> Ends
-    requires { at ≤ length body.now }
-    ensures { ends_out result ≡ end_of (run (many count (flat 5 group)) body.now at) }
-{
-    let mut pos = at;
-    let mut left = count;
-    while 0 < left {
-        let a = group_end(body, pos);
-        let Ends::At(next) = a else {
-            return a;
-        };
-        pos = next;
-        left -= 1;
-    }
-    Ends::At(pos)
-}
-
-// Where `count` groups end.
-pub fn measure_groups(body: &[u8], at: usize, count: usize) -> Ends
+// Where `count` groups end; each byte is tested where the quick pass is not sure.
+pub fn measure_groups(body: &[u8], at: usize, count: usize) -> Result<usize, Short>
     requires { at ≤ length body.now }
     ensures { ends_out result ≡ end_of (run (many count (flat 5 group)) body.now at) }
 {
     if count <= body.len() - at {
         let r = quick_groups(body, at, count);
-        groups_end(body, r.pos, r.left)
+        rows_end(&Group, body, r.pos, r.left)
     } else {
-        groups_end(body, at, count)
+        rows_end(&Group, body, at, count)
     }
 }
 
 // ---- taken, once measured
 
 // A group, and the next position.
-#[derive(Clone, Copy)]
+#[derive(Clone, Copy, PartialEq, Eq)]
 struct Placed {
     group: MultiStreamGroup,
     next: usize,
@@ -123,20 +112,22 @@ fn group_at(body: &[u8], at: usize) -> Placed
     }
 }
 
-// Stores `count` groups that were measured as the first rows of table 8.
-pub fn fill_groups(body: &[u8], at: usize, count: usize, groups: &mut [u16])
-    requires { (at ≤ length body.now) × (is_done (run (many count (flat 5 group)) body.now at) ≡ true) × (5 * count ≤ length groups.old) }
-    ensures { groups.new ≡ sets groups.old 0 (flat_map (λ r. r) (rows_of (run (many count (flat 5 group)) body.now at))) }
-{
-    let mut pos = at;
-    let mut left = count;
-    let mut to = 0;
-    while 0 < left {
-        let p = group_at(body, pos);
-        let row = p.group.columns();
-        put_row(groups, to, &row);
-        pos = p.next;
-        left -= 1;
-        to += GROUP_COLUMNS;
+impl Store for Group {
+    ghost Read = { List ℕ };
+
+    ghost reads = { λ _. flat 5 group };
+
+    ghost may = { λ _ _. Unit {0} };
+
+    ghost COLUMNS = { 5 };
+
+    ghost columns = { λ _ r. r };
+
+    const COLUMNS: usize = GROUP_COLUMNS;
+
+    fn store(&self, body: &[u8], at: usize, table: &mut [u16], to: usize) -> usize {
+        let p = group_at(body, at);
+        put_row(table, to, &p.group.columns());
+        p.next
     }
 }

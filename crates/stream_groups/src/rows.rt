@@ -7,7 +7,7 @@ use wire::bits::{flag, wide};
 use wire::ids::GroupId;
 
 // isInTS and auxiliaryStreamID of a group that an auxiliary stream carries.
-#[derive(Clone, Copy)]
+#[derive(Clone, Copy, PartialEq, Eq)]
 pub struct AuxiliaryLocation {
     pub is_in_ts: u16,
     pub auxiliary_stream_id: u16,
@@ -25,7 +25,7 @@ impl AuxiliaryLocation {
 }
 
 // The auxiliary location of a group, where there is one.
-#[derive(Clone, Copy)]
+#[derive(Clone, Copy, PartialEq, Eq)]
 pub struct Auxiliary {
     pub present: u16,
     pub location: AuxiliaryLocation,
@@ -55,7 +55,7 @@ impl Auxiliary {
 }
 
 // A row of table 8: one mae_groupID entry.
-#[derive(Clone, Copy)]
+#[derive(Clone, Copy, PartialEq, Eq)]
 pub struct MultiStreamGroup {
     pub group_id: GroupId,
     pub is_in_main_stream: u16,

@@ -1,17 +1,17 @@
 // Writing groups: their bytes as numbers, the check pass, which counts plain rows, and the fill pass.
 ghost use Rattle.std.specs.Prelude.{◌≡◌, ◌+◌, ◌*◌, ◌<◌, ◌≤◌, ◌^◌, length};
 ghost use Rattle.wire.specs.Act.{rows};
-ghost use Rattle.wire.specs.Pen.{Checked, Quick, Ready, Filled};
+ghost use Rattle.wire.specs.Pen.{Checked, Quick, Ready, Filled, At};
 ghost use Rattle.wire.specs.Spell.{Spells, PlainRows};
-ghost use Rattle.wire.specs.declared.pen.Pen.TheVariants.{At};
 ghost use Rattle.stream_groups.specs.Rows.{group_cols, group_of};
 ghost use Rattle.stream_groups.specs.Write.{group_byte, location_byte, flags_of, placed_once, location_part, group_acts, row_acts};
 
 use super::rows::{Auxiliary, GROUP_COLUMNS, MultiStreamGroup};
 use wire::bits::{is_flag, pair, two_fit};
 use wire::pen;
-use wire::pen::{Fault, Passed, Pen};
+use wire::pen::{Fault, Pen};
 use wire::spell::{check_all, fill_all, two};
+use wire::written::Rows;
 
 // ---- the bytes
 
@@ -59,7 +59,7 @@ fn check_group(n: usize, g: MultiStreamGroup) -> Pen
     requires { n < 2 ^ 31 }
     ensures { Checked (group_acts g) 2 (At n) result }
 {
-    let p0 = pen::demand(Pen::At(n), Fault::Field, flags_hold(g));
+    let p0 = pen::demand(Ok(n), Fault::Field, flags_hold(g));
     let p1 = pen::demand(p0, Fault::Auxiliary, placed_once(g));
     let p2 = check_all(p1, true, &[group_byte(g)]);
     check_all(p2, g.auxiliary.present == 1, &[location_byte(g.auxiliary)])
@@ -86,41 +86,6 @@ fn plain_bytes(groups: &[u16], b: usize) -> usize
     0
 }
 
-// The plain rows before the first that is not, and their bytes.
-fn plain_rows(groups: &[u16], count: usize) -> Passed
-    requires { (count * 5 ≤ length groups.now) × (count < 2 ^ 16) }
-    ensures { PlainRows (row_acts groups.now) 2 count result.rows result.bytes }
-{
-    let mut bytes: usize = 0;
-    let mut i: usize = 0;
-    let mut b: usize = 0;
-    while i < count {
-        let k = plain_bytes(groups, b);
-        if k == 0 {
-            return Passed { rows: i, bytes };
-        }
-        bytes += k;
-        i += 1;
-        b += GROUP_COLUMNS;
-    }
-    Passed { rows: i, bytes }
-}
-
-// The rows of table 8 from the first; the row that is not plain is looked at again to name its fault.
-pub fn check_groups(n: usize, groups: &[u16], count: usize) -> Pen
-    requires { (count * 5 ≤ length groups.now) × (count < 2 ^ 16) × (n < 2 ^ 16) }
-    ensures { Checked (rows (row_acts groups.now) 0 count) (2 * count) (At n) result }
-{
-    let p = plain_rows(groups, count);
-    let i = p.rows;
-    let at = n + p.bytes;
-    if i < count {
-        check_group(at, MultiStreamGroup::of_columns(groups, i * GROUP_COLUMNS))
-    } else {
-        Pen::At(at)
-    }
-}
-
 // ---- the fill pass
 
 fn fill_location(a: Auxiliary, out: &mut [u8], n: usize) -> usize
@@ -142,17 +107,38 @@ fn fill_group(g: MultiStreamGroup, out: &mut [u8], n: usize) -> usize
     fill_location(g.auxiliary, out, n1)
 }
 
-// The rows of table 8, from the first.
-pub fn fill_groups(groups: &[u16], count: usize, out: &mut [u8], n: usize) -> usize
-    requires { (count * 5 ≤ length groups.now) × (count < 2 ^ 16) × Ready (rows (row_acts groups.now) 0 count) n out.old }
-    ensures { Filled (rows (row_acts groups.now) 0 count) n out.old result out.new }
-{
-    let mut at = n;
-    let mut i: usize = 0;
-    while i < count {
-        let g = MultiStreamGroup::of_columns(groups, i * GROUP_COLUMNS);
-        at = fill_group(g, out, at);
-        i += 1;
+// ---- the rows of table 8
+
+// The rows that are written.
+#[derive(Clone, Copy)]
+pub struct Groups<'a> {
+    pub groups: &'a [u16],
+}
+
+impl Rows for Groups<'_> {
+    ghost columns = { 5 };
+
+    ghost table = { λ t. t.groups.now };
+
+    ghost acts = { λ t i. row_acts t.groups.now i };
+
+    ghost most = { 2 };
+
+    ghost may = { λ _. Unit {0} };
+
+    fn plain(&self, i: usize) -> usize {
+        plain_bytes(self.groups, i * GROUP_COLUMNS)
     }
-    at
+
+    fn check(&self, n: usize, i: usize) -> Pen {
+        check_group(
+            n,
+            MultiStreamGroup::of_columns(self.groups, i * GROUP_COLUMNS),
+        )
+    }
+
+    fn fill(&self, i: usize, out: &mut [u8], n: usize) -> usize {
+        let g = MultiStreamGroup::of_columns(self.groups, i * GROUP_COLUMNS);
+        fill_group(g, out, n)
+    }
 }

@@ -1,4 +1,5 @@
 -- Switch groups read: the sizes of their bytes, where they end, and their columns and members once they are known to be there.
+use Rattle.std.specs.Prelude.{Ok, Err}
 use Prim.Native.Nat.{ℕ, ◌+◌, ◌*◌, ◌≤◌, ◌<◌}
 use mathlib.Core.Path.{◌≡◌, refl, sym, ap, ◌∙◌}
 use mathlib.Core.List.{List, [], ◌∷◌, flatten, flat_map}
@@ -9,12 +10,11 @@ use lib.Seq.{sets}
 use Rattle.wire.specs.Lists.{each, sum}
 use Rattle.wire.specs.Bits.{part, total, split, zeros}
 use Rattle.wire.specs.Prog.{Out, done, short, run, many}
-use Rattle.wire.specs.Reads.{map_out, end_of, is_done, pos_of, rows_of, short_of, Summed}
+use Rattle.wire.specs.Reads.{map_out, end_of, is_done, pos_of, rows_of, Summed}
 use Rattle.wire.specs.Nest.{Fillable, Nested}
 use Rattle.wire.specs.Layout.{of, row, set, put, has, flat, broken_row, layouts, cells, shown, tally, family_tally}
 use Rattle.wire.specs.Straight.{ends, ones, puts_at, took}
 use Rattle.wire.specs.declared.reads.Short.{Short}
-use Rattle.wire.specs.declared.reads.Sum.TheVariants as S
 use Rattle.wire.specs.declared.rows.Range.{Range}
 use Rattle.wire.proofs.Layouts.Cells.{all}
 use Rattle.wire.proofs.Layouts.Rowed.{weight}
@@ -46,9 +46,8 @@ fills = refl
 
 -- ---- measured
 
-pub two_lack : (s : List ℕ) (at : ℕ) → at ≤ length s → {o : Out (Unit {0})} {x y : Short} → o ≡ ends (ones 2) s at → o ≡ short x → y ≡ short_of o
-    → Summed switch_group_list (λ x. length x.1) 32 s at (S.Short y)
-two_lack s at h e d q = broken_lacks switch_group (flat 2 member) s at 32 h (head_lacks switch_group (flat 2 member) s at (rw head_sizes_lem e) d) d q
+pub two_lack : (s : List ℕ) (at : ℕ) → at ≤ length s → {x : Short} → short x ≡ ends (ones 2) s at → Summed switch_group_list (λ x. length x.1) 32 s at (Err x)
+two_lack s at h e = broken_lacks switch_group (flat 2 member) s at 32 h (head_lacks switch_group (flat 2 member) s at (rw head_sizes_lem e))
 
 -- behind the two bytes
 pub record Two (s : List ℕ) (at n : ℕ) : Type 0 where
@@ -57,25 +56,25 @@ pub record Two (s : List ℕ) (at n : ℕ) : Type 0 where
   pub inside : n ≤ length s
   pub goes : end_of (run switch_group_list s at) ≡ behind_head switch_group (flat 2 member) s at n
 
-pub two : (s : List ℕ) (at : ℕ) → at ≤ length s → {o : Out (Unit {0})} {n : ℕ} → o ≡ ends (ones 2) s at → o ≡ done tt n → Two s at n
+pub two : (s : List ℕ) (at : ℕ) → at ≤ length s → {n : ℕ} → done tt n ≡ ends (ones 2) s at → Two s at n
 unfolding ones total
-two s at h e d =
-    let i = ends_within (ones 2) s at h (sym e ∙ d) in
-    let q = ends_at (ones 2) s at (sym e ∙ d) in
-    record { begun = h; there = omega arith; inside = i; goes = head_got switch_group (flat 2 member) s at (rw head_sizes_lem e) d }
+two s at h e =
+    let i = ends_within (ones 2) s at h (sym e) in
+    let q = ends_at (ones 2) s at (sym e) in
+    record { begun = h; there = omega arith; inside = i; goes = head_got switch_group (flat 2 member) s at (rw head_sizes_lem e) }
 
-module _ {s : List ℕ} {at n b count : ℕ} (w : Two s at n) (q : b ≡ get_or s (at + 1) 0) (k : (count ≡ part 0 5 b + 1) × (count ≤ 32)) {o : Out (Unit {0})} (e : o ≡ ends (ones (count + 1)) s n) where
+module _ {s : List ℕ} {at n b count : ℕ} (w : Two s at n) (q : b ≡ get_or s (at + 1) 0) (k : (count ≡ part 0 5 b + 1) × (count ≤ 32)) where
   counted : count ≡ kids_of switch_group s at
   counted = k.0 ∙ ap (λ (b : ℕ). part 0 5 b + 1) q ∙ sym (count_is s at)
 
-  ended : o ≡ end_of (run switch_group_list s at)
-  ended = e ∙ sym (w.goes ∙ singles_behind 2 member pair_one s switch_group at count 1 (sym counted) (tail_sizes_lem s at) n)
+  ended : {o : Out (Unit {0})} → o ≡ ends (ones (count + 1)) s n → o ≡ end_of (run switch_group_list s at)
+  ended e = e ∙ sym (w.goes ∙ singles_behind 2 member pair_one s switch_group at count 1 (sym counted) (tail_sizes_lem s at) n)
 
-  pub all_lack : {x y : Short} → o ≡ short x → y ≡ short_of o → Summed switch_group_list (λ x. length x.1) 32 s at (S.Short y)
-  all_lack d z = broken_lacks switch_group (flat 2 member) s at 32 w.begun ended d z
+  pub all_lack : {x : Short} → short x ≡ ends (ones (count + 1)) s n → Summed switch_group_list (λ x. length x.1) 32 s at (Err x)
+  all_lack e = broken_lacks switch_group (flat 2 member) s at 32 w.begun (ended e)
 
-  pub all_got : {m : ℕ} → o ≡ done tt m → Summed switch_group_list (λ x. length x.1) 32 s at (S.Got count m)
-  all_got d = broken_got switch_group (flat 2 member) s at 32 w.begun ended d counted k.1
+  pub all_got : {m : ℕ} → done tt m ≡ ends (ones (count + 1)) s n → Summed switch_group_list (λ x. length x.1) 32 s at (Ok (count, m))
+  all_got e = broken_got switch_group (flat 2 member) s at 32 w.begun (ended e) counted k.1
 
 -- ---- filled
 

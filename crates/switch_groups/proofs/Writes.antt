@@ -1,6 +1,7 @@
 -- Switch groups written: what the two passes do with a row and its members.
+use Rattle.std.specs.Prelude.{Err}
 use Prim.Native.Nat.{ℕ, ◌+◌, ◌*◌, ◌-◌, ◌/◌, ◌^◌, ◌≤◌}
-use mathlib.Core.Path.{◌≡◌, refl, sym, ap, subst, ◌∙◌}
+use mathlib.Core.Path.{◌≡◌, refl, sym, ap, ◌∙◌}
 use mathlib.Core.List.{List, [], ◌∷◌, ◌++◌, map, flatten}
 use mathlib.Core.Bool.{Bool, true, false, ◌&&◌, and-true, and_assoc}
 use native.Mathlib.Omega.{arith}
@@ -9,17 +10,16 @@ use lib.ListN.{length}
 use lib.Dec.{leb, ltb}
 use borrow.Author.Tests.{leb-true}
 use Rattle.wire.specs.Bits.{field, is_flag, fit, total}
-use Rattle.wire.specs.Act.{Act, demand, rows}
+use Rattle.wire.specs.Act.{demand, rows}
 use Rattle.wire.specs.Pen.{Checked, Quick, Ready, Filled, clean, bytes}
 use Rattle.wire.specs.Layout.{field_of, writes, shown, cells, matches, matched, every, has, family_acts}
 use Rattle.wire.specs.Spell.{fit_all, Spelt, ChecksAll, ReadyAll, FillsAll, PlainRows}
-use Rattle.wire.specs.declared.pen.Fault.{Fault}
+use Rattle.wire.specs.declared.pen.Stopped.{Stopped}
 use Rattle.wire.specs.declared.pen.Fault.TheVariants as F
-use Rattle.wire.specs.declared.pen.Pen.{Pen}
-use Rattle.wire.specs.declared.pen.Pen.TheVariants.{At, Stop}
+use Rattle.wire.specs.Pen.{Pen, At}
 use Rattle.wire.proofs.Writing.Acts.{and_both}
 use Rattle.wire.proofs.Fields.{fits_cons, less_one_fits}
-use Rattle.wire.proofs.Writing.Passes.{then, here, Filling, fill_end}
+use Rattle.wire.proofs.Writing.Passes.{then, Filling, fill_end}
 use Rattle.wire.proofs.Writing.Plain.{all_checked, clean_all, ready_part, fill_part_lem}
 use Rattle.wire.proofs.Layouts.Cells.{all, distinct, free, eights, proper}
 use Rattle.wire.proofs.Layouts.Forms.{sure, below}
@@ -40,8 +40,6 @@ unfolding writes shown cells matches matched every flatten
 row_acts_lem t u i = rw add-zero
 
 -- so what is seen of the group whose columns begin there is said of row i
-pub row_quick : (t u : List ℕ) (i : ℕ) {b k : ℕ} {g : SwitchGroup} → g ≡ switch_group_of t b → b ≡ i * 9 → Quick (switch_group_acts u g) 35 k → Quick (family_acts switch_group 2 member t u i) 35 k
-row_quick t u i {k = k} e z q = subst (λ (l : List Act). Quick l 35 k) (ap (switch_group_acts u) (e ∙ ap (switch_group_of t) z) ∙ row_acts_lem t u i) q
 
 -- ---- its own fields, by the tests of a plain row
 
@@ -96,21 +94,21 @@ module _ (u : List ℕ) (g : SwitchGroup) where
       let (c, d) = and_both (fit (map (field_of (switch_group_cols g)) count_cells)) _ b in
       record { inside = omega (arith, i); few = few_so c }
 
-  module _ {n : ℕ} {p : Pen} (w : Checked (front_acts switch_group (length u / 2) (switch_group_cols g)) 2 (At n) p) where
-    pub front_behind : {m : ℕ} → p ≡ At m → Behind
-    front_behind e = behind (front_passed switch_group (length u / 2) (pair_acts u) (switch_group_cols g) w e)
+  pub front_stopped : {n : ℕ} {x : Stopped} → Checked (front_acts switch_group (length u / 2) (switch_group_cols g)) 2 (At n) (Err x) → Checked (switch_group_acts u g) 35 (At n) (Err x)
+  front_stopped w = broken_stopped switch_group (length u / 2) (pair_acts u) (switch_group_cols g) w 35 (omega arith) refl
 
-    pub front_near : {m : ℕ} → p ≡ At m → m ≤ n + 2
-    front_near e = rw e at w.near
+  module _ {n m : ℕ} (w : Checked (front_acts switch_group (length u / 2) (switch_group_cols g)) 2 (At n) (At m)) where
+    pub front_behind : Behind
+    front_behind = behind (front_passed switch_group (length u / 2) (pair_acts u) (switch_group_cols g) w refl)
 
-    pub front_stopped : {f : Fault} {m : ℕ} → p ≡ Stop f m → Checked (switch_group_acts u g) 35 (At n) p
-    front_stopped e = broken_stopped switch_group (length u / 2) (pair_acts u) (switch_group_cols g) w 35 (omega arith) e
+    pub front_near : m ≤ n + 2
+    front_near = w.near
 
-    pub row_checked : {m : ℕ} {q r : Pen} {vs : List ℕ} → p ≡ At m → Checked (rows (pair_acts u) g.members.first g.members.count) g.members.count (At m) q
+    pub row_checked : {q r : Pen} {vs : List ℕ} → Checked (rows (pair_acts u) g.members.first g.members.count) g.members.count (At m) q
         → Spelt (default_fields g) vs → ChecksAll true vs q r → Checked (switch_group_acts u g) 35 (At n) r
     unfolding writes
-    row_checked e x s y =
-        broken_checked switch_group (length u / 2) (pair_acts u) (switch_group_cols g) w 35 (here e x) (all_checked s y) (let h = (front_behind e).few in omega (arith, h))
+    row_checked x s y =
+        broken_checked switch_group (length u / 2) (pair_acts u) (switch_group_cols g) w 35 x (all_checked s y) (let h = front_behind.few in omega (arith, h))
 
   -- ---- the quick test
 

@@ -8,7 +8,7 @@ use wire::ids::{GroupId, SwitchGroupId};
 use wire::rows::Range;
 
 // One member of a switch group.
-#[derive(Clone, Copy)]
+#[derive(Clone, Copy, PartialEq, Eq)]
 pub struct SwitchGroupMember {
     pub reserved: u16,
     pub member_id: GroupId,
@@ -47,7 +47,7 @@ impl SwitchGroupMember {
 }
 
 // A switch group: its members are rows of table 3.
-#[derive(Clone, Copy)]
+#[derive(Clone, Copy, PartialEq, Eq)]
 pub struct SwitchGroup {
     pub reserved_id: u16,
     pub switch_group_id: SwitchGroupId,

@@ -9,10 +9,9 @@ use lib.Dec.{eqb}
 use borrow.Author.Tests.{eq-eqb, ne_eqb, leb-true}
 use Rattle.wire.specs.Bits.{is_flag, fit}
 use Rattle.wire.specs.Act.{Act, byte, when, pick}
-use Rattle.wire.specs.Pen.{Checked, Ready, Filled, clean, bytes}
+use Rattle.wire.specs.Pen.{Checked, Ready, Filled, clean, bytes, Pen}
 use Rattle.wire.specs.Layout.{Cell, end, optional, ◌▹◌, Columns, writes, shown, every, flagged, counted}
 use Rattle.wire.specs.Spell.{fields_of, fit_all, Spelt, ReadyAll, FillsAll}
-use Rattle.wire.specs.declared.pen.Pen.{Pen}
 use Rattle.wire.proofs.Writing.Acts.{and_both, clean_append}
 use Rattle.wire.proofs.Layouts.Cells.{fit_flags}
 use Rattle.wire.proofs.Writing.Passes.{then, nothing, Filling, fill_start, fill_last, fill_none}

@@ -9,21 +9,18 @@ ghost use Rattle.target_loudness.specs.Rows.{lower_row, target_row, target_bytes
 use super::rows::{DrcTargetLoudness, TargetLoudnessLower};
 use wire::bits::{part, wide};
 use wire::ids::DrcSetId;
-use wire::reads::{Ends, head};
+use wire::reads::{Short, head};
 
 // Where a target loudness ends that begins here if its flag is 1.
-pub fn target_end(body: &[u8], at: usize, present: u16) -> Ends
+pub fn target_end(body: &[u8], at: usize, present: u16) -> Result<usize, Short>
     requires { (at ≤ length body.now) × (present ≤ 1) }
     ensures { PartEnds 15 target present body.now at (ends_out result) }
 {
     if present == 1 {
-        let a = head(body, at, 1);
-        let Ends::At(n) = a else {
-            return a;
-        };
+        let n = head(body, at, 1)?;
         head(body, n, (part(wide(body[at]), 0, 1) + 1) as usize)
     } else {
-        Ends::At(at)
+        Ok(at)
     }
 }
 

@@ -6,7 +6,7 @@ use wire::bits::{ones, wide};
 use wire::ids::DrcSetId;
 
 // The lower value of a target loudness, with the reserved bits before it, where it is there.
-#[derive(Clone, Copy)]
+#[derive(Clone, Copy, PartialEq, Eq)]
 pub struct TargetLoudnessLower {
     pub present: u16,
     pub reserved: u16,
@@ -37,7 +37,7 @@ impl TargetLoudnessLower {
 }
 
 // The target loudness block of a DRC set, where it is there.
-#[derive(Clone, Copy)]
+#[derive(Clone, Copy, PartialEq, Eq)]
 pub struct DrcTargetLoudness {
     pub present: u16,
     pub reserved_upper: u16,

@@ -14,26 +14,24 @@ use Rattle.wire.specs.Prog.{run, u8, pass, many, ◌>>=◌}
 use Rattle.wire.specs.Layout.{reads, put, puts, shown, cells, tally}
 use Rattle.wire.proofs.Lists.{every_each}
 use Rattle.frame.specs.Kind.{Lent}
-use Rattle.frame.specs.Numbers.{accepted, refuses}
-use Rattle.frame.specs.Entry.{leaves, onto, into, Sizes, Need, needs, lacking, room, first_table, other_tables, filled, judging, sizes, placing, reading, measuring, tallying, gives, trail, writing}
+use Rattle.frame.specs.Numbers.{accepted, refuses, answer_of}
+use Rattle.frame.specs.Entry.{leaves, onto, into, Need, needs, lacking, room, first_table, other_tables, filled, judging, sizes, placing, reading, measuring, tallying, gives, trail, writing}
+use Rattle.frame.specs.Entry as E
 use Rattle.frame.specs.Body.{layouts, parse, with_place, tables, zeros}
 use Rattle.frame.specs.Ranges.{ranged, ranged_row}
 use Rattle.frame.specs.Claims.{Lowest, this, later, Claims, Fixed}
-use Rattle.frame.proofs.Numbers.{refused_back, answer_by, fixes}
+use Rattle.frame.proofs.Numbers.{fixes}
 use Rattle.frame.proofs.Judged.{was, ran_well, measured as was-measured}
 use Rattle.frame.proofs.Lawful.{Samples}
 use Rattle.frame.proofs.Tables.{rows_at}
 use Rattle.frame.proofs.Proofs as P
 use Rattle.text_label.specs.declared.rows.TextLabelLanguage.{TextLabelLanguage}
 use Rattle.text_label.specs.declared.rows.MpegH3dAudioTextLabel.{MpegH3dAudioTextLabel}
-use Rattle.text_label.specs.declared.Reading.{Reading}
-use Rattle.text_label.specs.declared.Reading.TheVariants as R
-use Rattle.text_label.specs.declared.Measured.{Measured}
-use Rattle.text_label.specs.declared.Measured.TheVariants as M
+use Rattle.text_label.specs.declared.Sizes.{Sizes}
 use Rattle.text_label.specs.Layout.{head, groups, switch_group_list, presets}
 use Rattle.text_label.specs.Rows.{language_of, Language}
 use Rattle.text_label.specs.Kind.{lists, entries_of, kind}
-use Rattle.text_label.specs.Contract.{needed, sized, read, measured, language_from}
+use Rattle.text_label.specs.Contract.{needed, sized, measured, language_from}
 use Rattle.text_label.proofs.Bodies.{one_preset, english, preset2, no_languages}
 use Rattle.text_label.proofs.Lawful.{lawful}
 use Rattle.text_label.proofs.Parsed.{entries_long, body_run}
@@ -56,7 +54,7 @@ samples = record {
   size' = sized 0 0 2;
   measures = refl;
   measures' = refl;
-  sizes_differ = λ e. let z : ◌≡◌ {A = ℕ} 12 2 = ap (λ (s : Sizes). s.before) e in omega arith;
+  sizes_differ = λ e. let z : ◌≡◌ {A = ℕ} 12 2 = ap (λ (s : E.Sizes). s.before) e in omega arith;
   count = 0;
   count' = 4;
   tallies = refl;
@@ -115,14 +113,14 @@ unfolding room first_table other_tables
 lowest languages entries l n (in_languages h) = this h
 lowest languages entries l n (in_entries h k) = later h (this k)
 
-sized_so : (body : List ℕ) (z : Sizes) → measuring kind body ≡ accepted z → (l : ℕ) × (n : ℕ) × (z ≡ sized l n z.before)
+sized_so : (body : List ℕ) (z : E.Sizes) → measuring kind body ≡ accepted z → (l : ℕ) × (n : ℕ) × (z ≡ sized l n z.before)
 unfolding sizes kind tables needs
 sized_so body z e =
     let (s, j, q) = was-measured kind body z e in
     let ls = s.tree.1.0 in
     let l = length (map (ranged_row 12 lists) (firsts (λ (l : Language). length (entries_of l)) 0 ls)) in
     let n = length (flat_map entries_of ls) in
-    (l, n, sym (subst (λ (z : Sizes). sized l n z.before ≡ z) q refl))
+    (l, n, sym (subst (λ (z : E.Sizes). sized l n z.before ≡ z) q refl))
 
 pub lacks_room : (body languages entries : List ℕ) (t r : ℕ)
     → (reading kind body (languages ∷ entries ∷ []) ≡ leaves (refuses 3 (t ∷ r ∷ [])) (languages ∷ entries ∷ [])) ↔
@@ -134,7 +132,7 @@ lacks_room body languages entries t r = (forth, back)
     forth h =
         let (z, e, d) = (claims.more_room.no_room body (languages ∷ entries ∷ []) t r).0 h in
         let (l, n, q) = sized_so body z e in
-        (l, n, z.before, e ∙ ap accepted q, low languages entries l n (subst (λ (z : Sizes). Lowest z.tables (languages ∷ entries ∷ []) t r) q d))
+        (l, n, z.before, e ∙ ap accepted q, low languages entries l n (subst (λ (z : E.Sizes). Lowest z.tables (languages ∷ entries ∷ []) t r) q d))
 
     back : (l : ℕ) × (n : ℕ) × (k : ℕ) × (measuring kind body ≡ accepted (sized l n k)) × Lacks languages entries l n t r
         → reading kind body (languages ∷ entries ∷ []) ≡ leaves (refuses 3 (t ∷ r ∷ [])) (languages ∷ entries ∷ [])
@@ -187,17 +185,12 @@ read_tables body languages entries languages' entries' m e =
 
 -- ---- the promises fix the answers themselves
 
-read_back : (r : Reading) → answer_by R.Done R.Refused (read r) ≡ r
-read_back (R.Done m) = refl
-read_back (R.Refused x) = ap R.Refused (refused_back x)
+measure_of : E.Sizes → Sizes
+measure_of z = record { languages = rows_at 0 z.tables; entries = rows_at 1 z.tables; k = z.before }
 
-measure_of : Sizes → Measured
-measure_of z = M.Done (record { languages = rows_at 0 z.tables; entries = rows_at 1 z.tables; k = z.before })
-
-measured_back : (r : Measured) → answer_by measure_of M.Refused (measured r) ≡ r
+measured_back : (s : Sizes) → measure_of (sized s.languages s.entries s.k) ≡ s
 unfolding measure_of
-measured_back (M.Done s) = refl
-measured_back (M.Refused x) = ap M.Refused (refused_back x)
+measured_back s = refl
 
-pub fixed : Fixed kind read measured
-fixed = fixes claims read R.Done R.Refused read_back measured measure_of M.Refused measured_back
+pub fixed : Fixed kind answer_of measured
+fixed = fixes claims (λ s. sized s.languages s.entries s.k) measure_of measured_back

@@ -1,17 +1,17 @@
--- What the filling pass has at hand: the bytes of a language that is known to be there, room for its entries, and what is stored of all languages in the end.
-use Prim.Native.Nat.{ℕ, ◌+◌, ◌*◌, ◌-◌, ◌≤◌, ◌<◌}
+-- What the filling pass has at hand: the bytes of a language that is known to be there, room for its entries, and what is stored of it in both tables.
+use Prim.Native.Nat.{ℕ, ◌+◌, ◌*◌, ◌≤◌}
 use mathlib.Core.Path.{◌≡◌, refl, sym, ap, subst, ◌∙◌}
 use mathlib.Core.List.{List, [], ◌++◌, append-nil, map, flatten, flat_map}
 use native.Mathlib.Omega.{arith}
 use lib.ListN.{length, get_or, length-append, length-map}
 use lib.Seq.{sets, slice}
 use Rattle.wire.specs.Lists.{each}
-use Rattle.wire.specs.Prog.{done, run, many}
+use Rattle.wire.specs.Prog.{done, run}
 use Rattle.wire.specs.Layout.{of, Borne, borne, borne_row}
-use Rattle.wire.specs.Nest.{Fillable, Nested, Nests}
+use Rattle.wire.specs.Nest.{Fillable, Nested, RowNested}
 use Rattle.wire.proofs.Reading.Steps.{sets_append}
 use Rattle.wire.proofs.Tables.{flat_map_lem}
-use Rattle.wire.proofs.Reading.Nest.{Stored, nested_as, Nesting, nest_start, nest_ready, nest_turn, nest_end}
+use Rattle.wire.proofs.Reading.Nest.{Stored, nested_as}
 use Rattle.wire.proofs.Layouts.Rowed.{each_wide, rows_long}
 use Rattle.wire.proofs.Lists.{flatten_append}
 use Rattle.frame.specs.Body.{tables}
@@ -27,7 +27,7 @@ use Rattle.text_label.specs.Read.{letters_at, language_is, language}
 use Rattle.text_label.specs.Kind.{entries_of}
 use Rattle.text_label.specs.Contract.{row_from, language_from}
 use Rattle.text_label.proofs.Found.{counted}
-use Rattle.text_label.proofs.Parsed.{entry_count, size_of, entries_long, list_run, LanguageRun, letters_so, language_run, language_weighs, entries_summed}
+use Rattle.text_label.proofs.Parsed.{entry_count, size_of, entries_long, list_run, LanguageRun, letters_so, language_run, language_weighs}
 
 -- ---- a language: its three lists one after the other
 
@@ -166,32 +166,27 @@ module _ (s : List ℕ) (at first : ℕ) (t : List ℕ) (f : Fillable language 4
           stored = all_stored;
         }
 
--- ---- the languages
+-- ---- its row of table 6, which has the first row of each list
 
-abbrev pub NestingLanguages : List ℕ → ℕ → ℕ → List ℕ → List ℕ → List ℕ → List ℕ → ℕ → ℕ → ℕ → ℕ → Type 0
-NestingLanguages s at count t₀ u₀ t u pos left to first = Nesting language size_of row_from 12 cells 4 s at count t₀ u₀ t u pos left to first
-
-pub languages_start : (s : List ℕ) (at count : ℕ) (t₀ u₀ : List ℕ) → Fillable (many count language) 4 (λ l. length (flat_map entries_of l)) s at 0 u₀
-    → NestingLanguages s at count t₀ u₀ t₀ u₀ at count 0 0
-languages_start s at count t₀ u₀ f = nest_start language size_of row_from 12 cells 4 s at count t₀ u₀ (rw entries_summed f)
-
-module _ {s : List ℕ} {at count : ℕ} {t₀ u₀ t u : List ℕ} {pos left to first : ℕ} (i : NestingLanguages s at count t₀ u₀ t u pos left to first) (h : 0 < left) where
-  pub language_ask : Fillable language 4 size_of s pos first u
-  language_ask = nest_ready language size_of row_from 12 cells 4 s at count t₀ u₀ i h
-
-  pub languages_turn : {r : TextLabelLanguage} {next first' : ℕ} {t' u' row : List ℕ} → Nested language 4 language_from cells s pos first u r next u'
-      → first' ≡ r.presets.entries.first + r.presets.entries.count
-      → row ≡ language_row r → t' ≡ sets t to row → NestingLanguages s at count t₀ u₀ t' u' next (left - 1) (to + 12) first'
-  unfolding ranged each
-  languages_turn {r} {next} {first'} n x y z =
-      let l = n.value in
-      let d : run language s pos ≡ done l next = n.reads ∙ ap (done l) (sym n.on) in
-      let c = counted s pos d in
-      let e : first' ≡ first + length l.1.0 + length l.1.1.0 + get_or l.0 11 0 =
-      x ∙ ap (λ (r : TextLabelLanguage). r.presets.entries.first + r.presets.entries.count) n.is in
-      nest_turn language size_of row_from 12 cells 4 s at count t₀ u₀ i h d (language_weighs s pos l next d) refl (cells_long s pos d) (omega (arith, e, c.presets, entries_long l))
-      (z ∙ ap (sets t to) (y ∙ ap language_row n.is)) n.stored
-
-pub languages_end : {s : List ℕ} {at count : ℕ} {t₀ u₀ t u : List ℕ} {pos left to first : ℕ} → NestingLanguages s at count t₀ u₀ t u pos left to first → left ≤ 0
-    → Nests language size_of row_from cells s at count t₀ u₀ t u
-languages_end {s} {at} {count} {t₀} {u₀} i h = nest_end language size_of row_from 12 cells 4 s at count t₀ u₀ i h
+pub language_nested : (s : List ℕ) (at first : ℕ) (u : List ℕ) {l : TextLabelLanguage} {next behind : ℕ} {t t' u' row : List ℕ} {to : ℕ}
+    → Nested language 4 language_from cells s at first u l next u'
+    → behind ≡ l.presets.entries.first + l.presets.entries.count → row ≡ language_row l → t' ≡ sets t to row
+    → RowNested language size_of row_from 12 cells 4 s at t to u first next behind t' u'
+unfolding ranged each
+language_nested s at first u {l} {next} {t = t} {to = to} n x y z =
+    let d : run language s at ≡ done n.value next = n.reads ∙ ap (done n.value) (sym n.on) in
+    let c = counted s at d in
+    let e : behind_is n.value ≡ first + size_of n.value = omega (arith, c.presets, entries_long n.value) in
+    record {
+      value = n.value;
+      reads = d;
+      weighs = language_weighs s at n.value next d;
+      wide = refl;
+      tall = cells_long s at d;
+      on = x ∙ ap (λ (r : TextLabelLanguage). r.presets.entries.first + r.presets.entries.count) n.is ∙ e;
+      outer = z ∙ ap (sets t to) (y ∙ ap language_row n.is);
+      inner = n.stored;
+    }
+  where
+    behind_is : Language → ℕ
+    behind_is v = first + length v.1.0 + length v.1.1.0 + get_or v.0 11 0

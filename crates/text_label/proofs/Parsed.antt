@@ -1,4 +1,5 @@
 -- The body byte by byte, over the layout of a label: what follows the first reads of a language and of the body, and what a run that is done says of it.
+use Rattle.std.specs.Prelude.{Result, Ok, Err}
 use Prim.Native.Nat.{ℕ, ◌+◌, ◌*◌, ◌-◌, ◌≤◌, ◌<◌}
 use mathlib.Core.Path.{◌≡◌, refl, sym, ap, subst, ◌∙◌}
 use mathlib.Core.List.{List, [], ◌∷◌, ◌++◌, map, flat_map}
@@ -9,19 +10,13 @@ use lib.Seq.{slice, get_or-drop, get_or-take}
 use Rattle.wire.specs.Lists.{each, sum}
 use Rattle.wire.specs.Bits.{part, total}
 use Rattle.wire.specs.Prog.{Prog, ret, Out, done, short, run, u8, u8s, pass, many, ◌>>=◌}
-use Rattle.wire.specs.Reads.{run_out, ends_out, short_of, end_of, Summed}
+use Rattle.wire.specs.Reads.{end_of, Summed}
 use Rattle.wire.specs.Layout.{Borne, bearing, borne_row}
 use Rattle.wire.specs.Straight.{ends, ones}
 use Rattle.wire.specs.declared.reads.Short.{Short}
-use Rattle.wire.specs.declared.reads.Run.{Run}
-use Rattle.wire.specs.declared.reads.Run.TheVariants as R
-use Rattle.wire.specs.declared.reads.Ends.{Ends}
-use Rattle.wire.specs.declared.reads.Ends.TheVariants as E
-use Rattle.wire.specs.declared.reads.Sum.{Sum}
-use Rattle.wire.specs.declared.reads.Sum.TheVariants as S
 use Rattle.wire.proofs.Reading.Runs.{run_split, run_ret}
 use Rattle.wire.proofs.Reading.Walk.{From, begun, onward, finished, as_done, cut_off_as, bytes_end_lem, byte_taken, bytes_taken}
-use Rattle.wire.proofs.Reading.Loops.{many_long, many_weighs, WentOn, sum_onward, sum_cut_off, summed_done, summed_short, summed_cut, sum_small}
+use Rattle.wire.proofs.Reading.Loops.{many_long, many_weighs, WentOn, sum_onward, sum_cut_off, summed_done, summed_short}
 use Rattle.wire.proofs.Reading.Nest.{flat_length, sum_suc}
 use Rattle.wire.proofs.Layouts.Straight.{singly, singly_there, singly_cut, ends_at, ends_within, ends_few, total_append}
 use Rattle.wire.proofs.Layouts.Bearers.{head_sizes, size_found, bear_ends}
@@ -104,57 +99,52 @@ ends_three : (s : List ℕ) (at : ℕ) {o : Out ℕ} → o ≡ run (pass 3) s at
 ends_three s at e = ap end_of e ∙ sym (bytes_end_lem 3 s at)
 
 -- measured: its three bytes, then list after list
-module _ (s : List ℕ) (at : ℕ) (h : at ≤ length s) {o : Run} (e : run_out o ≡ run (pass 3) s at) where
-  pub letters_lack : {x y : Short} → o ≡ R.Short x → y ≡ short_of (run_out o) → Summed language size_of 381 s at (S.Short y)
+module _ (s : List ℕ) (at : ℕ) (h : at ≤ length s) where
+  pub letters_lack : {x : Short} → short x ≡ run (pass 3) s at → Summed language size_of 381 s at (Err x)
   unfolding language_over
-  letters_lack d q =
-      let z : short_of (end_of (run_out o)) ≡ short_of (run_out o) = ap (λ (o : Run). short_of (end_of (run_out o))) d ∙ sym (ap (λ (o : Run). short_of (run_out o)) d) in
-      summed_short (cut_off_as (u8s 3) (λ l. tt) after_letters (begun language s at h) (ends_three s at e) (ap (λ (o : Run). end_of (run_out o)) d) (q ∙ sym z))
+  letters_lack e = summed_short (cut_off_as (u8s 3) (λ l. tt) after_letters (begun language s at h) (ends_three s at e))
 
-  module _ {p n : ℕ} (d : o ≡ R.Got p n) where
+  module _ {p n : ℕ} (e : done p n ≡ run (pass 3) s at) where
     three : (l : List ℕ) × From language s at (after_letters l) n
     unfolding language_over
-    three = let (l, r, _) = as_done (λ (l : List ℕ). tt) (run (u8s 3) s at) (sym (ends_three s at e) ∙ ap (λ (o : Run). end_of (run_out o)) d) in (l, onward (u8s 3) after_letters (begun language s at h) refl r)
+    three = let (l, r, _) = as_done (λ (l : List ℕ). tt) (run (u8s 3) s at) (sym (ends_three s at e)) in (l, onward (u8s 3) after_letters (begun language s at h) (sym r))
 
     pub letters_got : n ≤ length s
     letters_got = three.1.inside
 
-    module _ {g : Sum} (x : Summed (labels 7) entry_count 127 s n g) where
-      pub groups_lack : {y : Short} → g ≡ S.Short y → Summed language size_of 381 s at g
-      groups_lack c = summed_cut c (sum_cut_off (labels 7) (after_groups three.0) three.1 x c)
+    pub groups_lack : {y : Short} → Summed (labels 7) entry_count 127 s n (Err y) → Summed language size_of 381 s at (Err y)
+    groups_lack x = summed_short (sum_cut_off (labels 7) (after_groups three.0) three.1 x)
 
-      module _ {a n₂ : ℕ} (c : g ≡ S.Got a n₂) where
-        went_after_groups : WentOn (labels 7) entry_count (after_groups three.0) language s at n a n₂
-        went_after_groups = sum_onward (labels 7) (after_groups three.0) three.1 x c
+    module _ {a n₂ : ℕ} (x : Summed (labels 7) entry_count 127 s n (Ok (a, n₂))) where
+      went_after_groups : WentOn (labels 7) entry_count (after_groups three.0) language s at n a n₂
+      went_after_groups = sum_onward (labels 7) (after_groups three.0) three.1 x
 
-        pub groups_got : n₂ ≤ length s
-        groups_got = went_after_groups.place.inside
+      pub groups_got : n₂ ≤ length s
+      groups_got = went_after_groups.place.inside
 
-        module _ {sw : Sum} (y : Summed (labels 5) entry_count 127 s n₂ sw) where
-          pub switch_groups_lack : {z : Short} → sw ≡ S.Short z → Summed language size_of 381 s at sw
-          switch_groups_lack f = summed_cut f (sum_cut_off (labels 5) (after_lists three.0 went_after_groups.value) went_after_groups.place y f)
+      pub switch_groups_lack : {y : Short} → Summed (labels 5) entry_count 127 s n₂ (Err y) → Summed language size_of 381 s at (Err y)
+      switch_groups_lack y = summed_short (sum_cut_off (labels 5) (after_lists three.0 went_after_groups.value) went_after_groups.place y)
 
-          module _ {b n₃ : ℕ} (f : sw ≡ S.Got b n₃) where
-            went_after_switch_groups : WentOn (labels 5) entry_count (after_lists three.0 went_after_groups.value) language s at n₂ b n₃
-            went_after_switch_groups = sum_onward (labels 5) (after_lists three.0 went_after_groups.value) went_after_groups.place y f
+      module _ {b n₃ : ℕ} (y : Summed (labels 5) entry_count 127 s n₂ (Ok (b, n₃))) where
+        went_after_switch_groups : WentOn (labels 5) entry_count (after_lists three.0 went_after_groups.value) language s at n₂ b n₃
+        went_after_switch_groups = sum_onward (labels 5) (after_lists three.0 went_after_groups.value) went_after_groups.place y
 
-            pub switch_groups_got : n₃ ≤ length s
-            switch_groups_got = went_after_switch_groups.place.inside
+        pub switch_groups_got : n₃ ≤ length s
+        switch_groups_got = went_after_switch_groups.place.inside
 
-            module _ {q : Sum} (z : Summed (labels 5) entry_count 127 s n₃ q) where
-              with_presets : Labels → Language
-              with_presets d = language_is three.0 went_after_groups.value went_after_switch_groups.value d
+        with_presets : Labels → Language
+        with_presets d = language_is three.0 went_after_groups.value went_after_switch_groups.value d
 
-              pub presets_lack : {r : Short} → q ≡ S.Short r → Summed language size_of 381 s at q
-              unfolding with_presets
-              presets_lack k = summed_cut k (sum_cut_off (labels 5) (λ d. ret (with_presets d)) went_after_switch_groups.place z k)
+        pub presets_lack : {y : Short} → Summed (labels 5) entry_count 127 s n₃ (Err y) → Summed language size_of 381 s at (Err y)
+        unfolding with_presets
+        presets_lack z = summed_short (sum_cut_off (labels 5) (λ d. ret (with_presets d)) went_after_switch_groups.place z)
 
-              pub language_counted : {v m : ℕ} → q ≡ S.Got v m → Summed language size_of 381 s at (S.Got (a + (b + v)) m)
-              unfolding with_presets
-              language_counted k =
-                  let w = sum_onward (labels 5) (λ d. ret (with_presets d)) went_after_switch_groups.place z k in
-                  summed_done (finished w.place refl) (omega (arith, went_after_groups.is, went_after_switch_groups.is, w.is, entries_long (with_presets w.value)))
-                  (omega (arith, sum_small x c, sum_small y f, sum_small z k))
+        pub language_counted : {v m : ℕ} → Summed (labels 5) entry_count 127 s n₃ (Ok (v, m)) → Summed language size_of 381 s at (Ok (a + (b + v), m))
+        unfolding with_presets
+        language_counted z =
+            let w = sum_onward (labels 5) (λ d. ret (with_presets d)) went_after_switch_groups.place z in
+            summed_done (finished w.place refl) (omega (arith, went_after_groups.is, went_after_switch_groups.is, w.is, entries_long (with_presets w.value)))
+            (omega (arith, x.small, y.small, z.small))
 
 -- ---- a language that was read
 
@@ -239,44 +229,44 @@ count_four b e = omega (arith, e, part_below 0 4 b)
 abbrev pub rows_in : TextLabel → ℕ
 rows_in t = length (flat_map entries_of t.1.0)
 
-module _ (s : List ℕ) {o : Ends} (q : ends_out o ≡ ends (ones 2) s 0) where
-  pub head_lacks : {x y : Short} → o ≡ E.Short x → y ≡ short_of (ends_out o) → Summed kind.program rows_in 5715 s 0 (S.Short y)
-  unfolding text_label_over singly
-  head_lacks {x} {y} d z =
-      let e : y ≡ x = z ∙ ap (λ (o : Ends). short_of (ends_out o)) d in
-      summed_short (ap short e ∙ sym (as_program s (singly_cut 2 (λ l. after_head (get_or l 0 0) (get_or l 1 0)) s 0 (sym q ∙ ap ends_out d))))
+module _ (s : List ℕ) where
+  module _ {x : Short} (e : short x ≡ ends (ones 2) s 0) where
+    head_cut : run kind.program s 0 ≡ short x
+    unfolding text_label_over singly
+    head_cut = as_program s (singly_cut 2 (λ l. after_head (get_or l 0 0) (get_or l 1 0)) s 0 (sym e))
 
-  module _ {n : ℕ} (d : o ≡ E.At n) where
+    pub head_lacks : Summed kind.program rows_in 5715 s 0 (Err x)
+    head_lacks = summed_short (sym head_cut)
+
+    -- such a body is refused before anything else is asked
+    pub headless : Measures kind s (too_short x)
+    unfolding ones total
+    headless = measures_short kind s (omega (arith, ends_few (ones 2) s 0 (sym e))) head_cut
+
+  module _ {n : ℕ} (e : done tt n ≡ ends (ones 2) s 0) where
     two_taken : n ≡ 2
     unfolding ones total
-    two_taken = ends_at (ones 2) s 0 (sym q ∙ ap ends_out d)
+    two_taken = ends_at (ones 2) s 0 (sym e)
 
     pub head_got : n ≤ length s
-    head_got = ends_within (ones 2) s 0 (omega arith) (sym q ∙ ap ends_out d)
+    head_got = ends_within (ones 2) s 0 (omega arith) (sym e)
 
     pub second_there : 1 < length s
     second_there = omega (arith, two_taken, head_got)
 
-    pub body_counted : {b count : ℕ} {r : Sum} → b ≡ get_or s 1 0 → count ≡ part 0 4 b
+    pub body_counted : {b count : ℕ} {r : Result (ℕ × ℕ) Short} → b ≡ get_or s 1 0 → count ≡ part 0 4 b
         → Summed (many count language) (λ l. length (flat_map entries_of l)) (381 * count) s n r → Summed kind.program rows_in 5715 s 0 r
     body_counted {r = r} u v x =
-        go r refl (subst (λ (c : ℕ). Summed (many c language) (λ l. length (flat_map entries_of l)) (381 * c) s 2 r) (v ∙ ap (part 0 4) u) (rw two_taken at x))
+        go r (subst (λ (c : ℕ). Summed (many c language) (λ l. length (flat_map entries_of l)) (381 * c) s 2 r) (v ∙ ap (part 0 4) u) (rw two_taken at x))
       where
         c : ℕ
         c = part 0 4 (get_or s 1 0)
 
-        go : (y : Sum) → r ≡ y → Summed (many c language) (λ l. length (flat_map entries_of l)) (381 * c) s 2 r → Summed kind.program rows_in 5715 s 0 r
-        go (S.Got v m) q x =
-            let g = sum_onward (many c language) (λ l. ret (body_is (get_or s 0 0) (get_or s 1 0) l)) (head_there s second_there) x q in
-            rw q (summed_done (finished g.place refl) (sym g.is) (omega (arith, sum_small x q, count_four (get_or s 1 0) {count = c} refl)))
-        go (S.Short y) q x = summed_cut q (sum_cut_off (many c language) (λ l. ret (body_is (get_or s 0 0) (get_or s 1 0) l)) (head_there s second_there) x q)
-
--- a body that ends before its languages is refused
-pub headless : (s : List ℕ) {o : Out (Unit {0})} → o ≡ ends (ones 2) s 0 → {x : Short} → o ≡ short x → Measures kind s (too_short (short_of o))
-unfolding text_label_over singly ones total
-headless s e d =
-    let q = as_program s (singly_cut 2 (λ l. after_head (get_or l 0 0) (get_or l 1 0)) s 0 (sym e ∙ d)) in
-    subst (λ (y : Short). Measures kind s (too_short y)) (sym (ap short_of d)) (measures_short kind s (omega (arith, ends_few (ones 2) s 0 (sym e ∙ d))) q)
+        go : (r : Result (ℕ × ℕ) Short) → Summed (many c language) (λ l. length (flat_map entries_of l)) (381 * c) s 2 r → Summed kind.program rows_in 5715 s 0 r
+        go (Ok y) x =
+            let g = sum_onward (many c language) (λ l. ret (body_is (get_or s 0 0) (get_or s 1 0) l)) (head_there s second_there) x in
+            summed_done (finished g.place refl) (sym g.is) (omega (arith, x.small, count_four (get_or s 1 0) {count = c} refl))
+        go (Err y) x = summed_short (sum_cut_off (many c language) (λ l. ret (body_is (get_or s 0 0) (get_or s 1 0) l)) (head_there s second_there) x)
 
 -- the languages of a body that was read begin behind the second byte
 pub record BodyRun (s : List ℕ) (t : TextLabel) (k : ℕ) : Type 0 where

@@ -1,4 +1,5 @@
 -- What is known of a body that was measured: its sizes, its record, its tally, and that filling tables 6 and 7 gives the rows of the tree.
+use Rattle.std.specs.Prelude.{Ok, Err}
 use Prim.Native.Nat.{ℕ, ◌+◌, ◌*◌, ◌/◌, ◌≤◌, ◌<◌}
 use mathlib.Core.Path.{◌≡◌, refl, sym, ap, subst, ◌∙◌}
 use mathlib.Core.List.{List, [], ◌∷◌, ◌++◌, flatten, flat_map}
@@ -11,33 +12,27 @@ use lib.Dec.{leb, eqb}
 use borrow.Author.Tests.{eqb-true, leb-true, le-leb, lt-leb}
 use Rattle.wire.specs.Lists.{Every, all_cons, each, sum, firsts}
 use Rattle.wire.specs.Bits.{part, zeros, total}
-use Rattle.wire.specs.Prog.{ret, done, run, many, ◌>>=◌}
-use Rattle.wire.specs.Reads.{ends_out, sum_out, map_out, is_done, Summed}
+use Rattle.wire.specs.Prog.{ret, done, short, run, many, ◌>>=◌}
+use Rattle.wire.specs.Reads.{map_out, is_done, Summed}
 use Rattle.wire.specs.Straight.{ends, ones}
 use Rattle.wire.specs.Layout.{shown, cells, tally}
 use Rattle.wire.specs.Nest.{Fillable, Nests}
 use Rattle.wire.specs.declared.rows.Payload.{Payload}
-use Rattle.wire.specs.declared.reads.Ends.{Ends}
-use Rattle.wire.specs.declared.reads.Ends.TheVariants as E
 use Rattle.wire.specs.declared.reads.Short.{Short}
-use Rattle.wire.specs.declared.reads.Sum.{Sum}
-use Rattle.wire.specs.declared.reads.Sum.TheVariants as S
 use Rattle.wire.proofs.Tables.{flat_map_lem}
 use Rattle.wire.proofs.Fields.{part_below}
 use Rattle.wire.proofs.Reading.Walk.{step, run_ret, as_done}
 use Rattle.wire.proofs.Reading.Takes.{run_takes}
-use Rattle.wire.proofs.Reading.Loops.{none_left, sum_small}
+use Rattle.wire.proofs.Reading.Loops.{none_left}
 use Rattle.wire.proofs.Writing.Acts.{and_both}
 use Rattle.wire.proofs.Layouts.Straight.{ends_few}
 use Rattle.wire.proofs.Layouts.Rowed.{Wide}
 use Rattle.wire.proofs.Lists.{flat_rows}
 use Rattle.wire.proofs.Layouts.Fronts.{front}
-use Rattle.frame.specs.declared.Refusal.{Refusal}
-use Rattle.frame.specs.declared.Room.{Room}
-use Rattle.frame.specs.declared.Room.TheVariants as M
-use Rattle.frame.specs.Numbers.{accepted, refused, refusal}
+use Rattle.frame.specs.declared.Lack.{Lack}
+use Rattle.frame.specs.Numbers.{accepted}
 use Rattle.frame.specs.Entry.{too_short, no_room, onto, Sizes, needs, room, first_table, other_tables, lacking, filled, sizes, tail, Measures, Tallies, Reads}
-use Rattle.frame.specs.Sight.{and_table, and_tables, Tops, Roomy, Fills}
+use Rattle.frame.specs.Sight.{Room, Enough, and_table, and_tables, Tops, Roomy, Fills}
 use Rattle.frame.specs.Kind.{Lent}
 use Rattle.frame.specs.Body as B
 use Rattle.frame.specs.Body.{layouts, with_place, tables}
@@ -45,19 +40,17 @@ use Rattle.frame.specs.Ranges.{ranged_row}
 use Rattle.frame.proofs.Lawful.{Shaped}
 use Rattle.frame.proofs.Tables.{rows_at, has_table, enough, reads_lowest}
 use Rattle.frame.proofs.MoreRoom.{none_fit, fit_head}
-use Rattle.frame.proofs.Entries.{measures_done, measures_cut, tallies, Known, known, tops_known, fills_known, roomy, reads_unmeasured, reads_filled}
-use Rattle.text_label.specs.declared.Measured.{Measured}
-use Rattle.text_label.specs.declared.Measured.TheVariants as N
+use Rattle.frame.proofs.Entries.{measures_done, measures_cut, tallies, Known, known, tops_known, fills_known, roomy, reads_filled}
 use Rattle.text_label.specs.declared.Sizes as D
 use Rattle.text_label.specs.declared.rows.MpegH3dAudioTextLabel.{MpegH3dAudioTextLabel}
 use Rattle.text_label.specs.Layout.{head}
 use Rattle.text_label.specs.Rows.{Language, TextLabel}
 use Rattle.text_label.specs.Read.{language}
 use Rattle.text_label.specs.Kind.{lists, entries_of, language_rows, pieces, kind}
-use Rattle.text_label.specs.Contract.{needed, sized, measured, is_bare, row_from}
+use Rattle.text_label.specs.Contract.{needed, sized, is_bare, row_from}
 use Rattle.text_label.proofs.Lawful.{lawful}
 use Rattle.text_label.proofs.Parsed as P
-use Rattle.text_label.proofs.Parsed.{second_there, body_is, size_of, rows_in, BodyRun, body_run}
+use Rattle.text_label.proofs.Parsed.{entries_summed, second_there, body_is, size_of, rows_in, BodyRun, body_run}
 use Rattle.text_label.proofs.Filled.{cells as columnsIn}
 use Rattle.text_label.proofs.Found.{rows_from, rows_counted, rows_wide}
 
@@ -67,15 +60,15 @@ sizes_are t k = λ i. sized (rows_counted t.1.0 i) (rows_in t) k
 
 -- ---- measured
 
-module _ (body : List ℕ) (h : length body ≤ 65535) {r : Sum} (w : Summed kind.program rows_in 5715 body 0 r) {n k : ℕ} (e : r ≡ S.Got n k) where
+module _ (body : List ℕ) (h : length body ≤ 65535) {n k : ℕ} (w : Summed kind.program rows_in 5715 body 0 (Ok (n, k))) where
   ran_done : (t : TextLabel) × (run kind.program body 0 ≡ done t k) × (rows_in t ≡ n)
-  ran_done = as_done rows_in (run kind.program body 0) (sym w.is ∙ ap sum_out e)
+  ran_done = as_done rows_in (run kind.program body 0) (sym w.is)
 
   pub head_there : 2 ≤ length body
   head_there = (body_run body ran_done.1).inside
 
   pub rows_few : n < 65536
-  rows_few = omega (arith, sum_small w e)
+  rows_few = omega (arith, w.small)
 
   pub measured_so : {count : ℕ} → count ≡ part 0 4 (get_or body 1 0) → Measures kind body (accepted (sized count n k))
   measured_so c =
@@ -83,22 +76,21 @@ module _ (body : List ℕ) (h : length body ≤ 65535) {r : Sum} (w : Summed kin
       let z = sizes_are t k ∙ (λ i. sized (((body_run body d).counted ∙ sym c) i) (q i) k) in
       subst (λ (z : Sizes). Measures kind body (accepted z)) z (measures_done kind body h d)
 
-pub measured_short : (body : List ℕ) → length body ≤ 65535 → {r : Sum} → Summed kind.program rows_in 5715 body 0 r → {x : Short} → r ≡ S.Short x
-    → Measures kind body (too_short x)
-measured_short body h w e = measures_cut kind rows_in body h (sym (ap sum_out e) ∙ w.is)
+pub measured_short : (body : List ℕ) → length body ≤ 65535 → {x : Short} → Summed kind.program rows_in 5715 body 0 (Err x) → Measures kind body (too_short x)
+measured_short body h w = measures_cut kind rows_in body h w.is
 
 -- ---- without languages
 
 pub long_not_bare : (body : List ℕ) → 65535 < length body → false ≡ is_bare body
 long_not_bare body h = rw (lt-leb (length body) 65535 h) refl
 
-module _ (body : List ℕ) {o : Ends} (h : length body ≤ 65535) (e : ends_out o ≡ ends (ones 2) body 0) where
-  pub cut_not_bare : {x : Short} → o ≡ E.Short x → false ≡ is_bare body
+module _ (body : List ℕ) (h : length body ≤ 65535) where
+  pub cut_not_bare : {x : Short} → short x ≡ ends (ones 2) body 0 → false ≡ is_bare body
   unfolding ones total
-  cut_not_bare d = rw (le-leb (length body) 65535 h, lt-leb 2 (length body) (omega (arith, ends_few (ones 2) body 0 (sym e ∙ ap ends_out d)))) refl
+  cut_not_bare e = rw (le-leb (length body) 65535 h, lt-leb 2 (length body) (omega (arith, ends_few (ones 2) body 0 (sym e)))) refl
 
-  pub bare_so : {n count : ℕ} → o ≡ E.At n → count ≡ part 0 4 (get_or body 1 0) → eqb count 0 ≡ is_bare body
-  bare_so {count = count} d c = rw (le-leb (length body) 65535 h, le-leb 2 (length body) (second_there body e d)) (ap (λ (n : ℕ). eqb n 0) c)
+  pub bare_so : {n count : ℕ} → done tt n ≡ ends (ones 2) body 0 → count ≡ part 0 4 (get_or body 1 0) → eqb count 0 ≡ is_bare body
+  bare_so {count = count} e c = rw (le-leb (length body) 65535 h, le-leb 2 (length body) (second_there body e)) (ap (λ (n : ℕ). eqb n 0) c)
 
 bare_measured : (body : List ℕ) → is_bare body ≡ true → Measures kind body (accepted (sized 0 0 2))
 unfolding flat_map ◌>>=◌
@@ -109,21 +101,21 @@ bare_measured body q =
     let w = P.head_there body (leb-true 2 (length body) b) in
     let r : run kind.program body 0 ≡ done (body_is (get_or body 0 0) (get_or body 1 0) []) 2 =
     w.same
-    ∙ step (many (part 0 4 (get_or body 1 0)) language) (λ l. ret (body_is (get_or body 0 0) (get_or body 1 0) l)) body 2 refl
-    (ap (λ (k : ℕ). run (many k language) body 2) z ∙ none_left language body 0 2 (omega arith))
+    ∙ step (many (part 0 4 (get_or body 1 0)) language) (λ l. ret (body_is (get_or body 0 0) (get_or body 1 0) l)) body 2
+    (sym (ap (λ (k : ℕ). run (many k language) body 2) z ∙ none_left language body 0 2 (omega arith)))
     ∙ run_ret (body_is (get_or body 0 0) (get_or body 1 0) []) body 2 in
     subst (λ (z : Sizes). Measures kind body (accepted z)) (sizes_are (body_is (get_or body 0 0) (get_or body 1 0) []) 2)
     (measures_done kind body (leb-true (length body) 65535 a) r)
 
 -- ---- the room of both tables
 
-module _ (l n : ℕ) (t u : List ℕ) {a r : Room} (d : a ≡ and_table M.Enough (record { number = 6; columns = 12; rows = l }) t) (e : r ≡ and_table a (record { number = 7; columns = 4; rows = n }) u) where
-  room_so : r ≡ and_tables M.Enough (needed l n) (t ∷ u ∷ [])
+module _ (l n : ℕ) (t u : List ℕ) {a : Room} (d : a ≡ and_table Enough (record { number = 6; columns = 12; rows = l }) t) where
+  room_so : {r : Room} → r ≡ and_table a (record { number = 7; columns = 4; rows = n }) u → r ≡ and_tables Enough (needed l n) (t ∷ u ∷ [])
   unfolding and_tables first_table other_tables
-  room_so = e ∙ ap (λ (a : Room). and_table a (record { number = 7; columns = 4; rows = n }) u) d
+  room_so e = e ∙ ap (λ (a : Room). and_table a (record { number = 7; columns = 4; rows = n }) u) d
 
-  has_room : r ≡ M.Enough → lacking (needed l n) (t ∷ u ∷ []) ≡ none
-  has_room f = enough (needed l n) (t ∷ u ∷ []) (sym room_so ∙ f)
+  has_room : Enough ≡ and_table a (record { number = 7; columns = 4; rows = n }) u → lacking (needed l n) (t ∷ u ∷ []) ≡ none
+  has_room e = enough (needed l n) (t ∷ u ∷ []) (sym (room_so e))
 
 -- ---- a body that was measured: its languages stand behind the second byte
 
@@ -195,8 +187,8 @@ module _ (body : List ℕ) {l n k : ℕ} (m : Measures kind body (accepted (size
         let (b, _) = fit_head f in
         (omega (arith, a), omega (arith, b))
 
-    pub languages_ask : Fillable (many l language) 4 (λ l. length (flat_map entries_of l)) body 2 0 u
-    languages_ask = record { value = ls; end = knows.sound.before; reads = languages_read; begun = two_measured; all = whole_body; before = omega arith; room = omega (arith, both_fit.1, rows_are) }
+    pub languages_ask : Fillable (many l language) 4 (sum size_of) body 2 0 u
+    languages_ask = record { value = ls; end = knows.sound.before; reads = languages_read; begun = two_measured; all = whole_body; before = omega arith; room = omega (arith, both_fit.1, rows_are, ap (λ (f : List Language → ℕ). f ls) entries_summed) }
 
     pub languages_room : 12 * l ≤ length t
     languages_room = omega (arith, both_fit.0)
@@ -227,7 +219,7 @@ module _ (body : List ℕ) {l n k : ℕ} (m : Measures kind body (accepted (size
 -- ---- without languages no room is asked, and the tables stay
 
 bare_room : (t u : List ℕ) → lacking (needed 0 0) (t ∷ u ∷ []) ≡ none
-bare_room t u = has_room 0 0 t u (has_table _ t refl (le-leb 0 (length t / 12) (omega arith))) (has_table _ u refl (le-leb 0 (length u / 4) (omega arith))) refl
+bare_room t u = has_room 0 0 t u (has_table _ t refl (le-leb 0 (length t / 12) (omega arith))) (has_table _ u refl (le-leb 0 (length u / 4) (omega arith)))
 
 bare_fills : (body : List ℕ) → Measures kind body (accepted (sized 0 0 2)) → (t u : List ℕ) → Fills kind body (t ∷ u ∷ []) (t ∷ u ∷ [])
 unfolding kind tables filled first_table other_tables flatten firsts flat_map
@@ -244,24 +236,16 @@ module _ {body : List ℕ} {r : Bool} (b : r ≡ is_bare body) (e : r ≡ true) 
   pub bare_reads : {p : MpegH3dAudioTextLabel} → Tops kind body p → (t u : List ℕ) → Reads kind body (t ∷ u ∷ []) (accepted p) (t ∷ u ∷ [])
   bare_reads p t u = reads_filled kind body bare_sizes (t ∷ u ∷ []) (t ∷ u ∷ []) (bare_room t u) (bare_fills body bare_sizes t u) p
 
--- ---- read: what measuring says, and the room of both tables
+-- ---- read: a body that was measured, and the room of both tables
 
-module _ {body : List ℕ} {r : Measured} (m : Measures kind body (measured r)) where
-  pub not_measured : {x : Refusal} → r ≡ N.Refused x → (lent : Lent) → Reads kind body lent (refused (refusal x)) lent
-  not_measured e lent = reads_unmeasured kind body (rw e at m) lent
+module _ {body : List ℕ} {s : D.Sizes} (m : Measures kind body (accepted (sized s.languages s.entries s.k))) {t u : List ℕ} {a : Room}
+    (d : a ≡ and_table Enough (record { number = 6; columns = 12; rows = s.languages }) t) where
+  pub lacks_room : {x : Lack} → Err x ≡ and_table a (record { number = 7; columns = 4; rows = s.entries }) u → Reads kind body (t ∷ u ∷ []) (no_room x.table x.rows) (t ∷ u ∷ [])
+  lacks_room f = reads_lowest kind body m (t ∷ u ∷ []) (room_so _ _ t u d f)
 
-  module _ {s : D.Sizes} (e : r ≡ N.Done s) where
-    pub well_measured : Measures kind body (accepted (sized s.languages s.entries s.k))
-    well_measured = rw e at m
+  module _ (f : Enough ≡ and_table a (record { number = 7; columns = 4; rows = s.entries }) u) where
+    pub both_roomy : Roomy kind body (t ∷ u ∷ [])
+    both_roomy = roomy kind body m (t ∷ u ∷ []) (has_room _ _ t u d f)
 
-    module _ {t u : List ℕ} {a o : Room}
-        (d : a ≡ and_table M.Enough (record { number = 6; columns = 12; rows = s.languages }) t)
-        (f : o ≡ and_table a (record { number = 7; columns = 4; rows = s.entries }) u) where
-      pub lacks_room : {i k : ℕ} → o ≡ M.Lacks i k → Reads kind body (t ∷ u ∷ []) (no_room i k) (t ∷ u ∷ [])
-      lacks_room g = reads_lowest kind body well_measured (t ∷ u ∷ []) (room_so _ _ t u d f) g
-
-      pub both_roomy : o ≡ M.Enough → Roomy kind body (t ∷ u ∷ [])
-      both_roomy g = roomy kind body well_measured (t ∷ u ∷ []) (has_room _ _ t u d f g)
-
-      pub well_read : o ≡ M.Enough → {after : Lent} → Fills kind body (t ∷ u ∷ []) after → {p : MpegH3dAudioTextLabel} → Tops kind body p → Reads kind body (t ∷ u ∷ []) (accepted p) after
-      well_read g {after} w p = reads_filled kind body well_measured (t ∷ u ∷ []) after (has_room _ _ t u d f g) w p
+    pub well_read : {after : Lent} → Fills kind body (t ∷ u ∷ []) after → {p : MpegH3dAudioTextLabel} → Tops kind body p → Reads kind body (t ∷ u ∷ []) (accepted p) after
+    well_read {after} w p = reads_filled kind body m (t ∷ u ∷ []) after (has_room _ _ t u d f) w p

@@ -1,6 +1,6 @@
--- The reserved bits at 0 of a language that was measured: those of its three lists, one after the other; and of all languages of a loop.
-use Prim.Native.Nat.{ℕ, ◌+◌, ◌-◌, ◌≤◌, ◌<◌}
-use mathlib.Core.Path.{◌≡◌, refl, sym, ap, ◌∙◌}
+-- The reserved bits at 0 of a language that was measured: those of its three lists, one after the other.
+use Prim.Native.Nat.{ℕ, ◌+◌, ◌≤◌}
+use mathlib.Core.Path.{◌≡◌, sym, ap, ◌∙◌}
 use mathlib.Core.List.{List, flatten}
 use mathlib.Core.Bool.{true}
 use native.Mathlib.Omega.{arith}
@@ -10,8 +10,7 @@ use Rattle.wire.specs.Lists.{sum}
 use Rattle.wire.specs.Prog.{done, run}
 use Rattle.wire.specs.Reads.{map_out, is_done}
 use Rattle.wire.specs.Layout.{cells, shown, tally}
-use Rattle.wire.proofs.Reading.Walk.{as_done, is_done_lem}
-use Rattle.wire.proofs.Reading.Loops.{Summing, sum_turn, summed_done}
+use Rattle.wire.proofs.Reading.Walk.{is_done_lem}
 use Rattle.frame.specs.Body.{layouts, zeros}
 use Rattle.labels.specs.Read.{Labels, labels}
 use Rattle.labels.specs.Contract.{labels_tally}
@@ -77,10 +76,3 @@ module _ (s : List ℕ) (at : ℕ) (q : is_done (run language s at) ≡ true) wh
           q ∙ (λ i. first.0 i + (second.0 i + third.0 i)) ∙ sym (zeros_so (slice at (at + 3) s) it.groups it.switch_groups it.presets)
           ∙ ap language_rows.zeros (sym it.is) in
           (λ i. done (v i) (third.1 i)) ∙ sym (ap (map_out language_rows.zeros) the_end.2)
-
--- of a loop over them
-pub language_summed : {s : List ℕ} {at count pos left acc : ℕ} → Summing language language_rows.zeros 3072 s at count pos left acc → 0 < left
-    → {n next : ℕ} → done n next ≡ map_out language_rows.zeros (run language s pos) → n ≤ 3072 → Summing language language_rows.zeros 3072 s at count next (left - 1) (acc + n)
-language_summed {s} {at} {count} {pos} i h e k =
-    let (x, r, q) = as_done language_rows.zeros (run language s pos) (sym e) in
-    sum_turn language language_rows.zeros 3072 s at count i h (summed_done (sym r) (sym q) k) refl

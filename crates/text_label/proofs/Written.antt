@@ -9,9 +9,7 @@ use lib.Dec.{leb}
 use borrow.Author.Tests.{leb-true}
 use Rattle.wire.specs.Bits.{field, fit}
 use Rattle.wire.specs.Act.{byte}
-use Rattle.wire.specs.Pen.{Checked, clean}
-use Rattle.wire.specs.declared.pen.Pen.{Pen}
-use Rattle.wire.specs.declared.pen.Pen.TheVariants.{At}
+use Rattle.wire.specs.Pen.{Checked, clean, Pen, At}
 use Rattle.wire.proofs.Fields.{fits_cons}
 use Rattle.wire.proofs.Writing.Acts.{and_both}
 use Rattle.wire.proofs.Writing.Passes.{passed_clean}

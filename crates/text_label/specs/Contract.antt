@@ -1,18 +1,15 @@
 -- The code's answers as the specification's: document 01's numbers and values; and a language with its rows of both tables.
-use Rattle.std.specs.Prelude.{ℕ, List, [], ◌∷◌, Bool, ◌&&◌, length, get_or, leb, eqb}
+use Rattle.std.specs.Prelude.{ℕ, List, [], ◌∷◌, Result, Bool, ◌&&◌, length, get_or, leb, eqb}
 use Rattle.wire.specs.Bits.{part}
-use Rattle.frame.specs.Numbers.{Answer, accepted, refused, refusal}
+use Rattle.frame.specs.Numbers.{Answer, answer_as}
 use Rattle.frame.specs.Entry as E
 use Rattle.frame.specs.Entry.{Need}
 use Rattle.frame.specs.Ranges.{ranged_row}
+use Rattle.frame.specs.declared.Refusal.{Refusal}
 use Rattle.text_label.specs.declared.rows.TextLabelLanguage.{TextLabelLanguage}
-use Rattle.text_label.specs.declared.rows.MpegH3dAudioTextLabel.{MpegH3dAudioTextLabel}
 use Rattle.text_label.specs.Rows.{language_of, Language}
 use Rattle.text_label.specs.Kind.{lists}
-use Rattle.text_label.specs.declared.Reading.{Reading}
-use Rattle.text_label.specs.declared.Reading.TheVariants as R
-use Rattle.text_label.specs.declared.Measured.{Measured}
-use Rattle.text_label.specs.declared.Measured.TheVariants as M
+use Rattle.text_label.specs.declared.Sizes.{Sizes}
 
 -- tables 6 and 7 need so many rows
 abbrev pub needed : ℕ → ℕ → List Need
@@ -21,13 +18,8 @@ needed l n = record { number = 6; columns = 12; rows = l } ∷ record { number =
 abbrev pub sized : ℕ → ℕ → ℕ → E.Sizes
 sized l n k = record { tables = needed l n; before = k }
 
-abbrev pub read : Reading → Answer MpegH3dAudioTextLabel
-read (R.Done m) = accepted m
-read (R.Refused r) = refused (refusal r)
-
-abbrev pub measured : Measured → Answer E.Sizes
-measured (M.Done s) = accepted (sized s.languages s.entries s.k)
-measured (M.Refused r) = refused (refusal r)
+abbrev pub measured : Result Sizes Refusal → Answer E.Sizes
+measured r = answer_as (λ s. sized s.languages s.entries s.k) r
 
 -- whether a body is sound at once, since it has no languages: its first two bytes are there, and count none
 abbrev pub is_bare : List ℕ → Bool

@@ -5,13 +5,14 @@ ghost use Rattle.wire.specs.Bits.{part};
 ghost use Rattle.wire.specs.Prog.{many};
 ghost use Rattle.wire.specs.Reads.{ends_out, Summed};
 ghost use Rattle.wire.specs.Straight.{ends, ones};
-ghost use Rattle.wire.specs.Nest.{Fillable, Nested, Nests};
+ghost use Rattle.wire.specs.Nest.{Fillable};
 ghost use Rattle.frame.specs.Numbers.{accepted};
 ghost use Rattle.frame.specs.Entry.{Measures};
 ghost use Rattle.frame.specs.Sight.{Tops, Roomy, Fills};
+ghost use Rattle.text_label.specs.Rows.{Language};
 ghost use Rattle.text_label.specs.Read.{letters_at, language};
 ghost use Rattle.text_label.specs.Kind.{entries_of, kind};
-ghost use Rattle.text_label.specs.Contract.{sized, is_bare, row_from, language_from};
+ghost use Rattle.text_label.specs.Contract.{sized, is_bare, row_from};
 
 use super::Sizes;
 use super::rows::{
@@ -19,72 +20,48 @@ use super::rows::{
 };
 use labels::parsing::{fill_list, list_rows, row_after};
 use wire::bits::{part, wide};
-use wire::reads::{Ends, Run, Sum, head, run_at};
+use wire::list::{Count, Nest, nest_rows, rows_kids};
+use wire::reads::{Short, head, run_at};
 use wire::rows::{put_row, trailing_run};
+
+// A row of table 6, as a list of them is measured, stored and tallied.
+pub struct Language;
 
 // ---- measured
 
-// The entries of a language, and where it ends.
-fn language_rows(body: &[u8], at: usize) -> Sum
-    requires { at ≤ length body.now }
-    ensures { Summed language (λ l. length (entries_of l)) 381 body.now at result }
-{
-    let letters = run_at(body, at, 3);
-    let Run::Got(_, n1) = letters else {
-        return Sum::Short(letters.short());
-    };
-    let g = list_rows(body, n1, 7);
-    let Sum::Got(groups, n2) = g else {
-        return g;
-    };
-    let s = list_rows(body, n2, 5);
-    let Sum::Got(switch_groups, n3) = s else {
-        return s;
-    };
-    let p = list_rows(body, n3, 5);
-    let Sum::Got(presets, next) = p else {
-        return p;
-    };
-    Sum::Got(groups + (switch_groups + presets), next)
-}
+// The entries of a language are the rows of its three lists.
+impl Count for Language {
+    ghost Read = { Language };
 
-// The entries of `count` languages, and where they end.
-fn languages_rows(body: &[u8], at: usize, count: usize) -> Sum
-    requires { (at ≤ length body.now) × (count < 16) }
-    ensures { Summed (many count language) (λ l. length (flat_map entries_of l)) (381 * count) body.now at result }
-{
-    let mut pos = at;
-    let mut left = count;
-    let mut rows = 0;
-    while 0 < left {
-        let a = language_rows(body, pos);
-        let Sum::Got(n, next) = a else {
-            return a;
-        };
-        rows += n;
-        pos = next;
-        left -= 1;
+    ghost reads = { λ _. language };
+
+    ghost kids = { λ _ l. length (entries_of l) };
+
+    ghost most = { 381 };
+
+    fn kids(&self, body: &[u8], at: usize) -> Result<(usize, usize), Short> {
+        let (_, n1) = run_at(body, at, 3)?;
+        let (groups, n2) = list_rows(body, n1, 7)?;
+        let (switch_groups, n3) = list_rows(body, n2, 5)?;
+        let (presets, next) = list_rows(body, n3, 5)?;
+        Ok((groups + (switch_groups + presets), next))
     }
-    Sum::Got(rows, pos)
 }
 
 // Where the two bytes before the languages end.
-pub fn head_end(body: &[u8]) -> Ends
+pub fn head_end(body: &[u8]) -> Result<usize, Short>
     ensures { ends_out result ≡ ends (ones 2) body.now 0 }
 {
     head(body, 0, 2)
 }
 
 // The entries of a body, and k.
-pub fn rows(body: &[u8]) -> Sum
+pub fn rows(body: &[u8]) -> Result<(usize, usize), Short>
     ensures { Summed kind.program (λ t. length (flat_map entries_of t.1.0)) 5715 body.now 0 result }
 {
-    let a = head_end(body);
-    let Ends::At(n) = a else {
-        return Sum::Short(a.short());
-    };
+    let n = head_end(body)?;
     let count = part(wide(body[1]), 0, 4) as usize;
-    languages_rows(body, n, count)
+    rows_kids(&Language, body, n, count)
 }
 
 // Whether a body is at once seen to have no languages: then nothing is walked, and no room is asked.
@@ -94,11 +71,10 @@ pub fn is_bare(body: &[u8]) -> bool
     if 65535 < body.len() {
         return false;
     }
-    let a = head_end(body);
-    let Ends::At(_) = a else {
-        return false;
-    };
-    count_at(body) == 0
+    match head_end(body) {
+        Ok(_) => count_at(body) == 0,
+        Err(_) => false,
+    }
 }
 
 // ---- filled, once measured
@@ -115,53 +91,50 @@ fn letters_at(body: &[u8], at: usize) -> DescriptionLanguage
     )
 }
 
-// Stores the entries of a language from row `first` on, its three lists one after the other.
-fn fill_language(body: &[u8], at: usize, entries: &mut [u16], first: usize) -> PlacedLanguage
-    requires { Fillable language 4 (λ l. length (entries_of l)) body.now at first entries.old }
-    ensures { Nested language 4 language_from (λ l. flatten (entries_of l)) body.now at first entries.old result.language result.next entries.new }
-{
-    let language = letters_at(body, at);
-    let g = fill_list(body, at + 3, 7, entries, first);
-    let groups = g.list;
-    let s = fill_list(body, g.next, 5, entries, row_after(groups.entries));
-    let switch_groups = s.list;
-    let p = fill_list(body, s.next, 5, entries, row_after(switch_groups.entries));
-    let presets = p.list;
-    PlacedLanguage {
-        language: TextLabelLanguage {
+// Its three lists are stored one after the other.
+impl Nest for Language {
+    ghost Read = { Language };
+
+    ghost reads = { λ _. language };
+
+    ghost may = { λ _ _. Unit {0} };
+
+    ghost COLUMNS = { 12 };
+
+    ghost KID_COLUMNS = { 4 };
+
+    ghost size = { λ _ l. length (entries_of l) };
+
+    ghost columns = { λ _ n l. row_from n l };
+
+    ghost kids = { λ _ l. flatten (entries_of l) };
+
+    const COLUMNS: usize = LANGUAGE_COLUMNS;
+
+    fn store(
+        &self,
+        body: &[u8],
+        at: usize,
+        outer: &mut [u16],
+        to: usize,
+        inner: &mut [u16],
+        first: usize,
+    ) -> (usize, usize) {
+        let language = letters_at(body, at);
+        let g = fill_list(body, at + 3, 7, inner, first);
+        let groups = g.list;
+        let s = fill_list(body, g.next, 5, inner, row_after(groups.entries));
+        let switch_groups = s.list;
+        let p = fill_list(body, s.next, 5, inner, row_after(switch_groups.entries));
+        let presets = p.list;
+        let row = TextLabelLanguage {
             language,
             groups,
             switch_groups,
             presets,
-        },
-        next: p.next,
-    }
-}
-
-// A language, and the next position.
-#[derive(Clone, Copy)]
-struct PlacedLanguage {
-    language: TextLabelLanguage,
-    next: usize,
-}
-
-// Stores `count` languages as the first rows of table 6, and their entries as those of table 7.
-fn fill_languages(body: &[u8], at: usize, count: usize, languages: &mut [u16], entries: &mut [u16])
-    requires { Fillable (many count language) 4 (λ l. length (flat_map entries_of l)) body.now at 0 entries.old × (12 * count ≤ length languages.old) }
-    ensures { Nests language (λ l. length (entries_of l)) row_from (λ l. flatten (entries_of l)) body.now at count languages.old entries.old languages.new entries.new }
-{
-    let mut pos = at;
-    let mut left = count;
-    let mut to = 0;
-    let mut first = 0;
-    while 0 < left {
-        let p = fill_language(body, pos, entries, first);
-        let row = p.language.columns();
-        put_row(languages, to, &row);
-        first = row_after(p.language.presets.entries);
-        pos = p.next;
-        left -= 1;
-        to += LANGUAGE_COLUMNS;
+        };
+        put_row(outer, to, &row.columns());
+        (p.next, row_after(presets.entries))
     }
 }
 
@@ -195,5 +168,5 @@ pub fn fill(body: &[u8], s: Sizes, languages: &mut [u16], entries: &mut [u16])
     ensures { Fills kind body.now (languages.old ∷ entries.old ∷ []) (languages.new ∷ entries.new ∷ []) }
 {
     let count = s.languages;
-    fill_languages(body, 2, count as usize, languages, entries);
+    nest_rows(&Language, body, 2, count as usize, languages, entries);
 }

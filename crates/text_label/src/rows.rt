@@ -9,11 +9,11 @@ use wire::bits::{ones, wide};
 use wire::rows::{Payload, Range};
 
 // descriptionLanguage: three characters of ISO 639-2.
-#[derive(Clone, Copy)]
+#[derive(Clone, Copy, PartialEq, Eq)]
 pub struct DescriptionLanguage(pub u16, pub u16, pub u16);
 
 // A row of table 6: one language.
-#[derive(Clone, Copy)]
+#[derive(Clone, Copy, PartialEq, Eq)]
 pub struct TextLabelLanguage {
     pub language: DescriptionLanguage,
     pub groups: Descriptions,
@@ -76,7 +76,7 @@ impl TextLabelLanguage {
 }
 
 // Its languages are the first rows of table 6, by their count.
-#[derive(Clone, Copy)]
+#[derive(Clone, Copy, PartialEq, Eq)]
 pub struct MpegH3dAudioTextLabel {
     pub scene_info_id: u8,
     pub reserved: u8,

@@ -1,9 +1,8 @@
 // Writing the text label body in two passes, each in the Rust's order: the check pass names the first fault or the length, the fill pass stores the bytes.
 ghost use Rattle.std.specs.Prelude.{◌≡◌, [], ◌∷◌, ◌*◌, ◌<◌, ◌≤◌, ◌^◌, length};
 ghost use Rattle.wire.specs.Act.{rows};
-ghost use Rattle.wire.specs.Pen.{Checked, Ready, Filled};
+ghost use Rattle.wire.specs.Pen.{Checked, Ready, Filled, At};
 ghost use Rattle.wire.specs.Spell.{Spelt};
-ghost use Rattle.wire.specs.declared.pen.Pen.TheVariants.{At};
 ghost use Rattle.frame.specs.Entry.{all_acts};
 ghost use Rattle.text_label.specs.Write.{all_within, letter_fields, language_acts, row_acts, head_fields, text_label_acts};
 ghost use Rattle.text_label.specs.Kind.{kind};
@@ -14,7 +13,7 @@ use super::rows::{
 use labels::writing::{check_list, fill_list};
 use wire::bits::wide;
 use wire::pen;
-use wire::pen::{Fault, Pen};
+use wire::pen::{Fault, Pen, Stopped};
 use wire::rows::{has_rows, in_store, in_table};
 use wire::spell::{check_all, fill_all, one, two};
 
@@ -53,32 +52,26 @@ fn check_language(n: usize, l: TextLabelLanguage, entries: &[u16], store: &[u8])
     ensures { Checked (language_acts entries.now store.now l) 48579 (At n) result }
 {
     if all_within(l, entries) {
-        let p1 = check_all(Pen::At(n), true, &letter_bytes(l.language));
+        let p1 = check_all(Ok(n), true, &letter_bytes(l.language));
         let p2 = check_list(p1, l.groups, 7, entries, store);
         let p3 = check_list(p2, l.switch_groups, 5, entries, store);
         check_list(p3, l.presets, 5, entries, store)
     } else {
-        Pen::Stop(Fault::Range, n)
+        Err(Stopped(Fault::Range, n))
     }
 }
 
-// The rows of table 6 from the first; a fault ends it.
+// The rows of table 6 from the first; a fault ends it. There is no quick test of a language, so each is checked at once.
 fn check_languages(n: usize, languages: &[u16], count: usize, entries: &[u16], store: &[u8]) -> Pen
     requires { (count * 12 ≤ length languages.now) × (count < 16) × (n < 2 ^ 16) }
     ensures { Checked (rows (row_acts languages.now entries.now store.now) 0 count) (48579 * count) (At n) result }
 {
     let mut at = n;
-    let mut i: usize = 0;
-    while i < count {
+    for i in 0..count {
         let l = TextLabelLanguage::of_columns(languages, i * LANGUAGE_COLUMNS);
-        let p = check_language(at, l, entries, store);
-        let Pen::At(next) = p else {
-            return p;
-        };
-        at = next;
-        i += 1;
+        at = check_language(at, l, entries, store)?;
     }
-    Pen::At(at)
+    Ok(at)
 }
 
 // All but the trailing run; the range of the languages first, at its start.
@@ -87,13 +80,10 @@ fn check_fields(m: MpegH3dAudioTextLabel, languages: &[u16], entries: &[u16], st
 {
     let count = m.languages;
     if has_rows(languages, LANGUAGE_COLUMNS, count as usize) {
-        let p = check_all(Pen::At(0), true, &head_bytes(m));
-        let Pen::At(n) = p else {
-            return p;
-        };
+        let n = check_all(Ok(0), true, &head_bytes(m))?;
         check_languages(n, languages, count as usize, entries, store)
     } else {
-        Pen::Stop(Fault::Range, 0)
+        Err(Stopped(Fault::Range, 0))
     }
 }
 
@@ -106,7 +96,7 @@ pub fn check(m: MpegH3dAudioTextLabel, languages: &[u16], entries: &[u16], store
         let count = trailing.length;
         pen::run(check_fields(m, languages, entries, store), count as usize)
     } else {
-        Pen::Stop(Fault::Range, 0)
+        Err(Stopped(Fault::Range, 0))
     }
 }
 
@@ -141,11 +131,9 @@ fn fill_languages(
     ensures { Filled (rows (row_acts languages.now entries.now store.now) 0 count) n out.old result out.new }
 {
     let mut at = n;
-    let mut i: usize = 0;
-    while i < count {
+    for i in 0..count {
         let l = TextLabelLanguage::of_columns(languages, i * LANGUAGE_COLUMNS);
         at = fill_language(l, entries, store, out, at);
-        i += 1;
     }
     at
 }

@@ -6,18 +6,16 @@ mod reads;
 mod show;
 mod writes;
 
-ghost use Rattle.std.specs.Prelude.{◌≤◌, length, IfOk};
-
-use cases::list::State;
+use cases::list::{Command, Kind, State};
 use cases::tables::{Bytes, Columns};
 use cases::{list, tables};
 use show::Lines;
 use std::io;
-use std::io::{BufWriter, Read, Stdin, Write};
+use std::io::{BufWriter, Write};
 
 // The list comes in pieces, at most 64.
 fn main(rt: HostRuntime) -> io::Result<()> {
-    let mut input = rt.stdin();
+    let mut stdin = rt.stdin();
     let mut out = BufWriter::new(rt.alloc(), rt.stdout())?;
     let mut piece = [0u8; 65536];
     let mut line: Bytes = [0; 65536];
@@ -25,31 +23,16 @@ fn main(rt: HostRuntime) -> io::Result<()> {
     let mut columns = [0u16; 40960];
     let mut s = State {
         line: 0,
-        kind: 0,
+        kind: Kind::Other,
         length: 0,
         lent: [0; 6],
         out: 0,
     };
     for _ in 0..64 {
-        let n = fill(&mut input, &mut piece)?;
+        let n = input::fill(&mut stdin, &mut piece)?;
         s = run(s, &piece[..n], &mut line, &mut body, &mut columns, &mut out)?;
     }
     out.flush()
-}
-
-// Reads until the piece is full or the input ends, and returns how many bytes it put at the start.
-fn fill(input: &mut Stdin, piece: &mut [u8]) -> io::Result<usize>
-    ensures { IfOk result (λ n. n ≤ length piece.new) }
-{
-    let mut n: usize = 0;
-    while n < piece.len() {
-        let more = input.read(&mut piece[n..])?;
-        if more == 0 {
-            break;
-        }
-        n += more;
-    }
-    Ok(n)
 }
 
 fn run(
@@ -102,24 +85,20 @@ fn step(
         return Ok(s);
     }
     let letter = line[0];
-    let part = list::part(letter);
     let mut v = [0usize; 4096];
     let n = list::numbers(line, list::is_hex(letter), &mut v);
-    if part == 0 {
-        return Ok(list::with_bytes(s, letter, n, &v, body));
+    match Command::from(letter) {
+        Command::Body => Ok(list::with_bytes(s, letter, n, &v, body)),
+        Command::Columns => Ok(list::with_columns(s, letter, n, &v, columns)),
+        Command::Numbers => Ok(list::with_numbers(s, letter, &v)),
+        Command::Written => {
+            writes::command(s, letter, &v, &body[..], columns, out)?;
+            Ok(s)
+        }
+        Command::Read => {
+            reads::command(s, letter, &v, body, columns, out)?;
+            Ok(s)
+        }
+        Command::Nothing => Ok(s),
     }
-    if part == 1 {
-        return Ok(list::with_columns(s, letter, n, &v, columns));
-    }
-    if part == 2 {
-        return Ok(list::with_numbers(s, letter, &v));
-    }
-    if part == 3 {
-        writes::command(s, letter, &v, &body[..], columns, out)?;
-        return Ok(s);
-    }
-    if part == 4 {
-        reads::command(s, letter, &v, body, columns, out)?;
-    }
-    Ok(s)
 }

@@ -6,4 +6,3 @@ pub mod Steps
 pub mod Walk
 pub mod Loops
 pub mod Nest
-pub mod Adding

@@ -1,5 +1,6 @@
 -- `drc_loudness::opened_behind` meets its contract: without info it is done; else the walk decides, or the rows are read.
 use native.Mathlib.Omega.{arith}
+use Rattle.wire.proofs.Handed.{handed}
 use Rattle.frame.proofs.Entries.{measures_long, measures_short, reads_unmeasured}
 use Rattle.drc_kind.specs.Kind.{kind}
 use Rattle.drc_loudness.proofs.Walked.{info_read, none_found}
@@ -10,21 +11,14 @@ pub returns-then-body-gt65535 : goal.returns-then-body-gt65535
 returns-then-body-gt65535 c =
     record { gives = reads_unmeasured kind _ (measures_long kind _ c.if-body-gt65535.true) _ }
 
-pub walk_lists-w-requires : goal.walk_lists-w-requires
-walk_lists-w-requires c =
+pub walk_lists-requires : goal.walk_lists-requires
+walk_lists-requires c =
     info_read c.requires c.if-n-eq4.true
 
-pub opened_found-requires : goal.opened_found-requires
-opened_found-requires c =
-    ((rw c.in-Done.is at c.walk_lists-w.ensures).finds, omega (arith, c.if-body-gt65535.false))
-
-pub returns-in-Done : goal.returns-in-Done
-returns-in-Done c =
-    c.opened_found.ensures
-
-pub returns-in-Short : goal.returns-in-Short
-returns-in-Short c =
-    record { gives = reads_unmeasured kind _ (measures_short kind _ (omega (arith, c.if-body-gt65535.false)) (rw c.in-Short.is at c.walk_lists-w.ensures).finds) _ }
+pub returns-in_err-p : goal.returns-in_err-p
+returns-in_err-p c =
+    rw (handed c.from_residual.result c.from_residual.ensures.1)
+    (record { gives = reads_unmeasured kind _ (measures_short kind _ (omega (arith, c.if-body-gt65535.false)) c.in_err-p.ensures.finds) _ })
 
 pub returns-else-n-eq4 : goal.returns-else-n-eq4
 returns-else-n-eq4 c =

@@ -1,5 +1,6 @@
 -- `drc_loudness::tally` meets its contract: the zeros of the lists, or why there are none.
 use native.Mathlib.Omega.{arith}
+use Rattle.wire.proofs.Handed.{handed}
 use Rattle.frame.proofs.Entries.{measures_long, measures_short, tallies_unmeasured}
 use Rattle.drc_kind.specs.Kind.{kind}
 use Rattle.drc_loudness.proofs.tally.Goals as goal
@@ -8,14 +9,7 @@ pub returns-then-body-gt65535 : goal.returns-then-body-gt65535
 returns-then-body-gt65535 c =
     tallies_unmeasured kind _ (measures_long kind _ c.if-body-gt65535.true)
 
-pub zero_bits-requires : goal.zero_bits-requires
-zero_bits-requires c =
-    ((rw c.in-Done.is at c.find_lists-w.ensures).finds, omega (arith, c.if-body-gt65535.false))
-
-pub returns-in-Done : goal.returns-in-Done
-returns-in-Done c = c.zero_bits.ensures
-
-pub returns-in-Short : goal.returns-in-Short
-returns-in-Short c =
-    tallies_unmeasured kind _
-    (measures_short kind _ (omega (arith, c.if-body-gt65535.false)) (rw c.in-Short.is at c.find_lists-w.ensures).finds)
+pub returns-in_err-p : goal.returns-in_err-p
+returns-in_err-p c =
+    rw (handed c.from_residual.result c.from_residual.ensures.1)
+    (tallies_unmeasured kind _ (measures_short kind _ (omega (arith, c.if-body-gt65535.false)) c.in_err-p.ensures.finds))

@@ -1,13 +1,14 @@
 -- `frame::write_bare` meets its contract: what is answered after the check pass, and the fill pass.
 use mathlib.Core.List.{[]}
+use Rattle.wire.proofs.Handed.{handed}
 use Rattle.frame.specs.Sight.{head_kind}
 use Rattle.frame.proofs.Entries.{writes_refused, fillable, writes_done}
-use borrow.Enum.Refused.{opened}
 use Rattle.frame.proofs.write_bare.Goals as goal
 
-pub returns-in_default : goal.returns-in_default
-returns-in_default c =
-    record { of = λ fss s. writes_refused (head_kind fss) c.args.run [] c.args.store.now (c.check_bare.ensures.of fss s) _ c.judge-w.ensures (opened c.in_default.in_default-own.keys2) }
+pub returns-in_err-n : goal.returns-in_err-n
+returns-in_err-n c =
+    rw (handed c.from_residual.result c.from_residual.ensures.1)
+    (record { of = λ fss s. writes_refused (head_kind fss) c.args.run [] c.args.store.now (c.check_bare.ensures.of fss s) _ _ c.in_err-n.ensures })
 
 pub fill_bare-requires : goal.fill_bare-requires
 fill_bare-requires c =
@@ -15,7 +16,7 @@ fill_bare-requires c =
     record {
       fields = h.fields;
       spelt = h.spelt;
-      ready = fillable (head_kind h.fields) c.args.run [] c.args.store.now (c.check_bare.ensures.of h.fields h.spelt) _ c.judge-w.ensures c.in-Done.is;
+      ready = fillable (head_kind h.fields) c.args.run [] c.args.store.now (c.check_bare.ensures.of h.fields h.spelt) _ c.in_ok-n.ensures;
     }
 
 pub returns : goal.returns
@@ -23,7 +24,6 @@ returns c =
     record {
       of = λ fss s.
           let w = c.check_bare.ensures.of fss s in
-          let d = c.in-Done.is in
-          writes_done (head_kind fss) c.args.run [] c.args.store.now w _ c.judge-w.ensures d
-          (c.fill_bare.ensures.of fss s (fillable (head_kind fss) c.args.run [] c.args.store.now w _ c.judge-w.ensures d));
+          let j = c.in_ok-n.ensures in
+          writes_done (head_kind fss) c.args.run [] c.args.store.now w _ j (c.fill_bare.ensures.of fss s (fillable (head_kind fss) c.args.run [] c.args.store.now w _ j));
     }

@@ -1,4 +1,6 @@
 -- `multi_stream::read` meets its contract: the measure, the room, the filled table and the record.
+use mathlib.Core.List.{[], ◌∷◌}
+use Rattle.wire.proofs.Handed.{handed}
 use Rattle.frame.proofs.Entries.{reads_unmeasured, reads_filled}
 use Rattle.frame.proofs.Tables.{reads_lowest}
 use Rattle.multi_stream.specs.Kind.{kind}
@@ -6,22 +8,15 @@ use Rattle.multi_stream.proofs.Sighted.{room_so, has_room}
 use Rattle.multi_stream.proofs.read.Goals as goal
 
 pub fill-requires : goal.fill-requires
-fill-requires c =
-    (rw c.in-Done.is at c.measure-m.ensures, (has_room _ _ c.and_table-r.ensures c.in-Enough.is).1)
+fill-requires c = (c.in_ok-s.ensures, (has_room _ _ c.in_ok-and_table.ensures).1)
 
-pub record_at-requires : goal.record_at-requires
-record_at-requires c =
-    rw c.in-Done.is at c.measure-m.ensures
+pub returns-in_err-s : goal.returns-in_err-s
+returns-in_err-s c = rw (handed c.from_residual.result c.from_residual.ensures.1) (reads_unmeasured kind _ c.in_err-s.ensures _)
 
-pub returns-in-Refused : goal.returns-in-Refused
-returns-in-Refused c =
-    reads_unmeasured kind _ (rw c.in-Refused.is at c.measure-m.ensures) _
+pub returns-in_err-and_table : goal.returns-in_err-and_table
+returns-in_err-and_table c =
+    rw (handed c.from_residual-in_err-and_table.result c.from_residual-in_err-and_table.ensures.1)
+    (reads_lowest kind _ c.in_ok-s.ensures (c.args.groups.now ∷ []) (room_so _ _ c.in_err-and_table.ensures))
 
-pub returns-in-Lacks : goal.returns-in-Lacks
-returns-in-Lacks c =
-    search (reads_lowest, room_so, rw c.in-Done.is at c.measure-m.ensures)
-
-pub returns-in-Enough : goal.returns-in-Enough
-returns-in-Enough c =
-    reads_filled kind _ (rw c.in-Done.is at c.measure-m.ensures) _ _ (has_room _ _ c.and_table-r.ensures
-    c.in-Enough.is).0 c.fill.ensures c.record_at.ensures
+pub returns : goal.returns
+returns c = reads_filled kind _ c.in_ok-s.ensures _ _ (has_room _ _ c.in_ok-and_table.ensures).0 c.fill.ensures c.record_at.ensures

@@ -2,12 +2,12 @@
 use mathlib.Core.List.{[], ◌∷◌}
 use mathlib.Core.Path.{◌∙◌}
 use native.Mathlib.Omega.{arith}
+use Rattle.wire.proofs.Handed.{handed}
 use Rattle.frame.proofs.Bare.{heads, bare_writes}
 use Rattle.frame.proofs.Entries.{writes_refused, fillable, writes_done}
 use Rattle.multi_stream.specs.Write.{head_fields}
 use Rattle.multi_stream.specs.Kind.{kind}
 use Rattle.multi_stream.proofs.Mirrored.{acts_are, bare_acts}
-use borrow.Enum.Refused.{opened}
 use Rattle.multi_stream.proofs.write.Goals as goal
 
 pub write_bare-requires : goal.write_bare-requires
@@ -22,11 +22,11 @@ returns-then-not-m c =
     bare_writes kind m t c.args.store.now _ (head_fields m) (acts_are m c.args.groups.now c.args.store.now ∙ bare_acts m c.args.groups.now c.if-not-m.true)
     (c.write_bare.ensures.of (head_fields m) c.head_bytes.ensures)
 
-pub returns-in_default : goal.returns-in_default
-returns-in_default c = writes_refused kind _ _ _ c.check.ensures _ c.judge-w.ensures (opened c.in_default.in_default-own.keys2)
+pub returns-in_err-n : goal.returns-in_err-n
+returns-in_err-n c = rw (handed c.from_residual.result c.from_residual.ensures.1) (writes_refused kind _ _ _ c.check.ensures _ _ c.in_err-n.ensures)
 
 pub fill-requires : goal.fill-requires
-fill-requires c = search fillable
+fill-requires c = fillable kind _ _ _ c.check.ensures _ c.in_ok-n.ensures
 
 pub returns : goal.returns
-returns c = search writes_done
+returns c = writes_done kind _ _ _ c.check.ensures _ c.in_ok-n.ensures c.fill.ensures

@@ -1,21 +1,14 @@
 -- `scene::measure` meets its contract: the sections, or why there are none.
 use native.Mathlib.Omega.{arith}
+use Rattle.wire.proofs.Handed.{handed}
 use Rattle.frame.proofs.Entries.{measures_long, measures_short}
 use Rattle.scene_kind.specs.Kind.{kind}
 use Rattle.scene.proofs.measure.Goals as goal
 
 pub returns-then-body-gt65535 : goal.returns-then-body-gt65535
-returns-then-body-gt65535 c =
-    measures_long kind _ c.if-body-gt65535.true
+returns-then-body-gt65535 c = measures_long kind _ c.if-body-gt65535.true
 
-pub sizes_at-requires : goal.sizes_at-requires
-sizes_at-requires c =
-    ((rw c.in-Done.is at c.find_sections-w.ensures).finds, omega (arith, c.if-body-gt65535.false))
-
-pub returns-in-Done : goal.returns-in-Done
-returns-in-Done c = c.sizes_at.ensures
-
-pub returns-in-Short : goal.returns-in-Short
+pub returns-in_err-p : goal.returns-in_err-p
 unfolding kind
-returns-in-Short c =
-    measures_short kind _ (omega (arith, c.if-body-gt65535.false)) (rw c.in-Short.is at c.find_sections-w.ensures).finds
+returns-in_err-p c =
+    rw (handed c.from_residual.result c.from_residual.ensures.1) (measures_short kind _ (omega (arith, c.if-body-gt65535.false)) c.in_err-p.ensures.finds)

@@ -2,19 +2,14 @@
 use mathlib.Core.List.{[], ◌∷◌}
 use mathlib.Core.Bool.{not}
 use mathlib.Core.Path.{ap, ◌∙◌}
-use native.Mathlib.Omega.{arith}
+use Rattle.wire.proofs.Handed.{handed}
 use Rattle.frame.specs.Kind.{Lent}
-use Rattle.frame.proofs.Bare.{heads, bare_writes}
+use Rattle.frame.proofs.Bare.{bare_writes}
 use Rattle.frame.proofs.Entries.{writes_refused, fillable, writes_done}
 use Rattle.scene_kind.specs.Kind.{kind}
 use Rattle.scene_writing.specs.Write.{head_bytes}
 use Rattle.scene_writing.proofs.Writes.{scene_acts_lem, bare_acts}
-use borrow.Enum.Refused.{opened}
 use Rattle.scene.proofs.write.Goals as goal
-
-pub write_bare-requires : goal.write_bare-requires
-write_bare-requires c =
-    heads (head_bytes c.args.m) c.head_bytes.ensures (omega arith)
 
 pub returns-then-not-sections : goal.returns-then-not-sections
 unfolding kind
@@ -24,13 +19,11 @@ returns-then-not-sections c =
     bare_writes kind m t c.args.store.now _ (head_bytes m) (scene_acts_lem m t c.args.store.now ∙ bare_acts m t (ap not c.if-not-sections.true))
     (c.write_bare.ensures.of (head_bytes m) c.head_bytes.ensures)
 
-pub returns-in_default : goal.returns-in_default
-returns-in_default c = writes_refused kind _ _ _ c.check-p.ensures _ c.judge-w.ensures (opened c.in_default.in_default-own.keys2)
+pub returns-in_err-n : goal.returns-in_err-n
+returns-in_err-n c = rw (handed c.from_residual.result c.from_residual.ensures.1) (writes_refused kind _ _ _ c.check-p.ensures _ _ c.in_err-n.ensures)
 
 pub fill-requires : goal.fill-requires
-fill-requires c =
-    fillable kind _ _ _ c.check-p.ensures _ c.judge-w.ensures c.in-Done.is
+fill-requires c = fillable kind _ _ _ c.check-p.ensures _ c.in_ok-n.ensures
 
 pub returns : goal.returns
-returns c =
-    writes_done kind _ _ _ c.check-p.ensures _ c.judge-w.ensures c.in-Done.is c.fill.ensures
+returns c = writes_done kind _ _ _ c.check-p.ensures _ c.in_ok-n.ensures c.fill.ensures

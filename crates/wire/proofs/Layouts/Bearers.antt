@@ -13,15 +13,15 @@ use borrow.Author.Tests.{eq-eqb, leb-true, leb-false, ltb-true, ltb-false}
 use Rattle.wire.specs.Lists.{each, sum}
 use Rattle.wire.specs.Bits.{field, fit, total}
 use Rattle.wire.specs.Prog.{Prog, ret, Out, done, short, run, u8, pass, span, ◌>>=◌}
-use Rattle.wire.specs.Reads.{map_out, end_of, is_done, short_of}
+use Rattle.wire.specs.Reads.{map_out, end_of, is_done}
 use Rattle.wire.specs.Act.{Act, demand, byte, copy, pick}
 use Rattle.wire.specs.Pen.{looks, Checked, CheckedRun, Quick, clean, bytes, Ready, Filled}
 use Rattle.wire.specs.Layout.{Cell, Layout, end, column, Columns, of, row, reads, writes, shown, cells, matched, every, flagged, counted, demands, idle, has, columns, blank, tally, Bearing, Borne, bearing, borne_bytes, bearing_acts, borne, borne_row, borne_tally}
 use Rattle.wire.specs.Straight.{ends, taken, spans}
 use Rattle.wire.specs.declared.reads.Short.{Short}
 use Rattle.wire.specs.declared.pen.Fault.TheVariants as F
-use Rattle.wire.specs.declared.pen.Pen.{Pen}
-use Rattle.wire.specs.declared.pen.Pen.TheVariants.{At, Stop}
+use Rattle.wire.specs.Pen.{Pen, At}
+use Rattle.std.specs.Prelude.{Ok, Err}
 use Rattle.wire.proofs.Reading.Runs.{out_and_then, run_bind}
 use Rattle.wire.proofs.Reading.Steps.{lacks, got_run, lacks_run}
 use Rattle.wire.proofs.Reading.Walk.{map_done, step, halt, run_ret, byte_next}
@@ -72,12 +72,12 @@ module _ (b : Bearing) (s : List ℕ) where
       x = (row b.width g, span (m + 1) n)
 
       last : (t : Bool) → leb (m + 1 + n) (length s) ≡ t → run (pass n >>= λ p. ret (row b.width g, span p n)) s (m + 1) ≡ map_out (λ (u : Unit {0}). x) (ends (n ∷ []) s (m + 1))
-      last true e = let h = leb-true _ _ e in step (pass n) _ s (m + 1) refl (got_run s (m + 1) n h) ∙ run_ret x s (m + 1 + n) ∙ sym (ap (map_out (λ (u : Unit {0}). x)) (ends_got n [] s (m + 1) h))
-      last false e = let h = leb-false _ _ e in halt (pass n) _ s (m + 1) refl (lacks_run s (m + 1) n h) (sym (ap short_of (lacks_run s (m + 1) n h))) ∙ sym (ap (map_out (λ (u : Unit {0}). x)) (ends_lacks n [] s (m + 1) h))
+      last true e = let h = leb-true _ _ e in step (pass n) _ s (m + 1) (sym (got_run s (m + 1) n h)) ∙ run_ret x s (m + 1 + n) ∙ sym (ap (map_out (λ (u : Unit {0}). x)) (ends_got n [] s (m + 1) h))
+      last false e = let h = leb-false _ _ e in halt (pass n) _ s (m + 1) (sym (lacks_run s (m + 1) n h)) ∙ sym (ap (map_out (λ (u : Unit {0}). x)) (ends_lacks n [] s (m + 1) h))
 
       go : (t : Bool) → leb (m + 1) (length s) ≡ t → run (rest b g) s m ≡ map_out (λ (u : Unit {0}). x) (ends (1 ∷ n ∷ []) s m)
       go true e = let h = leb-true _ _ e in byte_next _ s m (omega (arith, h)) refl ∙ last (leb (m + 1 + n) (length s)) refl ∙ sym (ap (map_out (λ (u : Unit {0}). x)) (ends_got 1 (n ∷ []) s m h))
-      go false e = let h = leb-false _ _ e in halt u8 _ s m refl (lacks s m (omega (arith, h))) (sym (ap short_of (lacks s m (omega (arith, h))))) ∙ sym (ap (map_out (λ (u : Unit {0}). x)) (ends_lacks 1 (n ∷ []) s m h))
+      go false e = let h = leb-false _ _ e in halt u8 _ s m (sym (lacks s m (omega (arith, h)))) ∙ sym (ap (map_out (λ (u : Unit {0}). x)) (ends_lacks 1 (n ∷ []) s m h))
 
   module _ (at : ℕ) where
     -- the sizes of all its reads
@@ -105,20 +105,19 @@ module _ (b : Bearing) (s : List ℕ) where
     sizes_so : row_sizes ≡ (head_sizes b s at ++ (1 ∷ [])) ++ (size_found b s at ∷ [])
     sizes_so = sym (append_assoc (head_sizes b s at) (1 ∷ []) (size_found b s at ∷ []))
 
-    -- The head and the byte behind it were measured by reads of their sizes (o, as ends_out of the call): code stands at m, with the bytes left, which are one read (bear_got and
+    -- The head and the byte behind it were measured by reads of their sizes (e): code stands at m, with the bytes left, which are one read (bear_got and
     -- bear_behind), or hands the refusal up (bear_lacks). e is the promise of reads::head where the head is single bytes.
-    module _ {o : Out (Unit {0})} (e : o ≡ ends (head_sizes b s at ++ (1 ∷ [])) s at) where
-      pub bear_got : {m : ℕ} → o ≡ done tt m → ends (size_found b s at ∷ []) s m ≡ end_of (run (bearing b) s at)
-      bear_got d = sym (bear_ends ∙ ap (λ (l : List ℕ). ends l s at) sizes_so ∙ ends_on (head_sizes b s at ++ (1 ∷ [])) (size_found b s at ∷ []) s at e d)
+    pub bear_got : {m : ℕ} → done tt m ≡ ends (head_sizes b s at ++ (1 ∷ [])) s at → ends (size_found b s at ∷ []) s m ≡ end_of (run (bearing b) s at)
+    bear_got e = sym (bear_ends ∙ ap (λ (l : List ℕ). ends l s at) sizes_so ∙ ends_on (head_sizes b s at ++ (1 ∷ [])) (size_found b s at ∷ []) s at e)
 
-      pub bear_lacks : {x : Short} → o ≡ short x → o ≡ end_of (run (bearing b) s at)
-      bear_lacks d = ends_cut (head_sizes b s at ++ (1 ∷ [])) (size_found b s at ∷ []) s at e d ∙ sym (bear_ends ∙ ap (λ (l : List ℕ). ends l s at) sizes_so)
+    pub bear_lacks : {x : Short} → short x ≡ ends (head_sizes b s at ++ (1 ∷ [])) s at → short x ≡ end_of (run (bearing b) s at)
+    bear_lacks e = ends_cut (head_sizes b s at ++ (1 ∷ [])) (size_found b s at ∷ []) s at e ∙ sym (bear_ends ∙ ap (λ (l : List ℕ). ends l s at) sizes_so)
 
-      pub bear_behind : {m : ℕ} → at ≤ length s → o ≡ done tt m → (m ≡ size_at b s at + 1) × (m ≤ length s)
-      unfolding total
-      bear_behind h d =
-          let q = ends_at (head_sizes b s at ++ (1 ∷ [])) s at (sym e ∙ d) in
-          (omega (arith, q, total_append (head_sizes b s at) (1 ∷ [])), ends_within (head_sizes b s at ++ (1 ∷ [])) s at h (sym e ∙ d))
+    pub bear_behind : {m : ℕ} → at ≤ length s → done tt m ≡ ends (head_sizes b s at ++ (1 ∷ [])) s at → (m ≡ size_at b s at + 1) × (m ≤ length s)
+    unfolding total
+    bear_behind h e =
+        let q = ends_at (head_sizes b s at ++ (1 ∷ [])) s at (sym e) in
+        (omega (arith, q, total_append (head_sizes b s at) (1 ∷ [])), ends_within (head_sizes b s at ++ (1 ∷ [])) s at h (sym e))
 
     -- ---- filled
 
@@ -208,14 +207,14 @@ module _ (b : Bearing) (store : List ℕ) (g : Columns) where
       whole m h w = more (k + 256) (then (rw e at w₀) (then w₁ (then w₂ w))) (omega arith)
 
       go : (p : Pen) → p₂ ≡ p → Checked (demand F.Range in_store ∷ (head_acts b g ++ payload_acts b store g)) (k + 256) (At n) r
-      go (At m) d =
+      go (Ok m) d =
           let (i, c) = and_both in_store _ (passed_clean (demand F.Range in_store ∷ (head_acts b g ++ (byte (field 8 (g b.size) ∷ []) ∷ []))) _ front d) in
           let (_, f) = clean_both (head_acts b g) (byte (field 8 (g b.size) ∷ []) ∷ []) c in
           let l = (fits_cons 8 (g b.size) [] (and_both _ true f).0).0 in
           whole (g b.size) (omega (arith, l)) (run_looked (g b.offset) (g b.size) store (leb-true _ _ i) w₃)
-      go (Stop f m) d =
+      go (Err x) d =
           let z = (w₃.of (each (λ j. j) 0 (g b.size)) (each_length (λ j. j) 0 (g b.size))).pens in
-          let q : r ≡ p₂ = z ∙ ap (looks (copy (each (λ j. j) 0 (g b.size)) ∷ [])) d ∙ stuck _ f m ∙ sym d in
+          let q : r ≡ p₂ = z ∙ ap (looks (copy (each (λ j. j) 0 (g b.size)) ∷ [])) d ∙ stuck _ x.0 x.1 ∙ sym d in
           whole 0 (omega arith) (rw q (stopped (copy (borne_bytes b store g) ∷ []) 0 d))
 
   -- The quick test: what it says of the head, and of the length.

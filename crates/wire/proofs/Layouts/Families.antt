@@ -1,5 +1,6 @@
 -- Rows that have rows of another table, over any layouts: how such a row is measured, filled and tallied, and what the two passes of writing do with it. A row is its head,
 -- its rows of the other table, and its tail.
+use Rattle.std.specs.Prelude.{Ok, Err}
 use Prim.Native.Nat.{ℕ, zero, suc, ◌+◌, ◌-◌, ◌*◌, ◌≤◌, ◌<◌}
 use mathlib.Core.Path.{◌≡◌, refl, sym, ap, subst, ◌∙◌}
 use mathlib.Core.List.{List, [], ◌∷◌, ◌++◌, append_assoc, flatten, flat_map}
@@ -13,26 +14,23 @@ use borrow.Author.Tests.{leb-true, ltb-true, eqb-true, not-true}
 use Rattle.wire.specs.Lists.{sum}
 use Rattle.wire.specs.Bits.{total}
 use Rattle.wire.specs.Prog.{Prog, ret, Out, done, short, run, many, ◌>>=◌}
-use Rattle.wire.specs.Reads.{map_out, end_of, is_done, pos_of, rows_of, short_of, Summed}
+use Rattle.wire.specs.Reads.{map_out, end_of, is_done, pos_of, rows_of, Summed}
 use Rattle.wire.specs.Act.{Act, demand, pick, rows}
-use Rattle.wire.specs.Nest.{Fillable, Nested, Nests}
+use Rattle.wire.specs.Nest.{Fillable, Nested, RowNested}
 use Rattle.wire.specs.Layout.{Layout, end, line, word, choose, follows, judged, column, Columns, of, row, set, reads, writes, shown, cells, matches, matched, every, flagged, counted, demands, has, blank, flat, Broken, layouts, broken, broken_acts, broken_row, Family, kids, tally, family_tally}
 use Rattle.wire.specs.Pen.{looks, Checked, Quick, clean, bytes, Ready, Filled}
 use Rattle.wire.specs.Spell.{PlainRows}
 use Rattle.wire.specs.declared.pen.Fault.{Fault}
 use Rattle.wire.specs.declared.pen.Fault.TheVariants as F
-use Rattle.wire.specs.declared.pen.Pen.{Pen}
-use Rattle.wire.specs.declared.pen.Pen.TheVariants.{At, Stop}
+use Rattle.wire.specs.Pen.{Pen, At, Stop}
 use Rattle.wire.specs.Straight.{ends, ones, puts_at, took, taken, spans, on}
 use Rattle.wire.specs.declared.reads.Short.{Short}
-use Rattle.wire.specs.declared.reads.Sum.TheVariants as S
 use Rattle.wire.proofs.Reading.Runs.{out_and_then, run_bind}
 use Rattle.wire.proofs.Reading.Walk.{map_map, undo, as_done, as_short, is_done_lem}
 use Rattle.wire.proofs.Reading.Walk.{ends as ends-in}
-use Rattle.wire.proofs.Reading.Loops.{many_next, many_none, many_long, many_weighs, none_left, pos_turn, summed_done, summed_short}
-use Rattle.wire.proofs.Reading.Adding.{Adding, adding_start, adding_turn, adding_end}
+use Rattle.wire.proofs.Reading.Loops.{many_next, many_none, many_long, many_weighs, summed_done, summed_short}
 use Rattle.wire.proofs.Tables.{each_length}
-use Rattle.wire.proofs.Reading.Nest.{flat_length, Nesting, nest_start, nest_ready, nest_turn, nest_end}
+use Rattle.wire.proofs.Reading.Nest.{flat_length}
 use Rattle.wire.proofs.Writing.Acts.{and_both, both_and, clean_append, clean_both, bytes_append}
 use Rattle.wire.proofs.Writing.Passes.{stuck, looks_append, then, more, rows_turn, clean_looks, faulty, passed_clean, check_start, check_turn, check_stop, quick_clean, quick_odd, Filling, fill_start, fill_demand, fill_row_lem, fill_turn}
 use Rattle.wire.proofs.Writing.Plain.{plain_odd, plain_end, rows_from_lem, no_quick, filled_long}
@@ -112,27 +110,25 @@ module _ {A : Type 0} (b : Broken) (kid : Prog A) (s : List ℕ) (at : ℕ) wher
       ∙ ap (λ (o : Out Columns). out_and_then o (λ f n. run (rest b kid f) s n)) (read_so b.head blank s at)
       ∙ then_map (headed b s at) (ends (head_sizes b s at) s at) (λ f n. run (rest b kid f) s n)
 
-  headed_so : {o : Out (Unit {0})} {v : Out (Unit {0})} → o ≡ ends (head_sizes b s at) s at → o ≡ v
-      → end_of (run (broken b kid) s at) ≡ end_of (out_and_then v (λ u n. run (rest b kid (headed b s at)) s n))
-  headed_so e d = ap end_of (head_so ∙ ap (λ (o : Out (Unit {0})). out_and_then o (λ u n. run (rest b kid (headed b s at)) s n)) (sym e ∙ d))
+  headed_so : {v : Out (Unit {0})} → v ≡ ends (head_sizes b s at) s at → end_of (run (broken b kid) s at) ≡ end_of (out_and_then v (λ u n. run (rest b kid (headed b s at)) s n))
+  headed_so e = ap end_of (head_so ∙ ap (λ (o : Out (Unit {0})). out_and_then o (λ u n. run (rest b kid (headed b s at)) s n)) (sym e))
 
-  -- The head was measured by reads of its sizes (o, as ends_out of the call): code stands at n, with the rows and the tail left (head_got), or hands the refusal up (head_lacks).
-  -- e is the promise of reads::head where the head is single bytes.
-  module _ {o : Out (Unit {0})} (e : o ≡ ends (head_sizes b s at) s at) where
-    pub head_got : {n : ℕ} → o ≡ done tt n → end_of (run (broken b kid) s at) ≡ behind_head n
-    head_got {n} d = headed_so e d ∙ behind_so n
+  -- The head was measured by reads of its sizes: code stands at n, with the rows and the tail left (head_got), or hands the refusal up (head_lacks).
+  -- What they ask is the promise of reads::head where the head is single bytes.
+  pub head_got : {n : ℕ} → done tt n ≡ ends (head_sizes b s at) s at → end_of (run (broken b kid) s at) ≡ behind_head n
+  head_got {n} e = headed_so e ∙ behind_so n
 
-    pub head_lacks : {x : Short} → o ≡ short x → o ≡ end_of (run (broken b kid) s at)
-    head_lacks d = d ∙ sym (headed_so e d)
+  pub head_lacks : {x : Short} → short x ≡ ends (head_sizes b s at) s at → short x ≡ end_of (run (broken b kid) s at)
+  head_lacks e = sym (headed_so e)
 
-  -- The rows were measured from n on (o), by a loop that promises where they end: code stands at m, with the tail left (kids_got), or hands the refusal up (kids_lack).
+  -- The rows were measured from n on, by a loop that promises where they end: code stands at m, with the tail left (kids_got), or hands the refusal up (kids_lack).
   -- w is head_got. Where the rows and the tail are single bytes, singles_behind takes the place of both.
-  module _ (n : ℕ) {o : Out (Unit {0})} (w : end_of (run (broken b kid) s at) ≡ behind_head n) (e : o ≡ end_of (run (many (kids_of b s at) kid) s n)) where
-    pub kids_got : {m : ℕ} → o ≡ done tt m → end_of (run (broken b kid) s at) ≡ ends (tail_sizes b s at m) s m
-    kids_got d = w ∙ ap (λ (o : Out (Unit {0})). out_and_then o (λ u m. ends (tail_sizes b s at m) s m)) (sym e ∙ d)
+  module _ (n : ℕ) (w : end_of (run (broken b kid) s at) ≡ behind_head n) where
+    pub kids_got : {m : ℕ} → done tt m ≡ end_of (run (many (kids_of b s at) kid) s n) → end_of (run (broken b kid) s at) ≡ ends (tail_sizes b s at m) s m
+    kids_got e = w ∙ ap (λ (o : Out (Unit {0})). out_and_then o (λ u m. ends (tail_sizes b s at m) s m)) (sym e)
 
-    pub kids_lack : {x : Short} → o ≡ short x → o ≡ end_of (run (broken b kid) s at)
-    kids_lack d = d ∙ sym (w ∙ ap (λ (o : Out (Unit {0})). out_and_then o (λ u m. ends (tail_sizes b s at m) s m)) (sym e ∙ d))
+    pub kids_lack : {x : Short} → short x ≡ end_of (run (many (kids_of b s at) kid) s n) → short x ≡ end_of (run (broken b kid) s at)
+    kids_lack e = sym (w ∙ ap (λ (o : Out (Unit {0})). out_and_then o (λ u m. ends (tail_sizes b s at m) s m)) (sym e))
 
   -- A row that was read, taken apart: the bytes of its head and of its tail are there, its rows begin behind the head, and its tail begins at `middle`.
   -- All that fills or tallies a row rests on it.
@@ -155,7 +151,7 @@ module _ {A : Type 0} (b : Broken) (kid : Prog A) (s : List ℕ) (at : ℕ) wher
       let n-is = ends_at (head_sizes b s at) s at e₁ in
       let n-in = ends_within (head_sizes b s at) s at h e₁ in
       let (v, e₃, q) = as_done (λ (u : Unit {0}). rowed b l (tailed b s at m)) (ends (tail_sizes b s at m) s m) (sym (last_so l m) ∙ r) in
-      let m-in : m ≤ length s = ends-in (many (kids_of b s at) kid) s n n-in refl e₂ in
+      let m-in : m ≤ length s = ends-in (many (kids_of b s at) kid) s n n-in (sym e₂) in
       let l-is : l ≡ x.1 = ap (λ (y : List ℕ × List A). y.1) q in
       let k : end ≡ m + total (tail_sizes b s at m) = ends_at (tail_sizes b s at m) s m e₃ in
       record {
@@ -176,12 +172,12 @@ module _ {A : Type 0} (b : Broken) (kid : Prog A) (s : List ℕ) (at : ℕ) wher
 
   -- The answer of a function that counts its rows: it knows where the row ends (w, from the laws above), and the count from the head's bytes. For the loop over rows take
   -- Summing of Loops, and kids_summed at its returns.
-  module _ (most : ℕ) {o : Out (Unit {0})} (h : at ≤ length s) (w : o ≡ end_of (run (broken b kid) s at)) where
-    pub broken_got : {n m : ℕ} → o ≡ done tt m → n ≡ kids_of b s at → n ≤ most → Summed (broken b kid) (λ x. length x.1) most s at (S.Got n m)
-    broken_got d k l = let (x, e, q) = as_done (λ v. tt {0}) (run (broken b kid) s at) (sym w ∙ d) in summed_done (sym e) (k ∙ sym (broke h e).counts) l
+  module _ (most : ℕ) (h : at ≤ length s) where
+    pub broken_got : {n m : ℕ} → done tt m ≡ end_of (run (broken b kid) s at) → n ≡ kids_of b s at → n ≤ most → Summed (broken b kid) (λ x. length x.1) most s at (Ok (n, m))
+    broken_got w k l = let (x, e, q) = as_done (λ v. tt {0}) (run (broken b kid) s at) (sym w) in summed_done (sym e) (k ∙ sym (broke h e).counts) l
 
-    pub broken_lacks : {x y : Short} → o ≡ short x → y ≡ short_of o → Summed (broken b kid) (λ x. length x.1) most s at (S.Short y)
-    broken_lacks d k = summed_short (ap short (k ∙ ap short_of d) ∙ sym (as_short (λ v. tt {0}) (run (broken b kid) s at) (sym w ∙ d)))
+    pub broken_lacks : {x : Short} → short x ≡ end_of (run (broken b kid) s at) → Summed (broken b kid) (λ x. length x.1) most s at (Err x)
+    broken_lacks w = summed_short (sym (as_short (λ v. tt {0}) (run (broken b kid) s at) (sym w)))
 
 -- ---- rows of single bytes
 
@@ -368,60 +364,35 @@ module _ (b : Broken) (n : ℕ) (kid : Layout) (s : List ℕ) (at first : ℕ) (
       stored = q ∙ ap (λ (o : Out (List (List ℕ))). sets u (first * n) (flat_map (λ r. r) (rows_of o))) the_row.kids ∙ ap (sets u (first * n)) (flat_same f.value.1);
     }
 
--- The invariant of the loop that stores both tables: families_start, at each row family_ask for the call and families_turn behind it, families_end at the end.
--- `place` and `long_outer` of it say that there is room for the next row.
-abbrev pub Families : Broken → ℕ → Layout → List ℕ → ℕ → ℕ → List ℕ → List ℕ → List ℕ → List ℕ → ℕ → ℕ → ℕ → ℕ → Type 0
-Families b n kid s at count t₀ u₀ t u pos left to first =
-    Nesting (broken b (flat n kid)) (λ x. length x.1) (λ i x. broken_row b (i, x)) b.width (λ x. flatten x.1) n s at count t₀ u₀ t u pos left to first
-
-module _ (b : Broken) (n : ℕ) (kid : Layout) (s : List ℕ) (at count : ℕ) (t₀ u₀ : List ℕ) where
-  pub families_start : Fillable (many count (broken b (flat n kid))) n (λ l. length (kids l)) s at 0 u₀ → Families b n kid s at count t₀ u₀ t₀ u₀ at count 0 0
-  families_start f = nest_start (broken b (flat n kid)) (λ x. length x.1) (λ i x. broken_row b (i, x)) b.width (λ x. flatten x.1) n s at count t₀ u₀ (rw kids_summed f)
-
-  module _ {t u : List ℕ} {pos left to first : ℕ} (i : Families b n kid s at count t₀ u₀ t u pos left to first) where
-    pub family_ask : 0 < left → Fillable (broken b (flat n kid)) n (λ x. length x.1) s pos first u
-    family_ask h = nest_ready (broken b (flat n kid)) (λ x. length x.1) (λ i x. broken_row b (i, x)) b.width (λ x. flatten x.1) n s at count t₀ u₀ i h
-
-    -- The next first row stands behind those that the row r counts.
-    pub families_turn : family_test b kid ≡ true → 0 < left → {r t' u' : List ℕ} {next first' : ℕ}
-        → Nested (broken b (flat n kid)) n (λ i x. broken_row b (i, x)) (λ x. flatten x.1) s pos first u r next u'
-        → first' ≡ first + get_or r b.count 0 → t' ≡ sets t to r → Families b n kid s at count t₀ u₀ t' u' next (left - 1) (to + b.width) first'
-    unfolding family_test
-    families_turn c h {r} {next = next} {first'} w k q =
-        let (c₀, c₁) = and_both (ltb b.count b.width) _ c in
-        let (c₂, c₃) = and_both (not (eqb b.count b.first)) _ c₁ in
-        let (c₄, c₅) = and_both (not (has b.count (all b.tail))) _ c₃ in
-        let x = w.value in
-        let d : run (broken b (flat n kid)) s pos ≡ done x next = w.reads ∙ ap (done x) (sym w.on) in
-        let o = broke b (flat n kid) s pos i.inside d in
-        let e : get_or r b.count 0 ≡ length x.1 = ap (λ (l : List ℕ). get_or l b.count 0) w.is ∙ count_so b (flat n kid) s pos first c₀ (not-true _ c₂) (not-true _ c₄) o in
-        let v =
-        many_weighs (flat n kid) s (λ x. 1) (λ at x m e. let z = (flat_is n kid s at x m e).1 in omega (arith, z, leb-true 1 (weight kid) c₅)) (kids_of b s pos) _
-        x.1 o.middle o.kids in
-        nest_turn (broken b (flat n kid)) (λ x. length x.1) (λ i x. broken_row b (i, x)) b.width (λ x. flatten x.1) n s at count t₀ u₀ i h d
-        (omega (arith, v, sum_ones x.1, o.on)) (each_length (set b.first first (of x.0)) 0 b.width) (many_tall n kid s (kids_of b s pos) _ o.kids)
-        (k ∙ ap (λ (k : ℕ). first + k) e) (q ∙ ap (sets t to) w.is) w.stored
-
-    pub families_end : left ≤ 0 → Nests (broken b (flat n kid)) (λ x. length x.1) (λ i x. broken_row b (i, x)) (λ x. flatten x.1) s at count t₀ u₀ t u
-    families_end h = nest_end (broken b (flat n kid)) (λ x. length x.1) (λ i x. broken_row b (i, x)) b.width (λ x. flatten x.1) n s at count t₀ u₀ i h
+-- Stored with its row: what a loop over such rows asks of it. The next first row stands behind those that the row r counts.
+pub family_nested : (b : Broken) (n : ℕ) (kid : Layout) (s : List ℕ) (at first : ℕ) → at ≤ length s → family_test b kid ≡ true → {r t t' u u' : List ℕ} {to next behind : ℕ}
+    → Nested (broken b (flat n kid)) n (λ i x. broken_row b (i, x)) (λ x. flatten x.1) s at first u r next u'
+    → behind ≡ first + get_or r b.count 0 → t' ≡ sets t to r
+    → RowNested (broken b (flat n kid)) (λ x. length x.1) (λ i x. broken_row b (i, x)) b.width (λ x. flatten x.1) n s at t to u first next behind t' u'
+unfolding family_test
+family_nested b n kid s at first h c {r} {t} {to = to} {next} w k q =
+    let (c₀, c₁) = and_both (ltb b.count b.width) _ c in
+    let (c₂, c₃) = and_both (not (eqb b.count b.first)) _ c₁ in
+    let (c₄, c₅) = and_both (not (has b.count (all b.tail))) _ c₃ in
+    let x = w.value in
+    let d : run (broken b (flat n kid)) s at ≡ done x next = w.reads ∙ ap (done x) (sym w.on) in
+    let o = broke b (flat n kid) s at h d in
+    let e : get_or r b.count 0 ≡ length x.1 = ap (λ (l : List ℕ). get_or l b.count 0) w.is ∙ count_so b (flat n kid) s at first c₀ (not-true _ c₂) (not-true _ c₄) o in
+    let v =
+    many_weighs (flat n kid) s (λ x. 1) (λ at x m e. let z = (flat_is n kid s at x m e).1 in omega (arith, z, leb-true 1 (weight kid) c₅)) (kids_of b s at) _
+    x.1 o.middle o.kids in
+    record {
+      value = x;
+      reads = d;
+      weighs = omega (arith, v, sum_ones x.1, o.on);
+      wide = each_length (set b.first first (of x.0)) 0 b.width;
+      tall = many_tall n kid s (kids_of b s at) _ o.kids;
+      on = k ∙ ap (λ (k : ℕ). first + k) e;
+      outer = q ∙ ap (sets t to) w.is;
+      inner = w.stored;
+    }
 
 -- ---- tallied, once measured
-
--- The invariant of a loop that sums a number of each row up and knows where they end, for rows whose lengths differ: walk_start, walk_turn, walk_end.
-pub record Walking {A : Type 0} (p : Prog A) (f : A → ℕ) (most : ℕ) (s : List ℕ) (at count pos left acc : ℕ) : Type 0 where
-  pub adds : Adding p f most s at count pos left acc
-  pub end : pos_of (run (many left p) s pos) ≡ pos_of (run (many count p) s at)
-
-module _ {A : Type 0} (p : Prog A) (f : A → ℕ) (most : ℕ) (s : List ℕ) (at count : ℕ) where
-  pub walk_start : at ≤ length s → is_done (run (many count p) s at) ≡ true → Walking p f most s at count at count 0
-  walk_start h q = record { adds = adding_start p f most s at count h q; end = refl }
-
-  module _ {pos left acc : ℕ} (i : Walking p f most s at count pos left acc) where
-    pub walk_turn : {a : A} {m n : ℕ} → 0 < left → done a m ≡ run p s pos → n ≡ f a → n ≤ most → Walking p f most s at count m (left - 1) (acc + n)
-    walk_turn h e q l = record { adds = adding_turn p f most s at count i.adds h e q l; end = pos_turn p s left pos h e refl ∙ i.end }
-
-    pub walk_end : left ≤ 0 → (acc ≡ sum f (rows_of (run (many count p) s at))) × (pos ≡ pos_of (run (many count p) s at))
-    walk_end h = (adding_end p f most s at count i.adds h, sym (ap pos_of (none_left p s left pos h)) ∙ i.end)
 
 module _ (b : Broken) (n : ℕ) (kid : Layout) (s : List ℕ) (at : ℕ) (h : at ≤ length s) (q : is_done (run (broken b (flat n kid)) s at) ≡ true) where
   -- h and q are what the function that tallies one such row requires. It may call the one that tallies its rows, behind the head.
@@ -439,7 +410,7 @@ module _ (b : Broken) (n : ℕ) (kid : Layout) (s : List ℕ) (at : ℕ) (h : at
         let o = broke b (flat n kid) s at h e in
         subst (λ (m : ℕ). m + total (tail_sizes b s at m) ≤ length s) (sym (p ∙ ap pos_of o.kids)) o.inside
 
-    -- The reserved bits of its own fields and of its rows; with adding_turn or walk_turn, by as_done, the loop goes on.
+    -- The reserved bits of its own fields and of its rows.
     pub family_tallied : {own below zeros next : ℕ} → own ≡ tally (layouts b) (of (row b.width (tailed b s at m)))
         → below ≡ sum (λ r. tally (kid ∷ []) (of r)) (rows_of (run (many (kids_of b s at) (flat n kid)) s (at + total (head_sizes b s at))))
         → zeros ≡ own + below → next ≡ m + total (tail_sizes b s at m) → done zeros next ≡ map_out (family_tally b kid) (run (broken b (flat n kid)) s at)

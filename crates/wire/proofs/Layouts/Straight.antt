@@ -94,13 +94,13 @@ ends_few (n ∷ a) s at e = go (leb (at + n) (length s)) refl (ends a s (at + n)
     go false q y h e = omega (arith, leb-false (at + n) (length s) q)
 
 -- code stands behind the first of them, or has been refused
-pub ends_on : (a b s : List ℕ) (at : ℕ) {u : Unit {0}} {m : ℕ} {o : Out (Unit {0})} → o ≡ ends a s at → o ≡ done u m → ends (a ++ b) s at ≡ ends b s m
+pub ends_on : (a b s : List ℕ) (at : ℕ) {m : ℕ} → done tt m ≡ ends a s at → ends (a ++ b) s at ≡ ends b s m
 unfolding then_ends
-ends_on a b s at e d = ends_append a b s at ∙ ap (λ (o : Out (Unit {0})). then_ends o b s) (sym e ∙ d)
+ends_on a b s at e = ends_append a b s at ∙ ap (λ (o : Out (Unit {0})). then_ends o b s) (sym e)
 
-pub ends_cut : (a b s : List ℕ) (at : ℕ) {x : Short} {o : Out (Unit {0})} → o ≡ ends a s at → o ≡ short x → o ≡ ends (a ++ b) s at
+pub ends_cut : (a b s : List ℕ) (at : ℕ) {x : Short} → short x ≡ ends a s at → short x ≡ ends (a ++ b) s at
 unfolding then_ends
-ends_cut a b s at e d = d ∙ sym (ends_append a b s at ∙ ap (λ (o : Out (Unit {0})). then_ends o b s) (sym e ∙ d))
+ends_cut a b s at e = sym (ends_append a b s at ∙ ap (λ (o : Out (Unit {0})). then_ends o b s) (sym e))
 
 -- reads that are done: how far they go
 pub ends_done : (a s : List ℕ) (at : ℕ) → at ≤ length s → is_done (ends a s at) ≡ true → (ends a s at ≡ done tt (at + total a)) × (at + total a ≤ length s)
@@ -121,10 +121,10 @@ pub record Past (s : List ℕ) (at k n : ℕ) : Type 0 where
   pub is : n ≡ at + k
   pub inside : at + k ≤ length s
 
-pub ones_past : (k : ℕ) (s : List ℕ) (at : ℕ) {o : Out (Unit {0})} {n : ℕ} → at ≤ length s → o ≡ ends (ones k) s at → o ≡ done tt n → Past s at k n
-ones_past k s at h e d =
-    let q = ends_at (ones k) s at (sym e ∙ d) ∙ ap (λ (t : ℕ). at + t) (total_ones k) in
-    record { is = q; inside = rw q at (ends_within (ones k) s at h (sym e ∙ d)) }
+pub ones_past : (k : ℕ) (s : List ℕ) (at : ℕ) {n : ℕ} → at ≤ length s → done tt n ≡ ends (ones k) s at → Past s at k n
+ones_past k s at h e =
+    let q = ends_at (ones k) s at (sym e) ∙ ap (λ (t : ℕ). at + t) (total_ones k) in
+    record { is = q; inside = rw q at (ends_within (ones k) s at h (sym e)) }
 
 pub ones_append : (k t : ℕ) → ones k ++ ones t ≡ ones (k + t)
 unfolding ones
@@ -142,16 +142,16 @@ pub record Behind (s : List ℕ) (at n : ℕ) : Type 0 where
   pub is : n ≡ at + 1
   pub goes : (more : List ℕ) → ends (ones 1 ++ more) s at ≡ ends more s n
 
-pub behind_one : (s : List ℕ) (at : ℕ) {o : Out (Unit {0})} {n : ℕ} → at ≤ length s → o ≡ ends (ones 1) s at → o ≡ done tt n → Behind s at n
+pub behind_one : (s : List ℕ) (at : ℕ) {n : ℕ} → at ≤ length s → done tt n ≡ ends (ones 1) s at → Behind s at n
 unfolding ones total
-behind_one s at h e d =
-    let i = ends_within (ones 1) s at h (sym e ∙ d) in
-    let q = ends_at (ones 1) s at (sym e ∙ d) in
-    record { there = omega arith; inside = i; is = q; goes = λ more. ends_on (ones 1) more s at e d }
+behind_one s at h e =
+    let i = ends_within (ones 1) s at h (sym e) in
+    let q = ends_at (ones 1) s at (sym e) in
+    record { there = omega arith; inside = i; is = q; goes = λ more. ends_on (ones 1) more s at e }
 
-pub one_cut : (k : ℕ) (s : List ℕ) (at : ℕ) {o : Out (Unit {0})} {x : Short} → o ≡ ends (ones 1) s at → o ≡ short x → o ≡ ends (ones (1 + k)) s at
+pub one_cut : (k : ℕ) (s : List ℕ) (at : ℕ) {x : Short} → short x ≡ ends (ones 1) s at → short x ≡ ends (ones (1 + k)) s at
 unfolding ones
-one_cut k s at e d = ends_cut (ones 1) (ones k) s at e d ∙ ap (λ (l : List ℕ). ends l s at) (sym (ones_more k))
+one_cut k s at e = ends_cut (ones 1) (ones k) s at e ∙ ap (λ (l : List ℕ). ends l s at) (sym (ones_more k))
 
 pub one_more : {s : List ℕ} {at n k j : ℕ} → Behind s at n → k ≡ j → {o : Out (Unit {0})} → o ≡ ends (ones k) s n → o ≡ ends (ones (1 + j)) s at
 unfolding ones

@@ -1,5 +1,6 @@
 -- Loops over a counted list: what code has to show at a row, and around a loop that measures, sums or fills.
 use Prim.Native.Nat.{ℕ, suc, zero, ◌+◌, ◌-◌, ◌*◌, ◌≤◌, ◌<◌}
+use Rattle.std.specs.Prelude.{Result, Ok, Err}
 use mathlib.Core.Path.{◌≡◌, refl, ap, ◌∙◌, sym}
 use mathlib.Core.List.{List, [], ◌∷◌, flat_map}
 use mathlib.Core.Bool.{true, false}
@@ -8,14 +9,23 @@ use native.Mathlib.Nat.{add-zero, zero-add, add_assoc, mul-suc}
 use lib.ListN.{length}
 use lib.Seq.{sets, length-sets}
 use Rattle.wire.specs.declared.reads.Short.{Short}
-use Rattle.wire.specs.declared.reads.Sum.{Sum}
-use Rattle.wire.specs.declared.reads.Sum.TheVariants as S
 use Rattle.wire.specs.Lists.{sum}
 use Rattle.wire.specs.Prog.{Prog, ret, Out, done, short, run, ◌>>=◌, many}
-use Rattle.wire.specs.Reads.{short_of, map_out, is_done, pos_of, rows_of, sum_out, Summed}
+use Rattle.wire.specs.Reads.{map_out, is_done, pos_of, rows_of, Summed}
 use Rattle.wire.proofs.Reading.Runs.{out_and_then, run_bind}
-use Rattle.wire.proofs.Reading.Walk.{map_done, From, step, halt, ends, undo, onward, cut_off, as_done, as_short}
+use Rattle.wire.proofs.Reading.Walk.{never, map_done, From, step, halt, ends, undo, onward, cut_off, as_done, as_short}
 use Rattle.wire.proofs.Reading.Steps.{sets_append}
+
+-- of n rows those that are left behind the first i
+pub all_left : (n : ℕ) → n - 0 ≡ n
+all_left n = omega arith
+
+pub one_less_left : (n i : ℕ) → n - (i + 1) ≡ n - i - 1
+one_less_left n i = omega arith
+
+-- what the next of them takes, and those behind it
+pub most_left : (most n i : ℕ) → i < n → most * (n - i) ≡ most * (n - (i + 1)) + most
+most_left most n i h = let e : n - i ≡ suc (n - (i + 1)) = omega arith in ap (λ (j : ℕ). most * j) e ∙ mul-suc most (n - (i + 1))
 
 -- a row before those of a run
 abbrev pub cons_to : {A : Type 0} → A → Out (List A) → Out (List A)
@@ -28,17 +38,17 @@ then_cons a (done l n) s = refl
 then_cons a (short n) s = refl
 
 module _ {A : Type 0} (p : Prog A) (s : List ℕ) where
-  pub turn : (left pos : ℕ) {m : ℕ} {a : A} {o : Out A} → 0 < left → o ≡ run p s pos → o ≡ done a m → run (many left p) s pos ≡ cons_to a (run (many (left - 1) p) s m)
+  pub turn : (left pos : ℕ) {m : ℕ} {a : A} → 0 < left → done a m ≡ run p s pos → run (many left p) s pos ≡ cons_to a (run (many (left - 1) p) s m)
   unfolding many
-  turn zero pos h e d = absurd (omega arith)
-  turn (suc k) pos {m} {a} h e d =
+  turn zero pos h e = absurd (omega arith)
+  turn (suc k) pos {m} {a} h e =
       let z : k ≡ suc k - 1 = omega arith in
-      step p _ s pos e d ∙ run_bind (many k p) _ s m ∙ then_cons a (run (many k p) s m) s ∙ ap (λ (n : ℕ). cons_to a (run (many n p) s m)) z
+      step p _ s pos e ∙ run_bind (many k p) _ s m ∙ then_cons a (run (many k p) s m) s ∙ ap (λ (n : ℕ). cons_to a (run (many n p) s m)) z
 
-  pub cut : (left pos : ℕ) {x y : Short} {o : Out A} → 0 < left → o ≡ run p s pos → o ≡ short x → y ≡ short_of o → run (many left p) s pos ≡ short y
+  pub cut : (left pos : ℕ) {x : Short} → 0 < left → short x ≡ run p s pos → run (many left p) s pos ≡ short x
   unfolding many
-  cut zero pos h e d q = absurd (omega arith)
-  cut (suc k) pos h e d q = halt p _ s pos e d q
+  cut zero pos h e = absurd (omega arith)
+  cut (suc k) pos h e = halt p _ s pos e
 
   -- no row is left
   pub none_left : (left pos : ℕ) → left ≤ 0 → run (many left p) s pos ≡ done [] pos
@@ -58,16 +68,16 @@ rows_cons : {A : Type 0} (a : A) (o : Out (List A)) → is_done o ≡ true → r
 rows_cons a (done l n) h = refl
 rows_cons a (short n) h = let z : ◌≡◌ {A = ℕ} 0 1 = cc in absurd (omega arith)
 
-module _ {A : Type 0} (p : Prog A) (s : List ℕ) (left pos : ℕ) {m : ℕ} {a : A} {o : Out A} (h : 0 < left) (e : o ≡ run p s pos) (d : o ≡ done a m) where
+module _ {A : Type 0} (p : Prog A) (s : List ℕ) (left pos : ℕ) {m : ℕ} {a : A} (h : 0 < left) (e : done a m ≡ run p s pos) where
   pub done_turn : is_done (run (many (left - 1) p) s m) ≡ is_done (run (many left p) s pos)
-  done_turn = sym (ap is_done (turn p s left pos h e d) ∙ done_cons a (run (many (left - 1) p) s m))
+  done_turn = sym (ap is_done (turn p s left pos h e) ∙ done_cons a (run (many (left - 1) p) s m))
 
   pub pos_turn : pos_of (run (many (left - 1) p) s m) ≡ pos_of (run (many left p) s pos)
-  pos_turn = sym (ap pos_of (turn p s left pos h e d) ∙ pos_cons a (run (many (left - 1) p) s m))
+  pos_turn = sym (ap pos_of (turn p s left pos h e) ∙ pos_cons a (run (many (left - 1) p) s m))
 
   -- the rows from here are this one and those from the next
   pub rows_turn : is_done (run (many left p) s pos) ≡ true → rows_of (run (many left p) s pos) ≡ a ∷ rows_of (run (many (left - 1) p) s m)
-  rows_turn q = ap rows_of (turn p s left pos h e d) ∙ rows_cons a (run (many (left - 1) p) s m) (done_turn ∙ q)
+  rows_turn q = ap rows_of (turn p s left pos h e) ∙ rows_cons a (run (many (left - 1) p) s m) (done_turn ∙ q)
 
   -- what is stored from here is this row, and what is stored from the next
   pub fill_turn : (f : A → List ℕ) (t : List ℕ) (base : ℕ) → is_done (run (many left p) s pos) ≡ true
@@ -78,10 +88,10 @@ module _ {A : Type 0} (p : Prog A) (s : List ℕ) (left pos : ℕ) {m : ℕ} {a 
       (ap (λ (l : List A). sets t base (flat_map f l)) (rows_turn q)
       ∙ sets_append t base (f a) (flat_map f (rows_of (run (many (left - 1) p) s m))))
 
-pub no_cut : {A X : Type 0} (p : Prog A) (s : List ℕ) (left pos : ℕ) {x : Short} {o : Out A} → 0 < left → o ≡ run p s pos → o ≡ short x
+pub no_cut : {A X : Type 0} (p : Prog A) (s : List ℕ) (left pos : ℕ) {x : Short} → 0 < left → short x ≡ run p s pos
     → is_done (run (many left p) s pos) ≡ true → X
-no_cut p s left pos {x} {o} h e d q =
-    let w : false ≡ true = sym (ap is_done (cut p s left pos {y = short_of o} h e d refl)) ∙ q in
+no_cut p s left pos h e q =
+    let w : false ≡ true = sym (ap is_done (cut p s left pos h e)) ∙ q in
     let z : ◌≡◌ {A = ℕ} 0 1 = cc in
     absurd (omega arith)
 
@@ -91,7 +101,7 @@ first_done {A} p s left pos h q = go (run p s pos) refl
   where
     go : (o : Out A) → run p s pos ≡ o → is_done (run p s pos) ≡ true
     go (done a m) e = ap is_done e
-    go (short x) e = no_cut p s left pos h refl e q
+    go (short x) e = no_cut p s left pos h (sym e) q
 
 -- a list that is done, row by row
 pub record Next {A : Type 0} (p : Prog A) (s : List ℕ) (left pos : ℕ) (l : List A) (end : ℕ) : Type 0 where
@@ -154,15 +164,15 @@ map_cons f g a (done l n) h = ap (λ c. done c n) (h l)
 map_cons f g a (short n) h = refl
 
 module _ {A B C : Type 0} {p : Prog A} {g : B → List A → C} {s : List ℕ} {at count : ℕ} {start : B} {pos left : ℕ} {acc : B} (i : Carrying p g s at count start pos left acc) where
-  pub carry_turn : {m : ℕ} {a : A} {acc' : B} → 0 < left → run p s pos ≡ done a m → ((l : List A) → g acc' l ≡ g acc (a ∷ l)) → Carrying p g s at count start m (left - 1) acc'
+  pub carry_turn : {m : ℕ} {a : A} {acc' : B} → 0 < left → done a m ≡ run p s pos → ((l : List A) → g acc' l ≡ g acc (a ∷ l)) → Carrying p g s at count start m (left - 1) acc'
   carry_turn {m} {a} {acc'} h e q = record {
-    inside = ends p s pos i.inside refl e;
-    same = map_cons (g acc') (g acc) a (run (many (left - 1) p) s m) q ∙ sym (ap (map_out (g acc)) (turn p s left pos h refl e)) ∙ i.same;
+    inside = ends p s pos i.inside e;
+    same = map_cons (g acc') (g acc) a (run (many (left - 1) p) s m) q ∙ sym (ap (map_out (g acc)) (turn p s left pos h e)) ∙ i.same;
   }
 
   -- a row is cut off: so is the list
-  pub carry_cut : {x : Short} → 0 < left → run p s pos ≡ short x → short x ≡ map_out (g start) (run (many count p) s at)
-  carry_cut h e = sym (ap (map_out (g acc)) (cut p s left pos h refl e (sym (ap short_of e)))) ∙ i.same
+  pub carry_cut : {x : Short} → 0 < left → short x ≡ run p s pos → short x ≡ map_out (g start) (run (many count p) s at)
+  carry_cut h e = sym (ap (map_out (g acc)) (cut p s left pos h e)) ∙ i.same
 
   pub carry_end : left ≤ 0 → done (g acc []) pos ≡ map_out (g start) (run (many count p) s at)
   carry_end h = sym (ap (map_out (g acc)) (none_left p s left pos h)) ∙ i.same
@@ -187,34 +197,38 @@ module _ {A : Type 0} (p : Prog A) (f : A → ℕ) (most : ℕ) (s : List ℕ) (
   pub sum_start : at ≤ length s → Summing p f most s at count at count 0
   sum_start h = record { carries = record { inside = h; same = refl }; small = omega arith }
 
-  module _ {pos left acc : ℕ} (i : Summing p f most s at count pos left acc) (h : 0 < left) {r : Sum} (w : Summed p f most s pos r) where
-    pub sum_turn : {n m : ℕ} → r ≡ S.Got n m → Summing p f most s at count m (left - 1) (acc + n)
+  module _ {pos left acc : ℕ} (i : Summing p f most s at count pos left acc) (h : 0 < left) where
+    pub sum_turn : {n m : ℕ} → Summed p f most s pos (Ok (n, m)) → Summing p f most s at count m (left - 1) (acc + n)
     unfolding sum
-    sum_turn {n} {m} e =
-        let (a, d, q) = as_done f (run p s pos) (sym w.is ∙ ap sum_out e) in
-        let k : n ≤ most = rw e at w.small in
+    sum_turn {n} {m} w =
+        let (a, d, q) = as_done f (run p s pos) (sym w.is) in
+        let k : n ≤ most = w.small in
         record {
-          carries = carry_turn i.carries h d (λ l. ap (λ (x : ℕ). acc + x + sum f l) (sym q) ∙ add_assoc acc (f a) (sum f l));
+          carries = carry_turn i.carries h (sym d) (λ l. ap (λ (x : ℕ). acc + x + sum f l) (sym q) ∙ add_assoc acc (f a) (sum f l));
           small = omega (arith, i.small, one_less most left h, k);
         }
 
-    pub sum_cut : {x : Short} → r ≡ S.Short x → Summed (many count p) (sum f) (most * count) s at r
-    sum_cut {x} e =
-        rw e (record { is = carry_cut i.carries h (as_short f (run p s pos) (sym w.is ∙ ap sum_out e)) ∙ zero_first f (run (many count p) s at); small = omega arith })
+    pub sum_cut : {x : Short} → Summed p f most s pos (Err x) → Summed (many count p) (sum f) (most * count) s at (Err x)
+    sum_cut w = record { is = carry_cut i.carries h (sym (as_short f (run p s pos) (sym w.is))) ∙ zero_first f (run (many count p) s at); small = omega arith }
 
-  pub sum_end : {pos left acc : ℕ} → Summing p f most s at count pos left acc → left ≤ 0 → Summed (many count p) (sum f) (most * count) s at (S.Got acc pos)
+  pub sum_end : {pos left acc : ℕ} → Summing p f most s at count pos left acc → left ≤ 0 → Summed (many count p) (sum f) (most * count) s at (Ok (acc, pos))
   unfolding sum
   sum_end {pos} {acc = acc} i h = record {
     is = ap (λ (n : ℕ). done n pos) (sym (add-zero acc)) ∙ carry_end i.carries h ∙ zero_first f (run (many count p) s at);
     small = omega (arith, i.small);
   }
 
+-- what was summed up of the rows, and where they end
+pub summed_rows : {A : Type 0} (f : A → ℕ) (o : Out (List A)) {z n : ℕ} → done z n ≡ map_out (sum f) o → (z ≡ sum f (rows_of o)) × (n ≡ pos_of o)
+summed_rows f (done l m) e = (cc e, cc e)
+summed_rows f (short x) e = never (sym e)
+
 -- what a function has at a return that has summed a number up
 pub summed_done : {A : Type 0} {p : Prog A} {f : A → ℕ} {most : ℕ} {s : List ℕ} {at : ℕ} {a : A} {n m : ℕ} → done a m ≡ run p s at → n ≡ f a → n ≤ most
-    → Summed p f most s at (S.Got n m)
+    → Summed p f most s at (Ok (n, m))
 summed_done {f = f} {m = m} e q h = record { is = ap (λ (n : ℕ). done n m) q ∙ ap (map_out f) e; small = h }
 
-pub summed_short : {A : Type 0} {p : Prog A} {f : A → ℕ} {most : ℕ} {s : List ℕ} {at : ℕ} {x : Short} → short x ≡ run p s at → Summed p f most s at (S.Short x)
+pub summed_short : {A : Type 0} {p : Prog A} {f : A → ℕ} {most : ℕ} {s : List ℕ} {at : ℕ} {x : Short} → short x ≡ run p s at → Summed p f most s at (Err x)
 summed_short {f = f} e = record { is = ap (map_out f) e; small = omega arith }
 
 -- a part whose number was summed up, in a program that goes on with it
@@ -224,22 +238,15 @@ pub record WentOn {A B : Type 0} (p : Prog A) (g : A → ℕ) (f : A → Prog B)
   pub is : g value ≡ v
   pub place : From whole s start (f value) m
 
-module _ {A B : Type 0} (p : Prog A) (f : A → Prog B) {g : A → ℕ} {most : ℕ} {whole : Prog B} {s : List ℕ} {start at : ℕ} (w : From whole s start (p >>= f) at) {r : Sum} (x : Summed p g most s at r) where
-  pub sum_onward : {v m : ℕ} → r ≡ S.Got v m → WentOn p g f whole s start at v m
-  sum_onward e = let (a, d, q) = as_done g (run p s at) (sym x.is ∙ ap sum_out e) in record { value = a; reads = d; is = q; place = onward p f w refl d }
+module _ {A B : Type 0} (p : Prog A) (f : A → Prog B) {g : A → ℕ} {most : ℕ} {whole : Prog B} {s : List ℕ} {start at : ℕ} (w : From whole s start (p >>= f) at) where
+  pub sum_onward : {v m : ℕ} → Summed p g most s at (Ok (v, m)) → WentOn p g f whole s start at v m
+  sum_onward x = let (a, d, q) = as_done g (run p s at) (sym x.is) in record { value = a; reads = d; is = q; place = onward p f w (sym d) }
 
-  pub sum_cut_off : {y : Short} → r ≡ S.Short y → short y ≡ run whole s start
-  sum_cut_off e = let d = as_short g (run p s at) (sym x.is ∙ ap sum_out e) in cut_off p f w refl d (sym (ap short_of d))
-
-pub sum_small : {A : Type 0} {p : Prog A} {f : A → ℕ} {most : ℕ} {s : List ℕ} {at : ℕ} {r : Sum} {v m : ℕ} → Summed p f most s at r → r ≡ S.Got v m → v ≤ most
-sum_small w e = rw e at w.small
-
--- the same refusal, handed up
-pub summed_cut : {A : Type 0} {p : Prog A} {f : A → ℕ} {most : ℕ} {s : List ℕ} {at : ℕ} {r : Sum} {x : Short} → r ≡ S.Short x → short x ≡ run p s at → Summed p f most s at r
-summed_cut e d = rw e (summed_short d)
+  pub sum_cut_off : {y : Short} → Summed p g most s at (Err y) → short y ≡ run whole s start
+  sum_cut_off x = cut_off p f w (sym (as_short g (run p s at) (sym x.is)))
 
 -- the same number by another name
-pub summed_as : {A : Type 0} {p : Prog A} {f g : A → ℕ} {most : ℕ} {s : List ℕ} {at : ℕ} {r : Sum} → f ≡ g → Summed p f most s at r → Summed p g most s at r
+pub summed_as : {A : Type 0} {p : Prog A} {f g : A → ℕ} {most : ℕ} {s : List ℕ} {at : ℕ} {r : Result (ℕ × ℕ) Short} → f ≡ g → Summed p f most s at r → Summed p g most s at r
 summed_as e w = rw (← e) w
 
 -- A loop that stores a list of rows of w columns each.
@@ -252,21 +259,21 @@ pub record Filling {A : Type 0} (p : Prog A) (f : A → List ℕ) (w : ℕ) (s :
   pub stored : sets t to (flat_map f (rows_of (run (many left p) s pos))) ≡ sets t₀ base (flat_map f (rows_of (run (many count p) s at)))
 
 module _ {A : Type 0} (p : Prog A) (f : A → List ℕ) (w : ℕ) (s : List ℕ) (at count : ℕ) (t₀ : List ℕ) (base : ℕ) (t : List ℕ) (pos left to : ℕ) where
-  pub fill_next : {m : ℕ} {a : A} {o : Out A} {t' row : List ℕ} → Filling p f w s at count t₀ base t pos left to → 0 < left → o ≡ run p s pos → o ≡ done a m
+  pub fill_next : {m : ℕ} {a : A} {t' row : List ℕ} → Filling p f w s at count t₀ base t pos left to → 0 < left → done a m ≡ run p s pos
       → length (f a) ≡ w → row ≡ f a → t' ≡ sets t to row → Filling p f w s at count t₀ base t' m (left - 1) (to + w)
-  fill_next {m} {a} {t' = t'} i h e d n c r =
+  fill_next {m} {a} {t' = t'} i h e n c r =
       let next : List ℕ = flat_map f (rows_of (run (many (left - 1) p) s m)) in
       let z : t' ≡ sets t to (f a) = r ∙ ap (λ (l : List ℕ). sets t to l) c in
       record {
-        inside = ends p s pos i.inside e d;
+        inside = ends p s pos i.inside e;
         long = ap length z ∙ length-sets t to (f a) ∙ i.long;
         place = omega (arith, i.place, one_less w left h);
-        sound = done_turn p s left pos h e d ∙ i.sound;
-        end = pos_turn p s left pos h e d ∙ i.end;
+        sound = done_turn p s left pos h e ∙ i.sound;
+        end = pos_turn p s left pos h e ∙ i.end;
         stored =
             ap (λ (l : List ℕ). sets l (to + w) next) z
             ∙ ap (λ (j : ℕ). sets (sets t to (f a)) (to + j) next) (sym n)
-            ∙ fill_turn p s left pos h e d f t to i.sound
+            ∙ fill_turn p s left pos h e f t to i.sound
             ∙ i.stored;
       }
 
@@ -282,11 +289,3 @@ pub sum_next : {A : Type 0} (p : Prog A) {f : A → ℕ} {most : ℕ} {s : List 
     → is_done (run (many count p) s at) ≡ true → is_done (run p s pos) ≡ true
 sum_next p {s = s} {at} {count} {pos} {left} i h q =
     first_done p s left pos h (sym (map_done _ (run (many left p) s pos)) ∙ ap is_done i.carries.same ∙ map_done _ (run (many count p) s at) ∙ q)
-
--- a loop that stores rows, of which code knows only the columns
-pub fill_as : {A : Type 0} {p : Prog A} {f : A → List ℕ} {w : ℕ} {s : List ℕ} {at count : ℕ} {t₀ : List ℕ} {base : ℕ} {t : List ℕ} {pos left to : ℕ}
-    → Filling p f w s at count t₀ base t pos left to → 0 < left
-    → {r cols t' : List ℕ} {next : ℕ} → done r next ≡ map_out f (run p s pos) → length r ≡ w → cols ≡ r → t' ≡ sets t to cols → Filling p f w s at count t₀ base t' next (left - 1) (to + w)
-fill_as {p = p} {f} {w} {s} {pos = pos} i h e n c z =
-    let (x, d, q) = as_done f (run p s pos) (sym e) in
-    fill_next p f w _ _ _ _ _ _ _ _ _ i h (sym d) refl (ap length q ∙ n) (c ∙ sym q) z

@@ -113,7 +113,7 @@ module _ {A : Type 0} (p : Prog A) (size : A → ℕ) (row : ℕ → A → List 
           room = i.room;
           rest = xs;
           goes_on = subst (λ (n : ℕ). run (many (left - 1) p) s n ≡ done xs i.last) em next.goes_on;
-          inside = ends p s pos i.inside refl d;
+          inside = ends p s pos i.inside (sym d);
           before = omega (arith, i.before, weighs, ef);
           counts = omega (arith, k, ef);
           place = omega (arith, i.place, one_less w left h);

@@ -11,8 +11,7 @@ use borrow.Author.Tests.{leb-true, le-leb}
 use Rattle.wire.specs.Act.{Act, pick, when, within}
 use Rattle.wire.specs.Pen.{Checked, Ready, Filled}
 use Rattle.wire.specs.declared.pen.Fault.{Fault}
-use Rattle.wire.specs.declared.pen.Pen.{Pen}
-use Rattle.wire.specs.declared.pen.Pen.TheVariants.{At, Stop}
+use Rattle.wire.specs.Pen.{Pen, At, Stop}
 use Rattle.wire.proofs.Writing.Passes.{then, more, here, nothing, stopped, Filling, fill_start, fill_none}
 
 module _ (b : Bool) (front rest : List Act) where

@@ -16,9 +16,9 @@ use Rattle.wire.specs.Act.{Act, demand, byte, when, pick, rows}
 use Rattle.wire.specs.Pen.{look, glance, looks, Checked, Quick, Ready, Filled, clean, bytes}
 use Rattle.wire.specs.declared.pen.Fault.{Fault}
 use Rattle.wire.specs.declared.pen.Fault.TheVariants as F
-use Rattle.wire.specs.declared.pen.Pen.{Pen}
-use Rattle.wire.specs.declared.pen.Pen.TheVariants.{At, Stop}
-use Rattle.wire.specs.Spell.{PlainRows, PlainRun, fit_all, Spelt, ChecksAll, ReadyAll, FillsAll}
+use Rattle.wire.specs.Pen.{Pen, At}
+use Rattle.std.specs.Prelude.{Ok, Err}
+use Rattle.wire.specs.Spell.{PlainRows, fit_all, Spelt, ChecksAll, ReadyAll, FillsAll}
 use Rattle.wire.proofs.Fields.{fit_append}
 use Rattle.wire.proofs.Writing.Passes.{looks_append, then, more, rows_turn, rows_end, Checking, check_odd, check_end, quick_clean, quick_odd, Filling, fill_start, fill_demand, fill_row_lem, fill_turn, fill_end}
 use Rattle.wire.proofs.Writing.Spelling.{spelt_long}
@@ -26,6 +26,7 @@ use Rattle.wire.proofs.Writing.Spelling.{spelt_long}
 -- before the row i, which makes no more than `most` bytes
 pub record Going (f : ℕ → List Act) (most count i bytes : ℕ) : Type 0 where
   pub within : i ≤ count
+  pub each : i ≤ bytes
   pub few : bytes ≤ most * i
   pub passes : (n : ℕ) → looks (rows f 0 count) (At n) ≡ looks (rows f i (count - i)) (At (n + bytes))
 
@@ -34,8 +35,12 @@ pub quick_few : {q : List Act} {most k : ℕ} → Quick q most k → k ≤ most
 quick_few {k = zero} w = omega arith
 quick_few {k = suc k} w = let v = w.to (omega arith) 0 in omega (arith, v.near)
 
+-- so the next row still has room
+pub few_left : (most i count : ℕ) → i < count → most * i + most ≤ most * count
+few_left most i count h = omega (arith, mul-suc most i, mul-le-mul_left most h)
+
 pub going_start : (f : ℕ → List Act) (most count : ℕ) → Going f most count 0 0
-going_start f most count = record { within = omega arith; few = omega arith; passes = λ n. rw (sub-zero, add-zero) }
+going_start f most count = record { within = omega arith; each = omega arith; few = omega arith; passes = λ n. rw (sub-zero, add-zero) }
 
 module _ {f : ℕ → List Act} {most count i bytes : ℕ} (v : Going f most count i bytes) {k : ℕ} (q : Quick (f i) most k) where
   pub going_turn : i < count → 0 < k → Going f most count (i + 1) (bytes + k)
@@ -44,6 +49,7 @@ module _ {f : ℕ → List Act} {most count i bytes : ℕ} (v : Going f most cou
       let l : k ≤ most = omega (arith, (w 0).near) in
       record {
         within = omega arith;
+        each = omega (arith, v.each);
         few = omega (arith, v.few, mul-suc most i, ap (λ (k : ℕ). most * k) (add-one i));
         passes = λ n.
             let e : n + bytes + k ≡ n + (bytes + k) = omega arith in
@@ -52,20 +58,10 @@ module _ {f : ℕ → List Act} {most count i bytes : ℕ} (v : Going f most cou
       }
 
   pub going_odd : k ≡ 0 → PlainRows f most count i bytes
-  going_odd z = record { within = v.within; few = v.few; passes = v.passes; odd = λ h. q.odd z }
+  going_odd z = record { within = v.within; each = v.each; few = v.few; passes = v.passes; odd = λ h. q.odd z }
 
 pub going_end : {f : ℕ → List Act} {most count i bytes : ℕ} → Going f most count i bytes → count ≤ i → PlainRows f most count i bytes
-going_end v h = record { within = v.within; few = v.few; passes = v.passes; odd = λ l. absurd (omega arith) }
-
--- the same of a loop that only counts bytes
-module _ {f : ℕ → List Act} {most count i bytes : ℕ} (v : Going f most count i bytes) where
-  pub run_odd : {k : ℕ} → Quick (f i) most k → i < count → k ≡ 0 → PlainRun f most count 0
-  run_odd q h z = record { all = λ l. absurd (omega arith); odd = λ e. (i, bytes, h, going_odd v q z) }
-
-  pub run_end : i ≤ bytes → count ≤ i → 0 < count → PlainRun f most count bytes
-  run_end l h p =
-      let e : i ≡ count = omega (arith, v.within) in
-      record { all = λ z. let w : Going f most count count bytes = rw e at v in going_end w (omega arith); odd = λ z. absurd (omega arith) }
+going_end v h = record { within = v.within; each = v.each; few = v.few; passes = v.passes; odd = λ l. absurd (omega arith) }
 
 -- what the check pass has after the loop
 module _ (f : ℕ → List Act) (most count n : ℕ) {i bytes : ℕ} (v : PlainRows f most count i bytes) where
@@ -113,8 +109,8 @@ bytes_long (fs ∷ fss) = ap suc (bytes_long fss)
 
 pub met : (f : Fault) (p : Pen) → Checked (demand f true ∷ []) 0 p p
 unfolding looks glance look
-met f (At n) = record { pens = refl; near = omega arith }
-met f (Stop g n) = record { pens = refl; near = omega arith }
+met f (Ok n) = record { pens = refl; near = omega arith }
+met f (Err x) = record { pens = refl; near = omega arith }
 
 pub all_checked : {there : Bool} {vs : List ℕ} {p r : Pen} {fss : List (List Field)} → Spelt fss vs → ChecksAll there vs p r → Checked (when there (map byte fss)) (length fss) p r
 all_checked {there} {p = p} {r} {fss} s w = subst (λ (k : ℕ). Checked (when there (map byte fss)) k p r) (sym (spelt_long s) ∙ bytes_long fss) (w.of fss s)

@@ -1,14 +1,15 @@
--- What was measured and tallied.
+-- What was measured and tallied, or the first refusal.
 use Rattle.std.proofs.Common.{◌∙◌}
-use Rattle.base.specs.Kind.{kind}
-use Rattle.bench.proofs.Decided.{too_long, judged}
+use Rattle.wire.proofs.Handed.{handed}
+use Rattle.bench.proofs.Decided.{measure_refused, tally_refused, both}
 use Rattle.bench.proofs.line.base_line.Goals as goal
 
-pub returns-then-body-gt4096 : goal.returns-then-body-gt4096
-returns-then-body-gt4096 c = c.too_long.ensures ∙ too_long kind _ c.if-body-gt4096.true
+pub returns-in_err-s : goal.returns-in_err-s
+returns-in_err-s c = rw (handed c.from_residual.result c.from_residual.ensures.1) (measure_refused _ c.in_err-s.ensures.promised)
 
-pub returns-in-Refused : goal.returns-in-Refused
-returns-in-Refused c = c.refusal_line.ensures ∙ judged kind _ c.if-body-gt4096.false c.in-Refused.ensures.promised c.tally-t.ensures.promised
+pub returns-in_err-tally : goal.returns-in_err-tally
+returns-in_err-tally c =
+    rw (handed c.from_residual-in_err-tally.result c.from_residual-in_err-tally.ensures.1) (tally_refused c.in_ok-s.ensures.promised c.in_err-tally.ensures.promised)
 
-pub returns-in-Done : goal.returns-in-Done
-returns-in-Done c = c.tallied_line.ensures ∙ judged kind _ c.if-body-gt4096.false c.in-Done.ensures.promised c.tally-t.ensures.promised
+pub returns : goal.returns
+returns c = c.told.ensures ∙ both c.in_ok-s.ensures.promised c.in_ok-tally.ensures.promised

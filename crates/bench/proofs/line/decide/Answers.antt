@@ -1,29 +1,19 @@
--- Each test of the code is one of the definition.
-use Rattle.std.proofs.Common.{rules, sym, ◌∙◌, arith}
-use Rattle.bench.proofs.Decided.{nothing, as_base, as_scene, as_text_label, as_multi_stream, as_drc_loudness, unknown}
+-- An empty input, a kind and its body, or a number that names none.
+use Rattle.std.proofs.Common.{[], ◌∷◌, ap, sym, ◌∙◌}
+use Rattle.frame.specs.Numbers.{numbered}
+use Rattle.bench.specs.Line.{kind_line, refused_line}
+use Rattle.bench.proofs.Decided.{nothing, parted, is_other}
 use Rattle.bench.proofs.line.decide.Goals as goal
 
-pub returns-then-input-eq0 : goal.returns-then-input-eq0
-returns-then-input-eq0 c = c.refused.ensures ∙ sym (nothing _ c.if-input-eq0.true)
+pub returns-in_default : goal.returns-in_default
+returns-in_default c = c.refused.ensures ∙ sym (nothing c.args.input.now c.in_default.ensures.cases)
 
-pub returns-then-kind-eq1 : goal.returns-then-kind-eq1
-returns-then-kind-eq1 c = as_base _ (omega arith) c.wide-kind.ensures c.if-kind-eq1.true c.base_line.ensures
+pub returns-in-Ok-judged : goal.returns-in-Ok-judged
+returns-in-Ok-judged c = c.in-Ok-judged.ensures ∙ sym (parted c.in-Some.ensures.cases.0 ∙ ap (λ k. kind_line k c.in-Some.body.now) c.in-Ok.ensures)
 
-pub returns-then-kind-eq2 : goal.returns-then-kind-eq2
-returns-then-kind-eq2 c = as_scene _ (omega arith) c.wide-kind.ensures c.if-kind-eq1.false c.if-kind-eq2.true c.scene_line.ensures
+pub returns-in-Err-judged : goal.returns-in-Err-judged
+returns-in-Err-judged c = c.from.ensures ∙ c.in-Err-judged.ensures ∙ sym (parted c.in-Some.ensures.cases.0 ∙ ap (λ k. kind_line k c.in-Some.body.now) c.in-Ok.ensures)
 
-pub returns-then-kind-eq3 : goal.returns-then-kind-eq3
-returns-then-kind-eq3 c =
-    as_text_label _ (omega arith) c.wide-kind.ensures c.if-kind-eq1.false c.if-kind-eq2.false c.if-kind-eq3.true c.text_label_line.ensures
-
-pub returns-then-kind-eq4 : goal.returns-then-kind-eq4
-returns-then-kind-eq4 c =
-    as_multi_stream _ (omega arith) c.wide-kind.ensures c.if-kind-eq1.false c.if-kind-eq2.false c.if-kind-eq3.false c.if-kind-eq4.true c.multi_stream_line.ensures
-
-pub returns-then-kind-eq5 : goal.returns-then-kind-eq5
-returns-then-kind-eq5 c =
-    as_drc_loudness _ (omega arith) c.wide-kind.ensures c.if-kind-eq1.false c.if-kind-eq2.false c.if-kind-eq3.false c.if-kind-eq4.false c.if-kind-eq5.true (search rules)
-
-pub returns : goal.returns
-returns c =
-    unknown _ (omega arith) c.wide-kind.ensures c.if-kind-eq1.false c.if-kind-eq2.false c.if-kind-eq3.false c.if-kind-eq4.false c.if-kind-eq5.false c.refused-2.ensures
+pub returns-in-Err : goal.returns-in-Err
+returns-in-Err c =
+    c.refused-in-Err.ensures ∙ ap (λ k. refused_line (numbered 11 (k ∷ []))) c.in-Err.ensures.0 ∙ sym (parted c.in-Some.ensures.cases.0 ∙ is_other c.in-Some.number.now c.in-Some.body.now c.in-Err.ensures.1)

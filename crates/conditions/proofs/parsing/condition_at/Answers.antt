@@ -1,7 +1,7 @@
 -- `parsing::condition_at` meets its contract.
 use mathlib.Core.Path.{◌∙◌, ap}
 use native.Mathlib.Omega.{arith}
-use Rattle.wire.proofs.Layouts.Straight.{Whole, flat_done}
+use Rattle.wire.proofs.Layouts.Straight.{flat_done}
 use Rattle.wire.specs.Straight.{blanks}
 use Rattle.conditions.specs.Layout.{condition}
 use Rattle.conditions.specs.Rows.{behind}
@@ -10,26 +10,21 @@ use Rattle.conditions.proofs.parsing.condition_at.Goals as goal
 
 pub bounds-body-at : goal.bounds-body-at
 bounds-body-at c =
-    let whole : Whole 13 condition c.args.body.now c.args.at = flat_done 13 condition _ _ c.requires.0 c.requires.1 in
-    omega (arith, whole.there, condition_long c.args.body.now c.args.at)
+    omega (arith, (flat_done 13 condition _ _ c.requires.0 c.requires.1).there, condition_long c.args.body.now c.args.at)
 
 pub detail_from-detail-requires : goal.detail_from-detail-requires
 detail_from-detail-requires c =
-    let whole : Whole 13 condition c.args.body.now c.args.at = flat_done 13 condition _ _ c.requires.0 c.requires.1 in
-    omega (arith, whole.there, long_with c.args.body.now c.args.at c.wide-b.ensures c.part-2.ensures c.if-part-eq1.true)
+    omega (arith, (flat_done 13 condition _ _ c.requires.0 c.requires.1).there, long_with c.args.body.now c.args.at c.wide-b.ensures c.part-2.ensures c.if-part-eq1.true)
 
 pub bounds-body-at-then-part-eq1 : goal.bounds-body-at-then-part-eq1
 bounds-body-at-then-part-eq1 c =
-    let whole : Whole 13 condition c.args.body.now c.args.at = flat_done 13 condition _ _ c.requires.0 c.requires.1 in
-    omega (arith, whole.there, long_with c.args.body.now c.args.at c.wide-b.ensures c.part-2.ensures c.if-part-eq1.true)
+    omega (arith, (flat_done 13 condition _ _ c.requires.0 c.requires.1).there, long_with c.args.body.now c.args.at c.wide-b.ensures c.part-2.ensures c.if-part-eq1.true)
 
 pub returns-then-part-eq1 : goal.returns-then-part-eq1
 returns-then-part-eq1 c =
-    let whole : Whole 13 condition c.args.body.now c.args.at = flat_done 13 condition _ _ c.requires.0 c.requires.1 in
-    search (condition_with, whole, c.behind.ensures.0 ∙ ap behind c.wide.ensures)
+    search (condition_with, flat_done 13 condition _ _ c.requires.0 c.requires.1, c.behind.ensures.0 ∙ ap behind c.wide.ensures)
 
 pub returns-else-part-eq1 : goal.returns-else-part-eq1
 unfolding blanks
 returns-else-part-eq1 c =
-    let whole : Whole 13 condition c.args.body.now c.args.at = flat_done 13 condition _ _ c.requires.0 c.requires.1 in
-    rw c.absent-detail.ensures (search (condition_without, whole))
+    rw c.absent-detail.ensures (search (condition_without, flat_done 13 condition _ _ c.requires.0 c.requires.1))

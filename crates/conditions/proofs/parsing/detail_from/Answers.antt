@@ -1,20 +1,9 @@
 -- `parsing::detail_from` meets its contract.
 use Prim.Native.Nat.{ℕ, ◌+◌}
 use mathlib.Core.Path.{ap}
-use Rattle.wire.proofs.Fields.{part_below}
 use Rattle.conditions.proofs.Taken.{detail_taken}
 use borrow.Author.Rules.{rules}
 use Rattle.conditions.proofs.parsing.detail_from.Goals as goal
-
-pub gain_at-requires : goal.gain_at-requires
-gain_at-requires c =
-    let w = rw (← c.wide-flags.ensures) at c.requires in
-    (search (rules, w), search (rules, part_below 2 1 c.wide-flags.result))
-
-pub position_at-requires : goal.position_at-requires
-position_at-requires c =
-    let w = rw (← c.wide-flags.ensures) at c.requires in
-    (search (rules, w), search (rules, part_below 0 1 c.wide-flags.result))
 
 pub returns : goal.returns
 returns c =

@@ -13,12 +13,3 @@ returns-then-plain_position c =
     c.detail_bytes.ensures
     ∙ long_so (cols_at c.args.conditions.now c.args.b) (sym (fit_line _) ∙ sym c.flags_fit-fit.ensures ∙ c.if-not-fit.false)
     (sym c.plain_gain.ensures ∙ c.if-plain_gain.true) (sym c.plain_position.ensures ∙ c.if-plain_position.true)
-
-pub returns-else-plain_position : goal.returns-else-plain_position
-returns-else-plain_position c =
-    long_so (cols_at c.args.conditions.now c.args.b) (sym (fit_line _) ∙ sym c.flags_fit-fit.ensures ∙ c.if-not-fit.false)
-    (sym c.plain_gain.ensures ∙ c.if-plain_gain.true) (sym c.plain_position.ensures ∙ c.if-plain_position.false)
-
-pub returns-else-plain_gain : goal.returns-else-plain_gain
-returns-else-plain_gain c =
-    long_so (cols_at c.args.conditions.now c.args.b) (sym (fit_line _) ∙ sym c.flags_fit-fit.ensures ∙ c.if-not-fit.false) (sym c.plain_gain.ensures ∙ c.if-plain_gain.false) refl

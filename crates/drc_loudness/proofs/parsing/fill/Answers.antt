@@ -13,22 +13,22 @@ pub rows_at-at-requires : goal.rows_at-at-requires
 rows_at-at-requires c =
     first_there c.requires.0
 
-pub fill_instructions-requires : goal.fill_instructions-requires
-fill_instructions-requires c =
+pub nest_rows-requires : goal.nest_rows-requires
+nest_rows-requires c =
     instructions_ask c.requires.0
     c.requires.1 _ _ _ _
     c.requires.2
     (ap (λ (i : Info). i.part) c.info_at.ensures) c.rows_at-at.ensures
 
-pub fill_entries-requires : goal.fill_entries-requires
-fill_entries-requires c =
+pub store_rows-requires : goal.store_rows-requires
+store_rows-requires c =
     entries_ask c.requires.0 c.requires.1 _ _ _ _ c.requires.2 (ap (λ (i : Info). i.part) c.info_at.ensures)
 
-pub fill_downmixes-requires : goal.fill_downmixes-requires
-fill_downmixes-requires c =
+pub store_rows-requires-2 : goal.store_rows-requires-2
+store_rows-requires-2 c =
     downmixes_ask c.requires.0 c.requires.1 _ _ _ _ c.requires.2 (ap (λ (i : Info). i.part) c.info_at.ensures)
 
 pub returns : goal.returns
 returns c =
     stored c.requires.0 c.requires.1 _ _ _ _ (ap (λ (i : Info). i.part) c.info_at.ensures) c.rows_at-at.ensures c.requires.2
-    c.fill_instructions.ensures c.fill_entries.ensures c.fill_downmixes.ensures
+    c.nest_rows.ensures c.store_rows.ensures.1 c.store_rows-2.ensures.1

@@ -1,6 +1,5 @@
 -- `drc_loudness::parsing::sizes_at` meets its contract: the counts of the info, and what the walk counted.
 use mathlib.Core.Path.{refl, ap}
-use native.Mathlib.Omega.{arith}
 use Rattle.drc_kind.specs.declared.rows.Info.{Info}
 use Rattle.drc_loudness.proofs.Walked.{first_there}
 use Rattle.drc_loudness.proofs.Found.{counted}
@@ -9,10 +8,6 @@ use Rattle.drc_loudness.proofs.parsing.sizes_at.Goals as goal
 pub info_at-requires : goal.info_at-requires
 info_at-requires c =
     (first_there c.requires.0, c.requires.0.head)
-
-pub overflow_cast-result : goal.overflow_cast-result
-overflow_cast-result c =
-    omega (arith, c.requires.0.additional_few)
 
 pub returns : goal.returns
 returns c =

@@ -8,16 +8,12 @@ use Rattle.drc_kind.specs.Kind.{kind}
 use Rattle.drc_writing.proofs.Writes.{drc_acts_lem}
 use Rattle.drc_writing.proofs.writing.check.Goals as goal
 
-pub payload_run-requires : goal.payload_run-requires
-payload_run-requires c =
-    omega (arith, c.check_fields-p.ensures.near)
-
 pub returns-then-in_store : goal.returns-then-in_store
 unfolding kind
 returns-then-in_store c =
     let e = sym c.in_store.ensures ∙ c.if-in_store.true in
     more 82989
-    (all_looked kind (drc_acts_lem c.args.m (c.args.instructions.now ∷ c.args.additional.now ∷ c.args.loudness.now ∷ c.args.downmixes.now ∷ []) c.args.store.now) e c.check_fields-p.ensures c.payload_run.ensures.0)
+    (all_looked kind (drc_acts_lem c.args.m (c.args.instructions.now ∷ c.args.additional.now ∷ c.args.loudness.now ∷ c.args.downmixes.now ∷ []) c.args.store.now) e c.check_fields.ensures c.payload_run.ensures.0)
     (omega (arith, c.payload_run.ensures.1))
 
 pub returns-else-in_store : goal.returns-else-in_store

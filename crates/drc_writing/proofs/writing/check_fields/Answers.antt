@@ -7,10 +7,6 @@ use Rattle.frame.specs.Entry.{first_table, other_tables}
 use Rattle.drc_writing.specs.Write.{drc_acts}
 use Rattle.drc_writing.proofs.writing.check_fields.Goals as goal
 
-pub check_info-requires : goal.check_info-requires
-check_info-requires c =
-    (sym c.all_within.ensures ∙ c.if-all_within.true, omega (arith, (all_checked c.head_bytes.ensures c.check_all-p.ensures).near))
-
 pub returns-then-all_within : goal.returns-then-all_within
 unfolding drc_acts first_table other_tables
 returns-then-all_within c =

@@ -1,27 +1,24 @@
 -- `writing::check_effect` meets its contract.
-use mathlib.Core.List.{map}
-use native.Mathlib.Omega.{arith}
+use Prim.Native.Nat.{ℕ}
+use mathlib.Core.Bool.{true}
+use mathlib.Core.List.{List, map}
+use lib.Dec.{eqb}
 use Rattle.wire.specs.Act.{byte}
-use Rattle.wire.specs.Pen.{Checked}
+use Rattle.wire.specs.Pen.{Pen, Checked}
+use Rattle.wire.specs.Spell.{Spelt, ChecksAll}
 use Rattle.wire.proofs.Writing.Passes.{then}
 use Rattle.wire.proofs.Writing.Plain.{all_checked}
-use Rattle.instruction_writing.specs.Write.{effect_fields, limiter_part}
-use borrow.Author.Rules.{rules}
+use Rattle.instructions.specs.declared.rows.LimiterPeakTarget.{LimiterPeakTarget}
+use Rattle.instruction_writing.specs.Write.{effect_fields, limiter_fields, limiter_part}
 use Rattle.instruction_writing.proofs.writing.check_effect.Goals as goal
 
-pub check_all-p1-requires : goal.check_all-p1-requires
-check_all-p1-requires c =
-    let step-1 : Checked (map byte (effect_fields c.args.d.drc_set_effect)) 2 c.args.p c.check_all-p0.result = all_checked c.effect_bytes.ensures c.check_all-p0.ensures in
-    (omega (arith, step-1.near, c.requires), search rules)
+-- the pen behind the two bytes of the effect, and behind the limiter
+effect : (e : ℕ) {vs : List ℕ} {p r : Pen} → Spelt (effect_fields e) vs → ChecksAll true vs p r → Checked (map byte (effect_fields e)) 2 p r
+effect e s w = all_checked s w
 
-pub check_target-requires : goal.check_target-requires
-check_target-requires c =
-    let step-1 : Checked (map byte (effect_fields c.args.d.drc_set_effect)) 2 c.args.p c.check_all-p0.result = all_checked c.effect_bytes.ensures c.check_all-p0.ensures in
-    let step-2 : Checked (limiter_part c.args.d.limiter_peak_target) 1 c.check_all-p0.result c.check_all-p1.result = all_checked c.limiter_bytes.ensures c.check_all-p1.ensures in
-    omega (arith, step-1.near, step-2.near, c.requires)
+limited : (l : LimiterPeakTarget) {vs : List ℕ} {p r : Pen} → Spelt (limiter_fields l) vs → ChecksAll (eqb l.present 1) vs p r → Checked (limiter_part l) 1 p r
+limited l s w = all_checked s w
 
 pub returns : goal.returns
 returns c =
-    let step-1 : Checked (map byte (effect_fields c.args.d.drc_set_effect)) 2 c.args.p c.check_all-p0.result = all_checked c.effect_bytes.ensures c.check_all-p0.ensures in
-    let step-2 : Checked (limiter_part c.args.d.limiter_peak_target) 1 c.check_all-p0.result c.check_all-p1.result = all_checked c.limiter_bytes.ensures c.check_all-p1.ensures in
-    then step-1 (then step-2 c.check_target.ensures)
+    then (effect _ c.effect_bytes.ensures c.check_all-p0.ensures) (then (limited _ c.limiter_bytes.ensures c.check_all-p1.ensures) c.check_target.ensures)

@@ -1,5 +1,4 @@
 -- `writing::fill_effect` meets its contract.
-use Rattle.wire.proofs.Writing.Plain.{filled_long}
 use Rattle.instruction_writing.proofs.Writes.{word_ready, limiter_ready, loud_ready, effect_filled}
 use Rattle.instruction_writing.proofs.writing.fill_effect.Goals as goal
 
@@ -11,9 +10,6 @@ fill_all-n2-requires c = search limiter_ready
 
 pub fill_target-requires : goal.fill_target-requires
 fill_target-requires c = search loud_ready
-
-pub shape_of-out : goal.shape_of-out
-shape_of-out c = search (filled_long, effect_filled)
 
 pub returns : goal.returns
 returns c = search effect_filled

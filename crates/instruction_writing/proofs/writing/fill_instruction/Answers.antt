@@ -1,7 +1,5 @@
 -- `writing::fill_instruction` meets its contract: its scope, its settings, its additional IDs, and what stands behind them.
-use Rattle.wire.proofs.Writing.Plain.{filled_long}
 use Rattle.instruction_writing.proofs.Writes.{row_ready, scope_ready, settings_ready, ids_ready, effect_ready, row_filled}
-use borrow.Author.Rules.{rules}
 use Rattle.instruction_writing.proofs.writing.fill_instruction.Goals as goal
 
 pub fill_scope-n1-requires : goal.fill_scope-n1-requires
@@ -20,9 +18,6 @@ fill_effect-requires c =
     effect_ready c.args.d
     c.args.additional.now c.requires c.fill_scope-n1.ensures
     c.settings_bytes.ensures c.fill_all-n2.ensures c.fill_pairs-n3.ensures
-
-pub shape_of-out : goal.shape_of-out
-shape_of-out c = search (rules, filled_long, row_filled)
 
 pub returns : goal.returns
 returns c = search row_filled

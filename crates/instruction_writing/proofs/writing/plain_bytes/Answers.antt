@@ -3,12 +3,6 @@ use native.Mathlib.Omega.{arith}
 use Rattle.instruction_writing.proofs.Writes.{tested, row_plain, row_odd_kid, row_odd}
 use Rattle.instruction_writing.proofs.writing.plain_bytes.Goals as goal
 
-pub plain_pairs-requires : goal.plain_pairs-requires
-plain_pairs-requires c =
-    (tested c.args.d
-    c.args.additional.now c.in_table-inside.ensures c.plain_scope-head.ensures
-    c.settings_bytes.ensures c.fits_all.ensures c.effect_fits.ensures c.if-inside-head.true).stand
-
 pub overflow_add-result : goal.overflow_add-result
 overflow_add-result c =
     let w = tested c.args.d c.args.additional.now

@@ -6,8 +6,8 @@ use Rattle.labels.proofs.parsing.fill_list.Goals as goal
 pub bounds-body-at : goal.bounds-body-at
 bounds-body-at c = search (count_there, list_done)
 
-pub fill_entries-next-requires : goal.fill_entries-next-requires
-fill_entries-next-requires c = search (rules, entries_begin, entries_done, list_done, list_room)
+pub store_rows-next-requires : goal.store_rows-next-requires
+store_rows-next-requires c = search (rules, entries_begin, entries_done, list_done, list_room)
 
 pub returns : goal.returns
 returns c = search list_taken

@@ -6,8 +6,8 @@ use Rattle.labels.proofs.tallying.tally_list.Goals as goal
 pub bounds-body-at : goal.bounds-body-at
 bounds-body-at c = search count_there
 
-pub tally_entries-t-requires : goal.tally_entries-t-requires
-tally_entries-t-requires c = search (rules, entries_begin, entries_done, count_few)
+pub rows_zeros-t-requires : goal.rows_zeros-t-requires
+rows_zeros-t-requires c = search (rules, entries_begin, entries_done, count_few)
 
 pub returns : goal.returns
 returns c = search (list_tally, list_few)

@@ -1,5 +1,4 @@
 -- `writing::fill_entry` meets its contract: the bytes of the scope, the length, and the bytes from the store.
-use Rattle.wire.proofs.Writing.Plain.{filled_long}
 use Rattle.loudness.proofs.Written.{scope_ready, info_inside, length_ready, info_room, entry_filled}
 use borrow.Author.Rules.{rules}
 use Rattle.loudness.proofs.writing.fill_entry.Goals as goal
@@ -15,9 +14,6 @@ put-n2-requires c =
 
 pub copy-requires : goal.copy-requires
 copy-requires c = search (rules, info_inside, info_room)
-
-pub shape_of-out : goal.shape_of-out
-shape_of-out c = search (rules, filled_long, entry_filled)
 
 pub returns : goal.returns
 returns c = search entry_filled

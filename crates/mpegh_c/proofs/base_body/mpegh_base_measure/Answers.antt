@@ -5,10 +5,10 @@ use Rattle.base.specs.Kind.{kind}
 use Rattle.mpegh_c.proofs.Hosted.{measures_refused, measures_sized}
 use Rattle.mpegh_c.proofs.base_body.mpegh_base_measure.Goals as goal
 
-pub returns-in-Done : goal.returns-in-Done
-returns-in-Done c =
-    measures_sized kind (rw c.in-Done.is at c.measure-m.ensures) (omega arith) refl c.code.ensures
+pub returns-in-Ok : goal.returns-in-Ok
+returns-in-Ok c =
+    measures_sized kind c.in-Ok.ensures (omega arith) refl c.code.ensures
 
-pub returns-in-Refused : goal.returns-in-Refused
-returns-in-Refused c =
-    measures_refused kind (rw c.in-Refused.is at c.measure-m.ensures) c.refusal_code.ensures
+pub returns-in-Err : goal.returns-in-Err
+returns-in-Err c =
+    measures_refused kind c.in-Err.ensures c.refusal_code.ensures

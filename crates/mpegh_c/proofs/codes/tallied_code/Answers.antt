@@ -1,10 +1,10 @@
 -- `mpegh_c::codes::tallied_code` meets its contract.
 use Rattle.mpegh_c.proofs.codes.tallied_code.Goals as goal
 
-pub returns-in-Done : goal.returns-in-Done
-returns-in-Done c =
-    rw c.in-Done.is c.code.ensures
+pub returns-in-Ok : goal.returns-in-Ok
+returns-in-Ok c =
+    rw c.in-Ok.is c.code.ensures
 
-pub returns-in-Refused : goal.returns-in-Refused
-returns-in-Refused c =
-    rw c.in-Refused.is c.refusal_code.ensures
+pub returns-in-Err : goal.returns-in-Err
+returns-in-Err c =
+    rw c.in-Err.is c.refusal_code.ensures

@@ -1,18 +1,8 @@
 -- `mpegh_c::codes::written_code` meets its contract.
 use Rattle.mpegh_c.proofs.codes.written_code.Goals as goal
 
-pub returns-in-Done : goal.returns-in-Done
-returns-in-Done c =
-    rw c.in-Done.is c.code.ensures
+pub returns-in-Ok : goal.returns-in-Ok
+returns-in-Ok c = rw c.in-Ok.is c.code.ensures
 
-pub returns-in-NoRoom : goal.returns-in-NoRoom
-returns-in-NoRoom c =
-    rw c.in-NoRoom.is c.code-in-NoRoom.ensures
-
-pub returns-in-Wrong : goal.returns-in-Wrong
-returns-in-Wrong c =
-    rw (c.in-Wrong.is, ← c.fault_number.ensures.0) c.code-in-Wrong.ensures
-
-pub returns-in-TooLong : goal.returns-in-TooLong
-returns-in-TooLong c =
-    rw c.in-TooLong.is c.code-in-TooLong.ensures
+pub returns-in-Err : goal.returns-in-Err
+returns-in-Err c = rw c.in-Err.is c.unwritten_code.ensures

@@ -5,13 +5,13 @@ use Rattle.mpegh_c.proofs.multi_stream_body.mpegh_multi_stream_measure.Goals as 
 
 pub returns-then-rows-lt1 : goal.returns-then-rows-lt1
 returns-then-rows-lt1 c =
-    measures_unroomed kind (rw c.in-Done.is at c.measure-m.ensures) c.if-rows-lt1.true c.room_code.ensures
+    measures_unroomed kind c.in-Ok.ensures c.if-rows-lt1.true c.room_code.ensures
 
 pub returns-else-rows-lt1 : goal.returns-else-rows-lt1
 returns-else-rows-lt1 c =
-    measures_sized kind (rw c.in-Done.is at c.measure-m.ensures)
+    measures_sized kind c.in-Ok.ensures
     c.if-rows-lt1.false c.put_row.ensures c.code.ensures
 
-pub returns-in-Refused : goal.returns-in-Refused
-returns-in-Refused c =
-    measures_refused kind (rw c.in-Refused.is at c.measure-m.ensures) c.refusal_code.ensures
+pub returns-in-Err : goal.returns-in-Err
+returns-in-Err c =
+    measures_refused kind c.in-Err.ensures c.refusal_code.ensures

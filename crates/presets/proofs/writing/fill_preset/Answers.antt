@@ -1,6 +1,7 @@
 -- `writing::fill_preset` meets its contract.
-use Prim.Native.Nat.{◌/◌}
-use mathlib.Core.List.{[], ◌++◌}
+use Prim.Native.Nat.{ℕ, ◌/◌}
+use mathlib.Core.List.{List, [], ◌++◌}
+use mathlib.Core.Bool.{true}
 use mathlib.Core.Path.{refl}
 use native.Mathlib.Omega.{arith}
 use lib.ListN.{length}
@@ -12,10 +13,18 @@ use Rattle.wire.proofs.Layouts.Families.{kids_ready, kids_filled}
 use Rattle.conditions.specs.Write.{row_acts}
 use Rattle.presets.specs.Layout.{preset}
 use Rattle.presets.specs.Rows.{preset_cols}
-use Rattle.presets.specs.Write.{preset_acts}
+use Rattle.wire.specs.Pen.{Ready}
+use Rattle.wire.specs.Spell.{Spelt, FillsAll}
+use Rattle.presets.specs.Write.{head_fields, preset_acts}
+use Rattle.presets.specs.declared.rows.GroupPreset.{GroupPreset}
 use Rattle.presets.proofs.Writes.{ready_few, ready_counted, filling}
 use borrow.Author.Rules.{rules}
 use Rattle.presets.proofs.writing.fill_preset.Goals as goal
+
+-- its conditions are left behind the three bytes
+behind_head : (u : List ℕ) (p : GroupPreset) {n m : ℕ} {l o vs : List ℕ} → Ready (preset_acts p u) n l → Spelt (head_fields p) vs → FillsAll true vs n l m o
+    → Filling (preset_acts p u) (rows (row_acts u) p.conditions.first p.conditions.count ++ []) n l m o
+behind_head u p x s w = fill_part_lem _ s (filling u (preset_cols p) x) w
 
 pub overflow_sub-p : goal.overflow_sub-p
 overflow_sub-p c =
@@ -24,18 +33,19 @@ overflow_sub-p c =
 pub fill_all-n1-requires : goal.fill_all-n1-requires
 fill_all-n1-requires c = search (ready_part, filling)
 
-pub fill_conditions-requires : goal.fill_conditions-requires
+pub fill_rows-requires : goal.fill_rows-requires
 unfolding writes
-fill_conditions-requires c =
-    let step-1 : Filling (preset_acts c.args.p c.args.conditions.now) (rows (row_acts c.args.conditions.now) c.args.p.conditions.first c.args.p.conditions.count ++ []) c.args.n c.args.out.now c.fill_all-n1.result c.fill_all-n1.new.out = fill_part_lem _ c.head_bytes.ensures (filling c.args.conditions.now (preset_cols c.args.p) c.requires) c.fill_all-n1.ensures in (
+fill_rows-requires c =
+    let left = behind_head c.args.conditions.now c.args.p c.requires c.head_bytes.ensures c.fill_all-n1.ensures in (
       (ready_few c.args.conditions.now (preset_cols c.args.p) c.requires).inside,
+      tt,
       search rules,
-      kids_ready preset (length c.args.conditions.now / 13) (row_acts c.args.conditions.now) (preset_cols c.args.p) step-1,
+      kids_ready preset (length c.args.conditions.now / 13) (row_acts c.args.conditions.now) (preset_cols c.args.p) left,
     )
 
 pub returns : goal.returns
 unfolding writes
 returns c =
-    let step-1 : Filling (preset_acts c.args.p c.args.conditions.now) (rows (row_acts c.args.conditions.now) c.args.p.conditions.first c.args.p.conditions.count ++ []) c.args.n c.args.out.now c.fill_all-n1.result c.fill_all-n1.new.out = fill_part_lem _ c.head_bytes.ensures (filling c.args.conditions.now (preset_cols c.args.p) c.requires) c.fill_all-n1.ensures in
+    let left = behind_head c.args.conditions.now c.args.p c.requires c.head_bytes.ensures c.fill_all-n1.ensures in
     fill_end (kids_filled preset (length c.args.conditions.now / 13) (row_acts c.args.conditions.now) (preset_cols c.args.p)
-    step-1 c.fill_conditions.ensures) refl
+    left c.fill_rows.ensures) refl

@@ -1,22 +1,23 @@
--- `writing::plain_bytes` meets its contract.
-use Prim.Native.Nat.{ℕ, ◌+◌, ◌-◌, ◌<◌, ◌≤◌}
+-- A preset is plain if its range, its three bytes and all its conditions are.
+use Prim.Native.Nat.{ℕ, ◌/◌, ◌+◌}
 use lib.Dec.{leb}
-use mathlib.Core.List.{List}
+use lib.ListN.{length}
 use mathlib.Core.Path.{◌≡◌, sym, ◌∙◌}
-use mathlib.Core.Bool.{true, ◌&&◌}
+use mathlib.Core.List.{List}
+use mathlib.Core.Bool.{Bool, true, ◌&&◌}
 use native.Mathlib.Omega.{arith}
-use borrow.Author.Tests.{leb-true}
-use Rattle.wire.specs.Act.{Act}
-use Rattle.wire.specs.Spell.{PlainRun, fit_all}
-use Rattle.wire.proofs.Writing.Acts.{and_both, both_and}
+use Rattle.wire.specs.Spell.{fit_all}
+use Rattle.wire.proofs.Writing.Acts.{both_and}
 use Rattle.presets.specs.Rows.{preset_cols}
 use Rattle.presets.specs.Write.{head_fields}
-use Rattle.presets.proofs.Writes.{test, test_few, outside_odd, front_odd, run_plain, run_odd}
-use borrow.Author.Rules.{rules}
+use Rattle.presets.specs.declared.rows.GroupPreset.{GroupPreset}
+use Rattle.presets.proofs.Writes.{test, test_few, outside_odd, front_odd, kids_plain, kid_odd}
 use Rattle.presets.proofs.writing.plain_bytes.Goals as goal
 
-sized : {f : ℕ → List Act} {long : ℕ} (first count : ℕ) → PlainRun f 6 (first + count - first) long → PlainRun f 6 count long
-sized first count v = let q : first + count - first ≡ count = omega arith in rw q at v
+-- its own fields were tested
+tested : (u : List ℕ) (p : GroupPreset) {inside fits : Bool} → inside ≡ leb (p.conditions.first + p.conditions.count) (length u / 13) → inside ≡ true
+    → fits ≡ leb 1 p.conditions.count && fit_all (head_fields p) → fits ≡ true → test u (preset_cols p) ≡ true
+tested u p e t f s = both_and (sym e ∙ t) (sym f ∙ s)
 
 pub returns-then-not-inside : goal.returns-then-not-inside
 returns-then-not-inside c =
@@ -26,28 +27,17 @@ pub returns-then-not-front_fits : goal.returns-then-not-front_fits
 returns-then-not-front_fits c =
     front_odd c.args.conditions.now (preset_cols c.args.p) (sym c.front_fits.ensures ∙ c.if-not-front_fits.true)
 
-pub plain_run-k-requires : goal.plain_run-k-requires
-plain_run-k-requires c =
-    let front : leb 1 c.args.p.conditions.count && fit_all (head_fields c.args.p) ≡ true = sym c.front_fits.ensures ∙ c.if-not-front_fits.false in
-    let tested : test c.args.conditions.now (preset_cols c.args.p) ≡ true = both_and (sym c.in_table-inside.ensures ∙ c.if-not-inside.false) front in
-    let counted : 1 ≤ c.args.p.conditions.count = leb-true 1 _ (and_both (leb 1 c.args.p.conditions.count) _ front).0 in
-    let f = test_few c.args.conditions.now (preset_cols c.args.p) tested in
-    (omega (arith, counted), f.inside, search rules)
+pub plain_rows-c-requires : goal.plain_rows-c-requires
+plain_rows-c-requires c =
+    let a = c.args in
+    let f = test_few a.conditions.now (preset_cols a.p) (tested a.conditions.now a.p c.in_table-inside.ensures c.if-not-inside.false c.front_fits.ensures c.if-not-front_fits.false) in
+    (f.inside, tt, omega (arith, f.few), omega (arith, f.few))
 
-pub overflow_add-result : goal.overflow_add-result
-overflow_add-result c =
-    let front : leb 1 c.args.p.conditions.count && fit_all (head_fields c.args.p) ≡ true = sym c.front_fits.ensures ∙ c.if-not-front_fits.false in
-    let tested : test c.args.conditions.now (preset_cols c.args.p) ≡ true = both_and (sym c.in_table-inside.ensures ∙ c.if-not-inside.false) front in
-    let k : 0 < c.plain_run-k.result = omega (arith, c.if-k-eq0.false) in
-    let v = sized c.args.p.conditions.first c.args.p.conditions.count c.plain_run-k.ensures in
-    omega (arith, (v.all k).few, (test_few c.args.conditions.now (preset_cols c.args.p) tested).few)
+pub returns-then-c-count : goal.returns-then-c-count
+returns-then-c-count c = kid_odd c.args.conditions.now (preset_cols c.args.p) c.plain_rows-c.ensures c.if-c-count.true
 
-pub returns-then-k-eq0 : goal.returns-then-k-eq0
-returns-then-k-eq0 c =
-    run_odd c.args.conditions.now (preset_cols c.args.p) (sized c.args.p.conditions.first c.args.p.conditions.count c.plain_run-k.ensures) c.if-k-eq0.true
-
-pub returns-else-k-eq0 : goal.returns-else-k-eq0
-returns-else-k-eq0 c =
-    let front : leb 1 c.args.p.conditions.count && fit_all (head_fields c.args.p) ≡ true = sym c.front_fits.ensures ∙ c.if-not-front_fits.false in
-    let tested : test c.args.conditions.now (preset_cols c.args.p) ≡ true = both_and (sym c.in_table-inside.ensures ∙ c.if-not-inside.false) front in
-    run_plain c.args.conditions.now (preset_cols c.args.p) (sized c.args.p.conditions.first c.args.p.conditions.count c.plain_run-k.ensures) tested (omega (arith, c.if-k-eq0.false))
+pub returns-else-c-count : goal.returns-else-c-count
+returns-else-c-count c =
+    let a = c.args in
+    let t = tested a.conditions.now a.p c.in_table-inside.ensures c.if-not-inside.false c.front_fits.ensures c.if-not-front_fits.false in
+    kids_plain a.conditions.now (preset_cols a.p) c.plain_rows-c.ensures t (omega (arith, c.if-c-count.false))

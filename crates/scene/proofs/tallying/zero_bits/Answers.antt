@@ -7,21 +7,21 @@ use Rattle.scene.proofs.Found.{groups_stand, switches_stand, presets_stand, at_s
 use Rattle.scene.proofs.Tallied.{zeros_so}
 use Rattle.scene.proofs.tallying.zero_bits.Goals as goal
 
-pub groups_zeros-g-requires : goal.groups_zeros-g-requires
-groups_zeros-g-requires c =
-    let e = c.part-2.ensures ∙ ap (part 7 1) c.wide-flags.ensures in let w = groups_stand c.requires.0 in rw e (w.there_is, ap is_done w.reads, omega arith)
+pub section_zeros-g-requires : goal.section_zeros-g-requires
+section_zeros-g-requires c =
+    let e = c.part-2.ensures ∙ ap (part 7 1) c.wide-flags.ensures in let w = groups_stand c.requires.0 in rw e (w.there_is, ap is_done w.reads, tt, omega arith, omega arith, omega arith)
 
-pub switch_groups_zeros-s-requires : goal.switch_groups_zeros-s-requires
-switch_groups_zeros-s-requires c =
-    let e = c.part-3.ensures ∙ ap (part 6 1) c.wide-flags.ensures in let w = switches_stand c.requires.0 in rw e (w.there_is, ap is_done w.reads, omega (arith, at_switches c.requires.0, c.requires.1))
+pub section_zeros-s-requires : goal.section_zeros-s-requires
+section_zeros-s-requires c =
+    let e = c.part-3.ensures ∙ ap (part 6 1) c.wide-flags.ensures in let w = switches_stand c.requires.0 in rw e (w.there_is, ap is_done w.reads, tt, omega arith, omega arith, omega (arith, at_switches c.requires.0, c.requires.1))
 
-pub presets_zeros-requires : goal.presets_zeros-requires
-presets_zeros-requires c =
-    let e = c.part-4.ensures ∙ ap (part 5 1) c.wide-flags.ensures in let w = presets_stand c.requires.0 in rw e (w.there_is, ap is_done w.reads, omega (arith, at_presets c.requires.0, c.requires.1))
+pub section_zeros-q-requires : goal.section_zeros-q-requires
+section_zeros-q-requires c =
+    let e = c.part-4.ensures ∙ ap (part 5 1) c.wide-flags.ensures in let w = presets_stand c.requires.0 in rw e (w.there_is, ap is_done w.reads, tt, omega arith, omega arith, omega (arith, at_presets c.requires.0, c.requires.1))
 
 pub returns : goal.returns
 returns c =
     zeros_so c.requires.0 c.requires.1
     (flags_so c.wide-flags.ensures c.part-2.ensures c.part-3.ensures c.part-4.ensures) refl
     (c.idle_bits-top.ensures ∙ ap (zeros 5) (c.part.ensures ∙ ap (part 0 5) c.wide-flags.ensures))
-    c.groups_zeros-g.ensures.0 c.switch_groups_zeros-s.ensures.0 c.presets_zeros.ensures.0
+    c.section_zeros-g.ensures.0 c.section_zeros-s.ensures.0 c.section_zeros-q.ensures.0

@@ -1,13 +1,9 @@
 -- `fill_gain` stores the columns of a gain that is there; of one that is not, it stores zeros.
 use mathlib.Core.Path.{ap}
-use Rattle.wire.proofs.Layouts.Straight.{size_there}
 use Rattle.wire.specs.Straight.{blanks}
 use Rattle.scene_groups.specs.Rows.{gain_row}
 use Rattle.scene_groups.proofs.Groups.{gain_there, put_there, put_none}
 use Rattle.scene_groups.proofs.parsing.fill_gain.Goals as goal
-
-pub gain_from-g-requires : goal.gain_from-g-requires
-gain_from-g-requires c = size_there 2 _ _ _ c.if-present-eq1.true c.requires.0
 
 pub returns-then-present-eq1 : goal.returns-then-present-eq1
 returns-then-present-eq1 c =

@@ -1,13 +1,9 @@
 -- `fill_language` stores the columns of a language that is there; of one that is not, it stores zeros.
 use mathlib.Core.Path.{ap}
-use Rattle.wire.proofs.Layouts.Straight.{size_there}
 use Rattle.wire.specs.Straight.{blanks}
 use Rattle.scene_groups.specs.Rows.{language_row}
 use Rattle.scene_groups.proofs.Groups.{language_there, put_there, put_none}
 use Rattle.scene_groups.proofs.parsing.fill_language.Goals as goal
-
-pub language_from-l-requires : goal.language_from-l-requires
-language_from-l-requires c = size_there 3 _ _ _ c.if-present-eq1.true c.requires.0
 
 pub returns-then-present-eq1 : goal.returns-then-present-eq1
 returns-then-present-eq1 c =

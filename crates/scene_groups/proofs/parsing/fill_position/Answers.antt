@@ -1,13 +1,9 @@
 -- `fill_position` stores the columns of a position that is there; of one that is not, it stores zeros.
 use mathlib.Core.Path.{ap}
-use Rattle.wire.proofs.Layouts.Straight.{size_there}
 use Rattle.wire.specs.Straight.{blanks}
 use Rattle.scene_groups.specs.Rows.{position_row}
 use Rattle.scene_groups.proofs.Groups.{position_there, put_there, put_none}
 use Rattle.scene_groups.proofs.parsing.fill_position.Goals as goal
-
-pub position_from-p-requires : goal.position_from-p-requires
-position_from-p-requires c = size_there 5 _ _ _ c.if-present-eq1.true c.requires.0
 
 pub returns-then-present-eq1 : goal.returns-then-present-eq1
 returns-then-present-eq1 c =

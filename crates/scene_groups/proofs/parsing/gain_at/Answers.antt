@@ -1,12 +1,9 @@
 -- `gain_at` takes the gain that is there; of one that is not, the columns stay 0.
-use Rattle.wire.proofs.Layouts.Straight.{size_there, taken_none}
+use Rattle.wire.proofs.Layouts.Straight.{taken_none}
 use Rattle.wire.specs.Straight.{blanks}
 use Rattle.scene_groups.specs.Layout.{gain}
 use Rattle.scene_groups.proofs.Groups.{gain_there}
 use Rattle.scene_groups.proofs.parsing.gain_at.Goals as goal
-
-pub gain_from-requires : goal.gain_from-requires
-gain_from-requires c = size_there 2 _ _ _ c.if-present-eq1.true c.requires.0
 
 pub returns-then-present-eq1 : goal.returns-then-present-eq1
 returns-then-present-eq1 c = gain_there _ _ c.if-present-eq1.true c.gain_from.ensures

@@ -1,12 +1,9 @@
 -- `language_at` takes the language that is there; of one that is not, the columns stay 0.
-use Rattle.wire.proofs.Layouts.Straight.{size_there, taken_none}
+use Rattle.wire.proofs.Layouts.Straight.{taken_none}
 use Rattle.wire.specs.Straight.{blanks}
 use Rattle.scene_groups.specs.Layout.{language}
 use Rattle.scene_groups.proofs.Groups.{language_there}
 use Rattle.scene_groups.proofs.parsing.language_at.Goals as goal
-
-pub language_from-requires : goal.language_from-requires
-language_from-requires c = size_there 3 _ _ _ c.if-present-eq1.true c.requires.0
 
 pub returns-then-present-eq1 : goal.returns-then-present-eq1
 returns-then-present-eq1 c = language_there _ _ c.if-present-eq1.true c.language_from.ensures

@@ -1,12 +1,9 @@
 -- `position_at` takes the position that is there; of one that is not, the columns stay 0.
-use Rattle.wire.proofs.Layouts.Straight.{size_there, taken_none}
+use Rattle.wire.proofs.Layouts.Straight.{taken_none}
 use Rattle.wire.specs.Straight.{blanks}
 use Rattle.scene_groups.specs.Layout.{position}
 use Rattle.scene_groups.proofs.Groups.{position_there}
 use Rattle.scene_groups.proofs.parsing.position_at.Goals as goal
-
-pub position_from-requires : goal.position_from-requires
-position_from-requires c = size_there 5 _ _ _ c.if-present-eq1.true c.requires.0
 
 pub returns-then-present-eq1 : goal.returns-then-present-eq1
 returns-then-present-eq1 c = position_there _ _ c.if-present-eq1.true c.position_from.ensures

@@ -1,22 +1,9 @@
 -- `fill_language` stores the bytes of a language that is there.
-use mathlib.Core.Path.{◌≡◌, sym, ◌∙◌}
-use Rattle.wire.specs.Spell.{Spelt}
+use mathlib.Core.Path.{◌∙◌}
 use Rattle.scene_groups.specs.Rows.{language_of}
 use Rattle.scene_groups.specs.Write.{language_fields}
-use Rattle.scene_groups.proofs.Writes.{ready_there, filled_there, filled_absent}
+use Rattle.scene_groups.proofs.Writes.{filled_absent}
 use Rattle.scene_groups.proofs.writing.fill_language.Goals as goal
-
-pub fill_all-requires : goal.fill_all-requires
-fill_all-requires c =
-    let there : (language_of c.args.groups.now c.args.b).present ≡ 1 = sym c.column.ensures ∙ c.if-column-eq1.true in
-    let spelt : Spelt (language_fields (language_of c.args.groups.now c.args.b)) c.language_bytes-bytes.result = rw c.of_columns.ensures at c.language_bytes-bytes.ensures in
-    search (ready_there, there, spelt)
-
-pub returns-then-column-eq1 : goal.returns-then-column-eq1
-returns-then-column-eq1 c =
-    let there : (language_of c.args.groups.now c.args.b).present ≡ 1 = sym c.column.ensures ∙ c.if-column-eq1.true in
-    let spelt : Spelt (language_fields (language_of c.args.groups.now c.args.b)) c.language_bytes-bytes.result = rw c.of_columns.ensures at c.language_bytes-bytes.ensures in
-    search (filled_there, there, spelt)
 
 pub returns-else-column-eq1 : goal.returns-else-column-eq1
 returns-else-column-eq1 c =

@@ -8,10 +8,6 @@ use Rattle.scene_kind.specs.Kind.{kind}
 use Rattle.scene_writing.proofs.Writes.{scene_acts_lem}
 use Rattle.scene_writing.proofs.writing.check.Goals as goal
 
-pub payload_run-requires : goal.payload_run-requires
-payload_run-requires c =
-    omega (arith, c.check_fields-p.ensures.near)
-
 pub returns-then-in_store : goal.returns-then-in_store
 unfolding kind
 returns-then-in_store c =

@@ -8,23 +8,23 @@ use Rattle.scene_writing.specs.Write.{scene_acts}
 use Rattle.scene_writing.proofs.Writes.{insides}
 use Rattle.scene_writing.proofs.writing.check_fields.Goals as goal
 
-pub check_groups_section-p2-requires : goal.check_groups_section-p2-requires
-check_groups_section-p2-requires c =
-    ((insides c.args.m _ _ _ (sym c.all_within.ensures ∙ c.if-all_within.true)).groups, omega (arith, (all_checked c.head_bytes.ensures c.check_all-p1.ensures).near))
+pub check_section-p2-requires : goal.check_section-p2-requires
+check_section-p2-requires c =
+    ((insides c.args.m _ _ _ (sym c.all_within.ensures ∙ c.if-all_within.true)).groups, tt, omega arith, omega arith, omega (arith, (all_checked c.head_bytes.ensures c.check_all-p1.ensures).near))
 
-pub check_switch_groups_section-p3-requires : goal.check_switch_groups_section-p3-requires
-check_switch_groups_section-p3-requires c =
-    ((insides c.args.m _ _ _ (sym c.all_within.ensures ∙ c.if-all_within.true)).switches, omega (arith, (all_checked c.head_bytes.ensures c.check_all-p1.ensures).near, c.check_groups_section-p2.ensures.near))
+pub check_section-p3-requires : goal.check_section-p3-requires
+check_section-p3-requires c =
+    ((insides c.args.m _ _ _ (sym c.all_within.ensures ∙ c.if-all_within.true)).switches, tt, omega arith, omega arith, omega (arith, (all_checked c.head_bytes.ensures c.check_all-p1.ensures).near, c.check_section-p2.ensures.near))
 
-pub check_presets_section-requires : goal.check_presets_section-requires
-check_presets_section-requires c =
-    ((insides c.args.m _ _ _ (sym c.all_within.ensures ∙ c.if-all_within.true)).presets, omega (arith, (all_checked c.head_bytes.ensures c.check_all-p1.ensures).near, c.check_groups_section-p2.ensures.near, c.check_switch_groups_section-p3.ensures.near))
+pub check_section-requires : goal.check_section-requires
+check_section-requires c =
+    ((insides c.args.m _ _ _ (sym c.all_within.ensures ∙ c.if-all_within.true)).presets, tt, omega arith, omega arith, omega (arith, (all_checked c.head_bytes.ensures c.check_all-p1.ensures).near, c.check_section-p2.ensures.near, c.check_section-p3.ensures.near))
 
 pub returns-then-all_within : goal.returns-then-all_within
 unfolding scene_acts first_table other_tables
 returns-then-all_within c =
     rw (sym c.all_within.ensures ∙ c.if-all_within.true)
-    (passed _ 0 (passed _ 0 (passed _ 0 (more 5810 (then (all_checked c.head_bytes.ensures c.check_all-p1.ensures) (then c.check_groups_section-p2.ensures (then c.check_switch_groups_section-p3.ensures c.check_presets_section.ensures))) (omega arith)))))
+    (passed _ 0 (passed _ 0 (passed _ 0 (more 5810 (then (all_checked c.head_bytes.ensures c.check_all-p1.ensures) (then c.check_section-p2.ensures (then c.check_section-p3.ensures c.check_section.ensures))) (omega arith)))))
 
 pub returns-else-all_within : goal.returns-else-all_within
 unfolding scene_acts first_table other_tables

@@ -9,12 +9,12 @@ returns-then-kind-gt3 c =
 
 pub returns-then-contains : goal.returns-then-contains
 returns-then-contains c =
-    case_group _ _ (omega (arith, c.if-kind-gt3.false)) c.contains.ensures c.if-contains.true
+    case_group _ _ (omega (arith, c.if-kind-gt3.false)) c.contains.ensures.value c.if-contains.true
 
 pub returns-then-kind-eq3 : goal.returns-then-kind-eq3
 returns-then-kind-eq3 c =
-    case_preset _ _ (omega (arith, c.if-kind-gt3.false)) c.contains.ensures c.if-contains.false c.if-kind-eq3.true
+    case_preset _ _ (omega (arith, c.if-kind-gt3.false)) c.contains.ensures.value c.if-contains.false c.if-kind-eq3.true
 
 pub returns-else-kind-eq3 : goal.returns-else-kind-eq3
 returns-else-kind-eq3 c =
-    case_plain _ _ (omega (arith, c.if-kind-gt3.false)) c.contains.ensures c.if-contains.false c.if-kind-eq3.false
+    case_plain _ _ (omega (arith, c.if-kind-gt3.false)) c.contains.ensures.value c.if-contains.false c.if-kind-eq3.false

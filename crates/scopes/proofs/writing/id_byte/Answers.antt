@@ -9,14 +9,6 @@ unfolding total widths
 returns-in-Plain c =
     rw c.in-Plain.is (c.spelt.ensures.of [] (omega arith) c.none.ensures)
 
-pub returns-in-Group : goal.returns-in-Group
-returns-in-Group c =
-    rw c.in-Group.is c.two.ensures
-
-pub returns-in-Preset : goal.returns-in-Preset
-returns-in-Preset c =
-    rw c.in-Preset.is c.two-in-Preset.ensures
-
 pub returns-in-Unknown : goal.returns-in-Unknown
 unfolding total widths
 returns-in-Unknown c =

@@ -2,8 +2,5 @@
 use Rattle.stream_groups.proofs.Taken.{Sparing}
 use Rattle.stream_groups.proofs.parsing.quick_groups.Given as goal
 
-abbrev pub invariant-loop-left : goal.invariant-loop-left
-invariant-loop-left l = Sparing l.body l.at l.count l.spare l.pos l.left
-
-abbrev pub decreases-loop-left : goal.decreases-loop-left
-decreases-loop-left l = l.left
+abbrev pub invariant-loop-i : goal.invariant-loop-i
+invariant-loop-i l = Sparing l.body l.at l.count l.spare l.pos l.i

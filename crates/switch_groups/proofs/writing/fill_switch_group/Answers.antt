@@ -1,7 +1,5 @@
 -- `writing::fill_switch_group` meets its contract: its first two bytes, its members, and its default.
-use Rattle.wire.proofs.Writing.Plain.{filled_long}
 use Rattle.switch_groups.proofs.Writes.{row_ready, head_ready, members_ready, default_ready, row_filled}
-use borrow.Author.Rules.{rules}
 use Rattle.switch_groups.proofs.writing.fill_switch_group.Goals as goal
 
 pub fill_all-n1-requires : goal.fill_all-n1-requires
@@ -13,9 +11,6 @@ fill_pairs-n2-requires c =
 
 pub fill_all-requires : goal.fill_all-requires
 fill_all-requires c = search default_ready
-
-pub shape_of-out : goal.shape_of-out
-shape_of-out c = search (rules, filled_long, row_filled)
 
 pub returns : goal.returns
 returns c = search row_filled

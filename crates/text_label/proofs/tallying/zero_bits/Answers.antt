@@ -6,8 +6,8 @@ use Rattle.text_label.proofs.tallying.zero_bits.Goals as goal
 pub bounds-body-1 : goal.bounds-body-1
 bounds-body-1 c = search (rules, two_measured)
 
-pub tally_languages-t-requires : goal.tally_languages-t-requires
-tally_languages-t-requires c = search (two_measured, whole_body, languages_done, count_few)
+pub rows_zeros-t-requires : goal.rows_zeros-t-requires
+rows_zeros-t-requires c = search (rules, two_measured, whole_body, languages_done, count_few)
 
 pub returns : goal.returns
 returns c = search tallies_are

@@ -1,79 +1,68 @@
--- `writing::fill_language` meets its contract: the letters and the three lists, and what is left to store after each.
-use mathlib.Core.List.{List, map, ◌++◌}
-use mathlib.Core.Bool.{true}
+-- `writing::fill_language` meets its contract: the letters, and the three lists.
+use Prim.Native.Nat.{ℕ}
 use mathlib.Core.Path.{refl}
+use mathlib.Core.List.{List, ◌++◌, map}
+use mathlib.Core.Bool.{true}
 use native.Mathlib.Omega.{arith}
 use Rattle.wire.specs.Act.{Act, byte, when}
+use Rattle.wire.specs.Pen.{Ready, Filled}
+use Rattle.wire.specs.Spell.{Spelt, FillsAll}
 use Rattle.wire.proofs.Writing.Passes.{Filling, fill_start, fill_demand, fill_row_lem, fill_turn, fill_last, demanded}
-use Rattle.wire.proofs.Writing.Plain.{ready_part, fill_part_lem}
+use Rattle.wire.proofs.Writing.Plain.{filled_long, ready_part, fill_part_lem}
 use Rattle.labels.specs.Write.{list_acts}
+use Rattle.text_label.specs.declared.rows.TextLabelLanguage.{TextLabelLanguage}
 use Rattle.text_label.specs.Write.{letter_fields, language_acts}
 use Rattle.text_label.proofs.Written.{Within, all_three}
 use Rattle.text_label.proofs.writing.fill_language.Goals as goal
 
+-- what is left after the letters, after the groups and after the switch groups
+module _ (u store : List ℕ) (l : TextLabelLanguage) where
+  abbrev last : List Act
+  last = list_acts 5 u store l.presets
+
+  abbrev last_two : List Act
+  last_two = list_acts 5 u store l.switch_groups ++ last
+
+  abbrev all_lists : List Act
+  all_lists = list_acts 7 u store l.groups ++ last_two
+
+module _ (u store : List ℕ) (l : TextLabelLanguage) {n : ℕ} {o : List ℕ} (x : Ready (language_acts u store l) n o) where
+  within : Within l u
+  unfolding language_acts
+  within = all_three l u (demanded x)
+
+  begun : Filling (language_acts u store l) (when true (map byte (letter_fields l.language)) ++ all_lists u store l) n o n o
+  unfolding language_acts
+  begun = fill_demand (fill_demand (fill_demand (fill_start x)))
+
+  module _ {vs : List ℕ} (s : Spelt (letter_fields l.language) vs) {n₁ : ℕ} {o₁ : List ℕ} (a : FillsAll true vs n o n₁ o₁) where
+    letters_filled : Filling (language_acts u store l) (all_lists u store l) n o n₁ o₁
+    letters_filled = fill_part_lem (all_lists u store l) {there = true} s begun a
+
+    module _ {n₂ : ℕ} {o₂ : List ℕ} (b : Filled (list_acts 7 u store l.groups) n₁ o₁ n₂ o₂) where
+      groups_filled : Filling (language_acts u store l) (last_two u store l) n o n₂ o₂
+      groups_filled = fill_turn letters_filled refl (filled_long b) b
+
+      switch_groups_filled : {n₃ : ℕ} {o₃ : List ℕ} → Filled (list_acts 5 u store l.switch_groups) n₂ o₂ n₃ o₃ → Filling (language_acts u store l) (last u store l) n o n₃ o₃
+      switch_groups_filled d = fill_turn groups_filled refl (filled_long d) d
+
 pub fill_all-n1-requires : goal.fill_all-n1-requires
-unfolding language_acts
-fill_all-n1-requires c =
-    -- all of it, and what is left after the letters, after the groups and after the switch groups
-    let all : List Act = language_acts c.args.entries.now c.args.store.now c.args.l in
-    let left-3 : List Act = list_acts 5 c.args.entries.now c.args.store.now c.args.l.presets in
-    let left-2 : List Act = list_acts 5 c.args.entries.now c.args.store.now c.args.l.switch_groups ++ left-3 in
-    let left-1 : List Act = list_acts 7 c.args.entries.now c.args.store.now c.args.l.groups ++ left-2 in
-    let after-0 : Filling all (when true (map byte (letter_fields c.args.l.language)) ++ left-1) c.args.n c.args.out.now c.args.n c.args.out.now = fill_demand (fill_demand (fill_demand (fill_start c.requires))) in
-    ready_part _ c.letter_bytes.ensures after-0
+fill_all-n1-requires c = ready_part _ c.letter_bytes.ensures (begun c.args.entries.now c.args.store.now c.args.l c.requires)
 
 pub fill_list-n2-requires : goal.fill_list-n2-requires
-unfolding language_acts
 fill_list-n2-requires c =
-    let rows : Within c.args.l c.args.entries.now = all_three _ _ (demanded c.requires) in
-    -- all of it, and what is left after the letters, after the groups and after the switch groups
-    let all : List Act = language_acts c.args.entries.now c.args.store.now c.args.l in
-    let left-3 : List Act = list_acts 5 c.args.entries.now c.args.store.now c.args.l.presets in
-    let left-2 : List Act = list_acts 5 c.args.entries.now c.args.store.now c.args.l.switch_groups ++ left-3 in
-    let left-1 : List Act = list_acts 7 c.args.entries.now c.args.store.now c.args.l.groups ++ left-2 in
-    let after-0 : Filling all (when true (map byte (letter_fields c.args.l.language)) ++ left-1) c.args.n c.args.out.now c.args.n c.args.out.now = fill_demand (fill_demand (fill_demand (fill_start c.requires))) in
-    let after-1 : Filling all left-1 c.args.n c.args.out.now c.fill_all-n1.result c.fill_all-n1.new.out = fill_part_lem _ c.letter_bytes.ensures after-0 c.fill_all-n1.ensures in
-    (rows.groups, fill_row_lem _ _ after-1 refl, omega arith)
+    let w = c.requires in
+    ((within _ _ _ w).groups, fill_row_lem _ _ (letters_filled _ _ _ w c.letter_bytes.ensures c.fill_all-n1.ensures) refl, omega arith)
 
 pub fill_list-n3-requires : goal.fill_list-n3-requires
-unfolding language_acts
 fill_list-n3-requires c =
-    let rows : Within c.args.l c.args.entries.now = all_three _ _ (demanded c.requires) in
-    -- all of it, and what is left after the letters, after the groups and after the switch groups
-    let all : List Act = language_acts c.args.entries.now c.args.store.now c.args.l in
-    let left-3 : List Act = list_acts 5 c.args.entries.now c.args.store.now c.args.l.presets in
-    let left-2 : List Act = list_acts 5 c.args.entries.now c.args.store.now c.args.l.switch_groups ++ left-3 in
-    let left-1 : List Act = list_acts 7 c.args.entries.now c.args.store.now c.args.l.groups ++ left-2 in
-    let after-0 : Filling all (when true (map byte (letter_fields c.args.l.language)) ++ left-1) c.args.n c.args.out.now c.args.n c.args.out.now = fill_demand (fill_demand (fill_demand (fill_start c.requires))) in
-    let after-1 : Filling all left-1 c.args.n c.args.out.now c.fill_all-n1.result c.fill_all-n1.new.out = fill_part_lem _ c.letter_bytes.ensures after-0 c.fill_all-n1.ensures in
-    let after-2 : Filling all left-2 c.args.n c.args.out.now c.fill_list-n2.result c.fill_list-n2.new.out = fill_turn after-1 refl c.fill_list-n2.auto.out c.fill_list-n2.ensures in
-    (rows.switch_groups, fill_row_lem _ _ after-2 refl, omega arith)
+    let w = c.requires in
+    ((within _ _ _ w).switch_groups, fill_row_lem _ _ (groups_filled _ _ _ w c.letter_bytes.ensures c.fill_all-n1.ensures c.fill_list-n2.ensures) refl, omega arith)
 
 pub fill_list-requires : goal.fill_list-requires
-unfolding language_acts
 fill_list-requires c =
-    let rows : Within c.args.l c.args.entries.now = all_three _ _ (demanded c.requires) in
-    -- all of it, and what is left after the letters, after the groups and after the switch groups
-    let all : List Act = language_acts c.args.entries.now c.args.store.now c.args.l in
-    let left-3 : List Act = list_acts 5 c.args.entries.now c.args.store.now c.args.l.presets in
-    let left-2 : List Act = list_acts 5 c.args.entries.now c.args.store.now c.args.l.switch_groups ++ left-3 in
-    let left-1 : List Act = list_acts 7 c.args.entries.now c.args.store.now c.args.l.groups ++ left-2 in
-    let after-0 : Filling all (when true (map byte (letter_fields c.args.l.language)) ++ left-1) c.args.n c.args.out.now c.args.n c.args.out.now = fill_demand (fill_demand (fill_demand (fill_start c.requires))) in
-    let after-1 : Filling all left-1 c.args.n c.args.out.now c.fill_all-n1.result c.fill_all-n1.new.out = fill_part_lem _ c.letter_bytes.ensures after-0 c.fill_all-n1.ensures in
-    let after-2 : Filling all left-2 c.args.n c.args.out.now c.fill_list-n2.result c.fill_list-n2.new.out = fill_turn after-1 refl c.fill_list-n2.auto.out c.fill_list-n2.ensures in
-    let after-3 : Filling all left-3 c.args.n c.args.out.now c.fill_list-n3.result c.fill_list-n3.new.out = fill_turn after-2 refl c.fill_list-n3.auto.out c.fill_list-n3.ensures in
-    (rows.presets, after-3.ready, omega arith)
+    let w = c.requires in
+    ((within _ _ _ w).presets, (switch_groups_filled _ _ _ w c.letter_bytes.ensures c.fill_all-n1.ensures c.fill_list-n2.ensures c.fill_list-n3.ensures).ready, omega arith)
 
 pub returns : goal.returns
-unfolding language_acts
-returns c =
-    -- all of it, and what is left after the letters, after the groups and after the switch groups
-    let all : List Act = language_acts c.args.entries.now c.args.store.now c.args.l in
-    let left-3 : List Act = list_acts 5 c.args.entries.now c.args.store.now c.args.l.presets in
-    let left-2 : List Act = list_acts 5 c.args.entries.now c.args.store.now c.args.l.switch_groups ++ left-3 in
-    let left-1 : List Act = list_acts 7 c.args.entries.now c.args.store.now c.args.l.groups ++ left-2 in
-    let after-0 : Filling all (when true (map byte (letter_fields c.args.l.language)) ++ left-1) c.args.n c.args.out.now c.args.n c.args.out.now = fill_demand (fill_demand (fill_demand (fill_start c.requires))) in
-    let after-1 : Filling all left-1 c.args.n c.args.out.now c.fill_all-n1.result c.fill_all-n1.new.out = fill_part_lem _ c.letter_bytes.ensures after-0 c.fill_all-n1.ensures in
-    let after-2 : Filling all left-2 c.args.n c.args.out.now c.fill_list-n2.result c.fill_list-n2.new.out = fill_turn after-1 refl c.fill_list-n2.auto.out c.fill_list-n2.ensures in
-    let after-3 : Filling all left-3 c.args.n c.args.out.now c.fill_list-n3.result c.fill_list-n3.new.out = fill_turn after-2 refl c.fill_list-n3.auto.out c.fill_list-n3.ensures in
-    fill_last after-3 c.fill_list.ensures
+returns c = fill_last (switch_groups_filled _ _ _ c.requires c.letter_bytes.ensures c.fill_all-n1.ensures c.fill_list-n2.ensures c.fill_list-n3.ensures) c.fill_list.ensures

@@ -4,18 +4,15 @@ use Rattle.wire.proofs.Writing.Passes.{rows_turn, rows_end, fill_start, fill_row
 use Rattle.text_label.proofs.writing.fill_languages.Goals as goal
 
 pub loop-i-init : goal.loop-i-init
-loop-i-init c = (omega arith, rw sub-zero (fill_start c.requires.2))
+loop-i-init c = rw sub-zero (fill_start c.requires.2)
 
 pub fill_language-at-requires : goal.fill_language-at-requires
-fill_language-at-requires c = rw c.of_columns-l.ensures (fill_row_lem _ _ c.loop-i.invariant.1 (rows_turn _ _ _ c.loop-i-test.true))
+fill_language-at-requires c = rw c.of_columns-l.ensures (fill_row_lem _ _ c.loop-i.invariant (rows_turn _ _ _ (omega arith)))
 
 pub loop-i-preserved : goal.loop-i-preserved
 loop-i-preserved c =
     let w = rw c.of_columns-l.ensures at c.fill_language-at.ensures in
-    (omega arith, fill_turn c.loop-i.invariant.1 (rows_turn _ _ _ c.loop-i-test.true) c.fill_language-at.auto.out w)
-
-pub shape_of-out : goal.shape_of-out
-shape_of-out c = c.loop-i.invariant.1.size
+    fill_turn c.loop-i.invariant (rows_turn _ _ _ (omega arith)) c.fill_language-at.auto.out w
 
 pub returns : goal.returns
-returns c = fill_end c.loop-i.invariant.1 (rows_end _ _ _ c.loop-i-test.false)
+returns c = fill_end c.loop-i.invariant (rows_end _ _ _ (omega arith))

@@ -1,5 +1,0 @@
--- `labels::rows::TextLabelEntry::switch_group` meets its contract.
-use Rattle.labels.proofs.rows.TextLabelEntry.switch_group.Goals as goal
-
-pub returns : goal.returns
-returns c = rw (c.wide.ensures, c.ones.ensures)

@@ -1,6 +1,0 @@
--- `id_fits` meets its contract: the columns are those of the row.
-use Rattle.scene_groups.proofs.writing.id_fits.Goals as goal
-
-pub returns : goal.returns
-returns c =
-    rw (c.column-3.ensures, c.column-2.ensures, c.column.ensures) at c.four_fit.ensures
