@@ -1,4 +1,4 @@
-// The base body (kind 1; H.222.0 2.6.106, Table 2-121): read, measure, tally and write.
+// The base body (kind 1; H.222.0 2.6.106, Table 2-121): read, measure, tally and write. Each kind has these four functions, over its own tables; the base body has none.
 #![tactic(auto)]
 
 pub mod parsing;

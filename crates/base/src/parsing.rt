@@ -1,4 +1,4 @@
-// Reading the base body: the reads in the Rust's order. One pass measures, one takes the record and tests nothing.
+// Reading the base body: the reads in the Rust's order. One pass measures, one takes the record and tests nothing. A body and a position stay two arguments, as in `wire::reads`.
 ghost use Rattle.std.specs.Prelude.{◌≡◌, true, ◌≤◌, length};
 ghost use Rattle.wire.specs.Prog.{done, run};
 ghost use Rattle.wire.specs.Straight.{ends, ones};

@@ -1,4 +1,4 @@
-// The top record of the base body (H.222.0 2.6.106, Table 2-121) and its constructor. The base lends no tables.
+// The top record of the base body (H.222.0 2.6.106, Table 2-121) and its constructor. The base lends no tables. The README names `columns`, so it stands where a `From` would.
 ghost use Rattle.std.specs.Prelude.{◌≡◌, true, false};
 ghost use Rattle.wire.specs.Prog.{span};
 ghost use Rattle.base.specs.Rows.{absent_sets, listed_sets, top_row};
@@ -7,6 +7,7 @@ use wire::bits::{flag, ones};
 use wire::rows::Payload;
 
 // The CompatibleSetIndication list, where there is one.
+// A flag and what it tells of, not an Option: `absent_sets_lem` (proofs/Claims) says of an absent list that its contents are nowhere read.
 #[derive(Clone, Copy, PartialEq, Eq)]
 pub struct CompatibleSets {
     pub present: bool,

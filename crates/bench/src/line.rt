@@ -13,7 +13,7 @@ ghost use Rattle.bench.specs.Line.{line_of, kind_line, judged_line, refused_line
 use super::kind::Kind;
 use frame::Refusal;
 
-// number, first returned number, k, tally
+// number, first returned number, k, tally: `line_of` and document 01 give four numbers, a refusal's among them.
 #[derive(Clone, Copy, PartialEq, Eq)]
 pub struct Line {
     pub number: u16,

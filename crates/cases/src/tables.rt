@@ -3,7 +3,7 @@ ghost use Rattle.std.specs.Prelude.{◌<◌};
 
 use super::list::{Kind, State};
 
-// A body, or a line of the list.
+// A body, or a line of the list. Memory is fixed, without a heap: the lengths in use stand in `State`.
 pub type Bytes = [u8; 65536];
 
 // The top record (table 0), the five tables, and what measuring is lent (table 6), each from its own place on.

@@ -1,4 +1,4 @@
-// Reading conditions: one pass measures, one takes what was measured and tests nothing.
+// Reading conditions: one pass measures, one takes what was measured and tests nothing. A body and a position stay two arguments, as in `wire::reads`.
 ghost use Rattle.std.specs.Prelude.{ℕ, List, ◌≡◌, true, ◌+◌, ◌*◌, ◌≤◌, length, get_or};
 ghost use Rattle.wire.specs.Prog.{done, run};
 ghost use Rattle.wire.specs.Reads.{is_done, ends_out};

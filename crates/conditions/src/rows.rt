@@ -1,4 +1,4 @@
-// The rows of table 5 with their parts, and their constructors.
+// The rows of table 5 with their parts, and their constructors. The README names `columns` and `of_columns`, so they stand where `From` would.
 ghost use Rattle.std.specs.Prelude.{◌≡◌, ◌+◌, ◌≤◌, length};
 ghost use Rattle.wire.specs.Bits.{bit};
 ghost use Rattle.conditions.specs.Rows.{condition_row, condition_of, no_gain, no_position, no_detail};
@@ -7,6 +7,7 @@ use wire::bits::flag;
 use wire::ids::GroupId;
 
 // mae_groupPresetAzOffset, ElOffset and DistFactor, where they are there.
+// `present` is a column, not an Option: `condition_of` gives any number that is lent, and writing refuses one above 1.
 #[derive(Clone, Copy, PartialEq, Eq)]
 pub struct PresetPosition {
     pub present: u16,
@@ -47,6 +48,7 @@ impl PresetPosition {
 }
 
 // mae_groupPresetGain, where it is there.
+// `present` is a column, not an Option: `condition_of` gives any number that is lent, and writing refuses one above 1.
 #[derive(Clone, Copy, PartialEq, Eq)]
 pub struct PresetGain {
     pub present: u16,
@@ -71,6 +73,7 @@ impl PresetGain {
 }
 
 // What a condition says of its group, where mae_groupPresetConditionOnOff is 1.
+// `present` is a column, not an Option: `condition_of` gives any number that is lent, and writing refuses one above 1.
 #[derive(Clone, Copy, PartialEq, Eq)]
 pub struct PresetConditionDetail {
     pub present: u16,

@@ -1,4 +1,4 @@
-// Writing conditions: their bytes as numbers, the check pass with a quick test of a plain row, and the fill pass.
+// Writing conditions: their bytes as numbers, the check pass with a quick test of a plain row, and the fill pass. A table and the first column of a row stay two arguments, as in `wire::rows`. How far a pen may be is asked as in `wire::pen`.
 ghost use Rattle.std.specs.Prelude.{◌≡◌, true, [], ◌∷◌, map, ◌+◌, ◌-◌, ◌*◌, ◌<◌, ◌≤◌, ◌^◌, length};
 ghost use Rattle.wire.specs.Bits.{field, fit};
 ghost use Rattle.wire.specs.Act.{byte, when, pick};

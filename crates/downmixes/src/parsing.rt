@@ -1,4 +1,4 @@
-// Reading downmix definitions: one comparison measures them all, and what was measured is taken without a test.
+// Reading downmix definitions: one comparison measures them all, and what was measured is taken without a test. A body and a position stay two arguments, as in `wire::reads`.
 ghost use Rattle.std.specs.Prelude.{ℕ, ◌≡◌, true, [], ◌∷◌, ◌+◌, ◌*◌, ◌<◌, ◌≤◌, List, length, get_or};
 ghost use Rattle.wire.specs.Prog.{run, many};
 ghost use Rattle.wire.specs.Reads.{end_of, ends_out};

@@ -1,4 +1,4 @@
-// The top record of the DRC and loudness body, with its constructors.
+// The top record of the DRC and loudness body, with its constructors. The README names `columns`, so it stands where a `From` would.
 ghost use Rattle.std.specs.Prelude.{◌≡◌, true, false};
 ghost use Rattle.wire.specs.Prog.{span};
 ghost use Rattle.drc_kind.specs.Rows.{no_info, top_row};
@@ -34,6 +34,7 @@ impl DrcLoudnessInfo {
 }
 
 // That payload, where it is there.
+// A flag and what it tells of, not an Option: `absent_info` (proofs/Claims) says of an absent part that its contents are nowhere read.
 #[derive(Clone, Copy, PartialEq, Eq)]
 pub struct Info {
     pub present: bool,

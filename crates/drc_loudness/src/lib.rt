@@ -1,4 +1,4 @@
-// The DRC and loudness body (kind 5; H.222.0 2.6.116, Table 2-126): read, measure, tally and write. Its rows are those of tables 9 to 12.
+// The DRC and loudness body (kind 5; H.222.0 2.6.116, Table 2-126): read, measure, tally and write. Its rows are those of tables 9 to 12. Each kind has these four functions, over its own tables, each a parameter as the README shows.
 #![tactic(auto)]
 
 pub mod parsing;

@@ -1,4 +1,4 @@
-// Reading the DRC and loudness body: one walk finds its lists and touches nothing, then the record is taken and the tables are filled, and nothing is tested.
+// Reading the DRC and loudness body: one walk finds its lists and touches nothing, then the record is taken and the tables are filled, and nothing is tested. `opened` answers the places alone (`Opens`, docs/CLAIMS.md), so what takes places takes the body beside them.
 ghost use Rattle.std.specs.Prelude.{◌≡◌, [], ◌∷◌, ◌<◌, ◌≤◌, ◌^◌, length};
 ghost use Rattle.wire.specs.Reads.{ends_out};
 ghost use Rattle.wire.specs.Straight.{ends, spans};

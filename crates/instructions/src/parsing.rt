@@ -1,4 +1,4 @@
-// Reading DRC instructions: one pass measures them and counts their additional IDs, one takes what was measured and tests nothing.
+// Reading DRC instructions: one pass measures them and counts their additional IDs, one takes what was measured and tests nothing. A body and a position stay two arguments, as in `wire::reads`.
 ghost use Rattle.std.specs.Prelude.{◌≡◌, true, ◌+◌, ◌-◌, ◌*◌, ◌<◌, ◌≤◌, length, get_or};
 ghost use mathlib.Core.List.{◌∷◌, ◌++◌, flatten};
 ghost use Rattle.wire.specs.Bits.{total, part};

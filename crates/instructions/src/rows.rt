@@ -1,4 +1,4 @@
-// The rows of table 9, with their constructors. A row of table 10 is its two columns: reserved bit and ID.
+// The rows of table 9, with their constructors. A row of table 10 is its two columns: reserved bit and ID. The README names `columns` and `of_columns`, so they stand where `From` would.
 ghost use Rattle.std.specs.Prelude.{◌≡◌, ◌+◌, ◌≤◌, length};
 ghost use Rattle.target_loudness.specs.Rows.{no_target};
 ghost use Rattle.instructions.specs.Rows.{no_limiter, instruction_row, instruction_of};
@@ -13,6 +13,7 @@ use wire::rows::Range;
 pub const DRC_GROUP_TYPES: [u16; 1] = [2];
 
 // bsLimiterPeakTarget, where it is there.
+// `present` is a column, not an Option: `instruction_of` gives any number that is lent, and writing refuses one above 1.
 #[derive(Clone, Copy, PartialEq, Eq)]
 pub struct LimiterPeakTarget {
     pub present: u16,

@@ -17,7 +17,7 @@ use wire::reads::{Short, byte_at, bytes_end, head};
 use wire::rows::{Range, payload_at, put_row};
 
 // An entry whose ID has `w` bits, as a list of them is measured, stored and tallied.
-#[derive(Clone, Copy)]
+#[derive(Clone, Copy, PartialEq, Eq)]
 pub struct Label {
     pub w: u32,
 }
@@ -49,7 +49,7 @@ pub fn list_rows(body: &[u8], at: usize, w: u32) -> Result<(usize, usize), Short
 // ---- taken, once measured
 
 // An entry, and the next position.
-#[derive(Clone, Copy)]
+#[derive(Clone, Copy, PartialEq, Eq)]
 pub struct Placed {
     pub row: TextLabelEntry,
     pub next: usize,
@@ -93,7 +93,7 @@ impl Store for Label {
 }
 
 // A list, and the next position.
-#[derive(Clone, Copy)]
+#[derive(Clone, Copy, PartialEq, Eq)]
 pub struct PlacedList {
     pub list: Descriptions,
     pub next: usize,

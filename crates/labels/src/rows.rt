@@ -1,4 +1,4 @@
-// A list of labels and its rows of table 7 (H.222.0 2.6.112, Table 2-124), with their constructors.
+// A list of labels and its rows of table 7 (H.222.0 2.6.112, Table 2-124), with their constructors. The README names `columns` and `of_columns`, so they stand where `From` would.
 ghost use Rattle.std.specs.Prelude.{◌≡◌, ◌+◌, ◌≤◌, length};
 ghost use Rattle.labels.specs.Rows.{entry_row, entry_of, descriptions, descriptions_of};
 

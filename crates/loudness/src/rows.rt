@@ -1,4 +1,4 @@
-// The rows of table 11, with their constructor.
+// The rows of table 11, with their constructor. The README names `columns` and `of_columns`, so they stand where `From` would.
 ghost use Rattle.std.specs.Prelude.{◌≡◌, ◌+◌, ◌≤◌, length};
 ghost use Rattle.loudness.specs.Layout.{types};
 ghost use Rattle.loudness.specs.Rows.{entry_row, entry_of};

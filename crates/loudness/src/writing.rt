@@ -1,4 +1,4 @@
-// Writing loudness entries: the check pass with a quick test of a plain row, and the fill pass.
+// Writing loudness entries: the check pass with a quick test of a plain row, and the fill pass. How far a pen may be is asked as in `wire::pen`.
 ghost use Rattle.std.specs.Prelude.{◌<◌, ◌^◌};
 ghost use Rattle.wire.specs.Pen.{Checked, Quick, Ready, Filled, At};
 ghost use Rattle.loudness.specs.Write.{entry_acts, row_acts};

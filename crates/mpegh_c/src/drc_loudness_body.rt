@@ -1,4 +1,4 @@
-// The DRC and loudness body (kind 5) for hosts: numbers and slices in, one number out.
+// The DRC and loudness body (kind 5) for hosts: numbers and slices in, one number out. The names are exported and each kind lends other tables, so the five modules stay apart. C has no Option: a flag stands beside what it tells of.
 ghost use Rattle.std.specs.Prelude.{◌≡◌, [], ◌∷◌};
 ghost use Rattle.wire.specs.Prog.{span};
 ghost use Rattle.drc_kind.specs.Rows.{top_columns, top_row};

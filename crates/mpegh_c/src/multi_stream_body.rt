@@ -1,4 +1,4 @@
-// The multi_stream body (kind 4) for hosts: numbers and slices in, one number out.
+// The multi_stream body (kind 4) for hosts: numbers and slices in, one number out. The names are exported and each kind lends other tables, so the five modules stay apart. C has no Option: a flag stands beside what it tells of.
 ghost use Rattle.std.specs.Prelude.{◌≡◌, [], ◌∷◌};
 ghost use Rattle.wire.specs.Prog.{span};
 ghost use Rattle.multi_stream.specs.Rows.{top_columns, top_row};

@@ -1,4 +1,4 @@
-// The text label body (kind 3) for hosts: numbers and slices in, one number out.
+// The text label body (kind 3) for hosts: numbers and slices in, one number out. The names are exported and each kind lends other tables, so the five modules stay apart.
 ghost use Rattle.std.specs.Prelude.{◌≡◌, [], ◌∷◌};
 ghost use Rattle.wire.specs.Prog.{span};
 ghost use Rattle.text_label.specs.Rows.{top_columns, top_row};

@@ -1,4 +1,4 @@
-// The multi_stream body (kind 4; H.222.0 2.6.114, Table 2-125): read, measure, tally and write. Its groups are the rows of table 8.
+// The multi_stream body (kind 4; H.222.0 2.6.114, Table 2-125): read, measure, tally and write. Its groups are the rows of table 8. Each kind has these four functions, over its own tables.
 #![tactic(auto)]
 
 mod parsing;

@@ -1,4 +1,4 @@
-// Reading the multi_stream body: the reads in the Rust's order. One pass measures and touches nothing, one takes the record and fills table 8 and tests nothing.
+// Reading the multi_stream body: the reads in the Rust's order. One pass measures and touches nothing, one takes the record and fills table 8 and tests nothing. A body and a position stay two arguments, as in `wire::reads`.
 ghost use Rattle.std.specs.Prelude.{◌≡◌, true, [], ◌∷◌, ◌≤◌, ◌/◌, length};
 ghost use Rattle.wire.specs.Prog.{done, run};
 ghost use Rattle.wire.specs.Reads.{map_out, is_done, pos_of, Summed};

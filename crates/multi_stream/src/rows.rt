@@ -1,4 +1,4 @@
-// The top record of the multi_stream body (H.222.0 2.6.114, Table 2-125) and its constructors; the rows of table 8 are those of `stream_groups`.
+// The top record of the multi_stream body (H.222.0 2.6.114, Table 2-125) and its constructors; the rows of table 8 are those of `stream_groups`. The README names `columns`, so it stands where a `From` would.
 ghost use Rattle.std.specs.Prelude.{◌≡◌};
 ghost use Rattle.wire.specs.Prog.{span};
 ghost use Rattle.multi_stream.specs.Rows.{absent_main, present_main, top_row};
@@ -31,6 +31,7 @@ impl MultiStreamMain {
 }
 
 // The main-stream part, where there is one: thisIsMainStream is 1.
+// A flag and what it tells of, not an Option: `absent_part` (proofs/Claims) says of an absent part that its contents are nowhere read.
 #[derive(Clone, Copy, PartialEq, Eq)]
 pub struct MainStream {
     pub present: bool,

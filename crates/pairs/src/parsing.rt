@@ -44,7 +44,7 @@ impl Store for Pair {
     }
 }
 
-// Stores `count` pairs from that column of their table on.
+// Stores `count` pairs from column `column` of their table on.
 pub fn fill_pairs(body: &[u8], at: usize, count: usize, table: &mut [u16], column: usize)
     requires { (at ≤ length body.now) × (is_done (run (many count (flat 2 pair)) body.now at) ≡ true) × (column + 2 * count ≤ length table.old) }
     ensures { table.new ≡ sets table.old column (flat_map (λ r. r) (rows_of (run (many count (flat 2 pair)) body.now at))) }

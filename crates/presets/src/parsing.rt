@@ -1,4 +1,4 @@
-// Reading presets: one pass measures, one fills tables 4 and 5 with what was measured and tests nothing.
+// Reading presets: one pass measures, one fills tables 4 and 5 with what was measured and tests nothing. A body and a position stay two arguments, as in `wire::reads`.
 ghost use Rattle.std.specs.Prelude.{◌≡◌, ◌+◌, ◌*◌, ◌<◌, ◌≤◌, length};
 ghost use mathlib.Core.List.{flatten};
 ghost use Rattle.wire.specs.Bits.{part};

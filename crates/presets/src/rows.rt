@@ -1,4 +1,4 @@
-// The rows of tables 4 and 5 with their constructors.
+// The rows of tables 4 and 5 with their constructors. The README names `columns` and `of_columns`, so they stand where `From` would.
 ghost use Rattle.std.specs.Prelude.{◌≡◌, ◌+◌, ◌≤◌, length};
 ghost use Rattle.presets.specs.Rows.{preset_row, preset_of};
 

@@ -1,4 +1,4 @@
-// The scene body (kind 2; H.222.0 2.6.110, Table 2-123): read, measure, tally and write. Its rows are those of tables 1 to 5.
+// The scene body (kind 2; H.222.0 2.6.110, Table 2-123): read, measure, tally and write. Its rows are those of tables 1 to 5. Each kind has these four functions, over its own tables, each a parameter as the README shows.
 #![tactic(auto)]
 
 pub mod parsing;

@@ -1,4 +1,4 @@
-// Reading the scene body: one walk finds its sections and touches nothing, then the record is taken and the tables are filled, and nothing is tested.
+// Reading the scene body: one walk finds its sections and touches nothing, then the record is taken and the tables are filled, and nothing is tested. `opened` answers the places alone (`Opens`, docs/CLAIMS.md), so what takes places takes the body beside them.
 ghost use Rattle.std.specs.Prelude.{Ok, ◌≡◌, true, ◌+◌, ◌*◌, ◌-◌, ◌<◌, ◌≤◌, ◌^◌, length, get_or};
 ghost use mathlib.Core.List.{[], ◌∷◌, flat_map};
 ghost use Rattle.wire.specs.Bits.{part};

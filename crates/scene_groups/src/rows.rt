@@ -1,4 +1,4 @@
-// The rows of table 1 with their parts, and their constructors.
+// The rows of table 1 with their parts, and their constructors. The README names `columns` and `of_columns`, so they stand where `From` would.
 ghost use Rattle.std.specs.Prelude.{◌≡◌, ◌+◌, ◌<◌, ◌≤◌, length, get_or};
 ghost use Rattle.wire.specs.Bits.{bit};
 ghost use Rattle.scene_groups.specs.Rows.{group_row, group_of, position_of, gain_of, language_of, no_position, no_gain, no_language};
@@ -15,6 +15,7 @@ pub fn column(t: &[u16], b: usize, k: usize) -> u16
 }
 
 // mae_groupPositionInteractivity, where it is there.
+// `present` is a column, not an Option: `position_of` gives any number that is lent, and writing refuses one above 1.
 #[derive(Clone, Copy, PartialEq, Eq)]
 pub struct PositionInteractivity {
     pub present: u16,
@@ -31,6 +32,7 @@ pub struct PositionInteractivity {
 }
 
 // mae_groupGainInteractivity, where it is there.
+// `present` is a column, not an Option: `gain_of` gives any number that is lent, and writing refuses one above 1.
 #[derive(Clone, Copy, PartialEq, Eq)]
 pub struct GainInteractivity {
     pub present: u16,
@@ -41,6 +43,7 @@ pub struct GainInteractivity {
 }
 
 // mae_contentLanguage, where it is there.
+// `present` is a column, not an Option: `language_of` gives any number that is lent, and writing refuses one above 1.
 #[derive(Clone, Copy, PartialEq, Eq)]
 pub struct ContentLanguage {
     pub present: u16,

@@ -1,4 +1,4 @@
-// Writing groups: their bytes as numbers, the check pass with a quick test of a plain row, and the fill pass.
+// Writing groups: their bytes as numbers, the check pass with a quick test of a plain row, and the fill pass. A table and the first column of a row stay two arguments, as in `wire::rows`.
 ghost use Rattle.std.specs.Prelude.{◌≡◌, map, ◌+◌, ◌*◌, ◌<◌, ◌≤◌, ◌^◌, length};
 ghost use Rattle.wire.specs.Layout.{field_of};
 ghost use Rattle.wire.specs.Pen.{Checked, Quick, Ready, Filled};

@@ -1,4 +1,4 @@
-// The top record of the scene body, with its constructor.
+// The top record of the scene body, with its constructor. The README names `columns`, so it stands where a `From` would.
 ghost use Rattle.std.specs.Prelude.{◌≡◌, true, false};
 ghost use Rattle.wire.specs.Prog.{span};
 ghost use Rattle.scene_kind.specs.Rows.{top_row};
@@ -7,6 +7,7 @@ use wire::bits::{flag, wide};
 use wire::rows::Payload;
 
 // A list that is there or not, and how many rows it has.
+// A flag and what it tells of, not an Option: `absent_groups` (proofs/Claims) says of an absent section that its contents are nowhere read.
 #[derive(Clone, Copy, PartialEq, Eq)]
 pub struct Section {
     pub present: bool,

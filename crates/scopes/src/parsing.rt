@@ -10,7 +10,7 @@ use super::rows::DrcScope;
 use wire::bits::{part, wide};
 use wire::ids::{GroupId, GroupPresetId};
 
-// The case of a type: 0 plain, 1 with a group ID, 2 with a preset ID.
+// The case of a type: 0 plain, 1 with a group ID, 2 with a preset ID. A number, as in the layout (`case_at`).
 pub fn case_of(types: &[u16], kind: u16) -> u16
     ensures { result ≡ case_at types.now kind }
 {

@@ -1,4 +1,4 @@
-// A scope and its four columns, with its constructors.
+// A scope and its four columns, with its constructors. The README names `columns` and `of_columns`, so they stand where `From` would.
 ghost use Rattle.std.specs.Prelude.{◌≡◌, ◌+◌, ◌≤◌, length};
 ghost use Rattle.scopes.specs.Rows.{scope_row, scope_of};
 
@@ -64,7 +64,7 @@ impl DrcScope {
         }
     }
 
-    // Of the four columns from `b` on.
+    // Of the four columns from `b` on. A lent case is any number.
     pub fn of_columns(t: &[u16], b: usize) -> Self
         requires { b + 4 ≤ length t.now }
         ensures { result ≡ scope_of t.now b }

@@ -1,4 +1,4 @@
-// Writing a scope: the check pass judges its case, then all of its fields where it begins; the fill pass stores its bytes and tests nothing.
+// Writing a scope: the check pass judges its case, then all of its fields where it begins; the fill pass stores its bytes and tests nothing. How far a pen may be is asked as in `wire::pen`.
 ghost use Rattle.std.specs.Prelude.{◌≡◌, ◌<◌, ◌^◌, eqb};
 ghost use Rattle.wire.specs.Pen.{reach, Checked, Quick, Ready, Filled};
 ghost use Rattle.wire.specs.Spell.{Spells};

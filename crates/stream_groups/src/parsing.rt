@@ -1,4 +1,4 @@
-// Reading groups: one pass measures, one takes what was measured and tests nothing.
+// Reading groups: one pass measures, one takes what was measured and tests nothing. A body and a position stay two arguments, as in `wire::reads`.
 ghost use Rattle.std.specs.Prelude.{ℕ, List, ◌≡◌, true, ◌+◌, ◌*◌, ◌≤◌, length};
 ghost use mathlib.Core.List.{flat_map};
 ghost use Rattle.std.proofs.lemmas.List.Edits.{sets};

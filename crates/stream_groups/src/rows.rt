@@ -1,4 +1,4 @@
-// The rows of table 8, with their constructors.
+// The rows of table 8, with their constructors. The README names `columns` and `of_columns`, so they stand where `From` would.
 ghost use Rattle.std.specs.Prelude.{◌≡◌, ◌+◌, ◌≤◌, length};
 ghost use Rattle.wire.specs.Bits.{bit};
 ghost use Rattle.stream_groups.specs.Rows.{absent_auxiliary, present_auxiliary, in_main, in_auxiliary, group_row, group_of};
@@ -25,6 +25,7 @@ impl AuxiliaryLocation {
 }
 
 // The auxiliary location of a group, where there is one.
+// `present` is a column, not an Option: `group_of` gives any number that is lent, and writing refuses one above 1.
 #[derive(Clone, Copy, PartialEq, Eq)]
 pub struct Auxiliary {
     pub present: u16,

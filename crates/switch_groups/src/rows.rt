@@ -1,4 +1,4 @@
-// The rows of tables 2 and 3, with their constructors.
+// The rows of tables 2 and 3, with their constructors. The README names `columns` and `of_columns`, so they stand where `From` would.
 ghost use Rattle.std.specs.Prelude.{◌≡◌, ◌+◌, ◌≤◌, length};
 ghost use Rattle.wire.specs.Bits.{bit};
 ghost use Rattle.switch_groups.specs.Rows.{member_row, member_of, switch_group_row, switch_group_of};

@@ -1,4 +1,4 @@
-// Writing switch groups: their bytes as numbers, the check pass with a quick test of a plain row, and the fill pass.
+// Writing switch groups: their bytes as numbers, the check pass with a quick test of a plain row, and the fill pass. How far a pen may be is asked as in `wire::pen`.
 ghost use Rattle.std.specs.Prelude.{◌≡◌, ◌&&◌, map, ◌*◌, ◌<◌, ◌^◌};
 ghost use Rattle.wire.specs.Layout.{field_of, family_acts};
 ghost use Rattle.wire.specs.Pen.{Checked, Quick, Ready, Filled};

@@ -1,4 +1,4 @@
-// Reading a target loudness: where it ends, and what it is once it was measured.
+// Reading a target loudness: where it ends, and what it is once it was measured. A body and a position stay two arguments, as in `wire::reads`.
 ghost use Rattle.std.specs.Prelude.{◌≡◌, ◌+◌, ◌≤◌, length, get_or, eqb};
 ghost use Rattle.wire.specs.Act.{pick};
 ghost use Rattle.wire.specs.Reads.{ends_out};

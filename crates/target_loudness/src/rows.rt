@@ -1,4 +1,4 @@
-// The target loudness and its lower value as columns of a row of table 9, with their constructors.
+// The target loudness and its lower value as columns of a row of table 9, with their constructors. The README names `columns` and `of_columns`, so they stand where `From` would.
 ghost use Rattle.std.specs.Prelude.{◌≡◌, ◌+◌, ◌≤◌, length};
 ghost use Rattle.target_loudness.specs.Rows.{no_lower, no_target, lower_of, target_of};
 
@@ -6,6 +6,7 @@ use wire::bits::{ones, wide};
 use wire::ids::DrcSetId;
 
 // The lower value of a target loudness, with the reserved bits before it, where it is there.
+// `present` is a column, not an Option: `lower_of` gives any number that is lent, and writing refuses one above 1.
 #[derive(Clone, Copy, PartialEq, Eq)]
 pub struct TargetLoudnessLower {
     pub present: u16,
@@ -37,6 +38,7 @@ impl TargetLoudnessLower {
 }
 
 // The target loudness block of a DRC set, where it is there.
+// `present` is a column, not an Option: `target_of` gives any number that is lent, and writing refuses one above 1.
 #[derive(Clone, Copy, PartialEq, Eq)]
 pub struct DrcTargetLoudness {
     pub present: u16,

@@ -1,4 +1,4 @@
-// Writing a target loudness: its bytes as numbers, its part of the check pass with the quick test, and of the fill pass.
+// Writing a target loudness: its bytes as numbers, its part of the check pass with the quick test, and of the fill pass. How far a pen may be is asked as in `wire::pen`.
 ghost use Rattle.std.specs.Prelude.{◌≡◌, true, ◌<◌, ◌≤◌, ◌^◌, eqb};
 ghost use Rattle.wire.specs.Act.{pick};
 ghost use Rattle.wire.specs.Pen.{reach, Checked, Ready, Filled};

@@ -1,4 +1,4 @@
-// The text label body (kind 3; H.222.0 2.6.112, Table 2-124): read, measure, tally and write. Its languages are the rows of table 6, their entries those of table 7.
+// The text label body (kind 3; H.222.0 2.6.112, Table 2-124): read, measure, tally and write. Its languages are the rows of table 6, their entries those of table 7. Each kind has these four functions, over its own tables.
 #![tactic(auto)]
 
 pub mod parsing;

@@ -1,4 +1,4 @@
-// Reading the text label body: the reads in the Rust's order. One pass measures and touches nothing, one takes the record and fills tables 6 and 7 and tests nothing.
+// Reading the text label body: the reads in the Rust's order. One pass measures and touches nothing, one takes the record and fills tables 6 and 7 and tests nothing. A body and a position stay two arguments, as in `wire::reads`.
 ghost use Rattle.std.specs.Prelude.{◌≡◌, ◌+◌, ◌*◌, ◌<◌, ◌≤◌, length, get_or};
 ghost use mathlib.Core.List.{[], ◌∷◌, flatten, flat_map};
 ghost use Rattle.wire.specs.Bits.{part};

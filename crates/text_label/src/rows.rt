@@ -1,4 +1,4 @@
-// The top record of the text label body and the rows of tables 6 and 7 (H.222.0 2.6.112, Table 2-124), with their constructors.
+// The top record of the text label body and the rows of tables 6 and 7 (H.222.0 2.6.112, Table 2-124), with their constructors. The README names `columns` and `of_columns`, so they stand where `From` would.
 ghost use Rattle.std.specs.Prelude.{◌≡◌, ◌+◌, ◌≤◌, length};
 ghost use Rattle.wire.specs.Prog.{span};
 ghost use Rattle.labels.specs.Rows.{descriptions};

@@ -118,7 +118,7 @@ fn fill_language(
     fill_list(l.presets, 5, entries, store, out, n3)
 }
 
-// The rows of table 6, from the first.
+// The rows of table 6, from the first; a loop of its own, as in checking.
 fn fill_languages(
     languages: &[u16],
     count: usize,

@@ -1,4 +1,4 @@
-// Lists of rows, whatever their row: each is measured, stored and tallied by one loop.
+// Lists of rows, whatever their row: each is measured, stored and tallied by one loop. A body and a position stay two arguments, as in `wire::reads`.
 ghost use Rattle.std.specs.Prelude.{ℕ, ◌≡◌, true, ◌+◌, ◌*◌, ◌<◌, ◌≤◌, ◌^◌, List, length};
 ghost use mathlib.Core.List.{flat_map};
 ghost use Rattle.std.proofs.lemmas.List.Edits.{sets};
@@ -95,7 +95,7 @@ pub trait Store {
         ensures { RowStored (reads self.now) (columns self.now) COLUMNS body.now at table.old to result table.new };
 }
 
-// Stores `count` rows from that column of their table on, and says where they end.
+// Stores `count` rows from column `column` of their table on, and says where they end.
 pub fn store_rows<R: Store>(
     row: &R,
     body: &[u8],
