@@ -87,17 +87,6 @@ module _ (t u : List ℕ) (i : ℕ) {d : DrcInstructions} (e : d ≡ instruction
   pub row_stored : {n r : ℕ} {l o : List ℕ} → Filled (instruction_acts u d) n l r o → Filled (row_acts t u i) n l r o
   row_stored {n} {r} {l} {o} w = subst (λ (a : List Act). Filled a n l r o) is_row w
 
--- and of one that was loaded, of the columns that it was loaded from
-module _ (u : List ℕ) {d e : DrcInstructions} (s : d ≡ e) where
-  pub same_quick : {k : ℕ} → Quick (instruction_acts u d) 18 k → Quick (instruction_acts u e) 18 k
-  same_quick {k} q = subst (λ (z : DrcInstructions). Quick (instruction_acts u z) 18 k) s q
-
-  pub same_asked : {n : ℕ} {l : List ℕ} → Ready (instruction_acts u e) n l → Ready (instruction_acts u d) n l
-  same_asked {n} {l} w = subst (λ (z : DrcInstructions). Ready (instruction_acts u z) n l) (sym s) w
-
-  pub same_stored : {n r : ℕ} {l o : List ℕ} → Filled (instruction_acts u d) n l r o → Filled (instruction_acts u e) n l r o
-  same_stored {n} {r} {l} {o} w = subst (λ (z : DrcInstructions). Filled (instruction_acts u z) n l r o) s w
-
 -- ---- its actions, part by part
 
 module _ (d : DrcInstructions) where

@@ -12,7 +12,7 @@ use Rattle.wire.specs.Bits.{Field, is_flag, fit}
 use Rattle.wire.specs.Act.{Act, demand, byte, when, pick}
 use Rattle.wire.specs.Pen.{Quick, Ready, Filled, clean, bytes}
 use Rattle.wire.specs.Layout.{Columns, at, flat_acts, writes, shown, cells, matched, every, counted, flagged}
-use Rattle.wire.specs.Spell.{fields_of, fit_all, Spelt, ReadyAll, FillsAll}
+use Rattle.wire.specs.Spell.{fields_of, fit_all, Spelt, FillsAll}
 use Rattle.wire.specs.declared.pen.Fault.TheVariants as F
 use Rattle.wire.proofs.Writing.Acts.{and_both, clean_append}
 use Rattle.wire.proofs.Layouts.Cells.{fit_flags}
@@ -76,17 +76,12 @@ group_acts_lem g =
     λ i. demand F.Field (is_flag (g 3) && (is_flag (g 4) && (is_flag (g 7) && (is_flag (g 18) && f i)))) ∷ demand F.Empty (c i)
     ∷ (matches_loose group g (unfold loose in refl) i ++ (map byte (head_bytes g) ++ part_acts g))
 
--- ---- the quick test
-
 -- ---- the fill pass of a part that is there, and of one that is not
 
 ready : (fss : List (List Field)) {v n : ℕ} {l : List ℕ} → v ≡ 1 → Ready (when (eqb v 1) (map byte fss)) n l → Ready (map byte fss) n l
 ready fss {v} {n} {l} t r = subst (λ (x : Bool). Ready (when x (map byte fss)) n l) (eq-eqb v 1 t) r
 
 module _ {v : ℕ} {fss : List (List Field)} {n : ℕ} {l : List ℕ} where
-  pub ready_there : {vs : List ℕ} → v ≡ 1 → Spelt fss vs → Ready (when (eqb v 1) (map byte fss)) n l → ReadyAll true vs n l
-  ready_there t s r = record { fss = fss; spelt = s; ready = ready fss t r }
-
   pub filled_there : {vs : List ℕ} {r : ℕ} {o : List ℕ} → v ≡ 1 → Spelt fss vs → Ready (when (eqb v 1) (map byte fss)) n l → FillsAll true vs n l r o
       → Filled (when (eqb v 1) (map byte fss)) n l r o
   filled_there {r = r} {o} t s q w = subst (λ (x : Bool). Filled (when x (map byte fss)) n l r o) (sym (eq-eqb v 1 t)) (w.of fss s (ready fss t q).sound)

@@ -39,8 +39,6 @@ pub row_acts_lem : (t u : List ℕ) (i : ℕ) → switch_group_acts u (switch_gr
 unfolding writes shown cells matches matched every flatten
 row_acts_lem t u i = rw add-zero
 
--- so what is seen of the group whose columns begin there is said of row i
-
 -- ---- its own fields, by the tests of a plain row
 
 module _ (g : SwitchGroup) where
