@@ -1,6 +1,6 @@
 // Writing conditions: their bytes as numbers, the check pass with a quick test of a plain row, and the fill pass. A table and the first column of a row stay two arguments, as in `wire::rows`. How far a pen may be is asked as in `wire::pen`.
 ghost use Rattle.std.specs.Prelude.{◌≡◌, true, [], ◌∷◌, map, ◌+◌, ◌-◌, ◌*◌, ◌<◌, ◌≤◌, ◌^◌, length};
-ghost use Rattle.wire.specs.Bits.{field, fit};
+ghost use Rattle.wire.specs.Bits.{field, fit, some_if};
 ghost use Rattle.wire.specs.Act.{byte, when, pick};
 ghost use Rattle.wire.specs.Layout.{field_of, flat_acts};
 ghost use Rattle.wire.specs.Pen.{reach, Checked, Quick, Ready, Filled};
@@ -11,7 +11,7 @@ ghost use Rattle.conditions.specs.Rows.{flag_cells, gain_cells, position_cells};
 ghost use Rattle.conditions.specs.Write.{detail_cols, position_fields, flags_of, detail_acts, detail_long, condition_acts, cols_at, row_acts};
 
 use super::rows::{CONDITION_COLUMNS, PresetCondition, PresetConditionDetail, PresetPosition};
-use wire::bits::{fits, four_fit, is_flag, two_fit};
+use wire::bits::{fits, four_fit, is_flag, last_of_four, two_fit};
 use wire::pen;
 use wire::pen::{Fault, Pen};
 use wire::spell::{Joined, check_all, fill_all, one, two};
@@ -94,15 +94,12 @@ fn check_condition(n: usize, c: PresetCondition) -> Pen
     }
 }
 
-// Whether the flags of a detail fit their byte, and its reserved bits. Four of the columns stand side by side; in the byte the third and the fourth change places.
-fn flags_fit(reserved: u16, no_gain: u16, gain: u16, no_position: u16, position: u16) -> bool
-    ensures { result ≡ fit (field 4 reserved ∷ field 1 no_gain ∷ field 1 gain ∷ field 1 no_position ∷ field 1 position ∷ []) }
+// The flag of the gain, if the flags of a detail fit their byte, and its reserved bits. Four of the columns stand side by side; in the byte the third and the fourth change places.
+fn gain_flag(reserved: u16, no_gain: u16, gain: u16, no_position: u16, position: u16) -> Option<u16>
+    ensures { result ≡ some_if (fit (field 4 reserved ∷ field 1 no_gain ∷ field 1 gain ∷ field 1 no_position ∷ field 1 position ∷ [])) gain }
 {
-    if four_fit(reserved, 4, no_gain, 1, no_position, 1, gain, 1) {
-        fits(position, 1)
-    } else {
-        false
-    }
+    let last = last_of_four(reserved, 4, no_gain, 1, no_position, 1, gain, 1)?;
+    if fits(position, 1) { Some(last) } else { None }
 }
 
 fn position_fits(p: PresetPosition) -> bool
@@ -162,18 +159,17 @@ fn plain_detail(conditions: &[u16], b: usize) -> usize
     requires { b + 13 ≤ length conditions.now }
     ensures { result ≡ detail_long (cols_at conditions.now b) }
 {
-    let gain = conditions[b + 5];
     let position = conditions[b + 7];
-    let fit = flags_fit(
+    let flag = gain_flag(
         conditions[b + 2],
         conditions[b + 3],
-        gain,
+        conditions[b + 5],
         conditions[b + 4],
         position,
     );
-    if !fit {
+    let Some(gain) = flag else {
         return 0;
-    }
+    };
     if plain_gain(conditions, b, gain == 1) {
         if plain_position(conditions, b, position == 1) {
             detail_bytes(gain, position)
@@ -275,8 +271,12 @@ impl Rows for Conditions<'_> {
 
     ghost may = { λ _. Unit {0} };
 
-    fn plain(&self, i: usize) -> usize {
-        plain_bytes(self.conditions, i * CONDITION_COLUMNS)
+    fn columns(&self) -> usize {
+        CONDITION_COLUMNS
+    }
+
+    fn plain(&self, i: usize, b: usize) -> usize {
+        plain_bytes(self.conditions, b)
     }
 
     fn check(&self, n: usize, i: usize) -> Pen {
@@ -286,7 +286,7 @@ impl Rows for Conditions<'_> {
         )
     }
 
-    fn fill(&self, i: usize, out: &mut [u8], n: usize) -> usize {
-        fill_condition(self.conditions, i * CONDITION_COLUMNS, out, n)
+    fn fill(&self, i: usize, b: usize, out: &mut [u8], n: usize) -> usize {
+        fill_condition(self.conditions, b, out, n)
     }
 }

@@ -36,8 +36,12 @@ impl Rows for Downmixes<'_> {
 
     ghost may = { λ _. Unit {0} };
 
-    fn plain(&self, i: usize) -> usize {
-        let d = DownmixDefinition::of_columns(self.downmixes, i * DOWNMIX_COLUMNS);
+    fn columns(&self) -> usize {
+        DOWNMIX_COLUMNS
+    }
+
+    fn plain(&self, i: usize, b: usize) -> usize {
+        let d = DownmixDefinition::of_columns(self.downmixes, b);
         if fits_all(&downmix_bytes(d)) { 2 } else { 0 }
     }
 
@@ -46,8 +50,8 @@ impl Rows for Downmixes<'_> {
         check_all(Ok(n), true, &downmix_bytes(d))
     }
 
-    fn fill(&self, i: usize, out: &mut [u8], n: usize) -> usize {
-        let d = DownmixDefinition::of_columns(self.downmixes, i * DOWNMIX_COLUMNS);
+    fn fill(&self, i: usize, b: usize, out: &mut [u8], n: usize) -> usize {
+        let d = DownmixDefinition::of_columns(self.downmixes, b);
         fill_all(out, n, true, &downmix_bytes(d))
     }
 }

@@ -190,8 +190,11 @@ impl Rows for Instructions<'_> {
 
     ghost may = { λ _. Unit {0} };
 
-    fn plain(&self, i: usize) -> usize {
-        let b = i * INSTRUCTION_COLUMNS;
+    fn columns(&self) -> usize {
+        INSTRUCTION_COLUMNS
+    }
+
+    fn plain(&self, i: usize, b: usize) -> usize {
         if is_bare(self.instructions, b) {
             return bare_bytes(self.instructions, b, self.additional);
         }
@@ -205,15 +208,15 @@ impl Rows for Instructions<'_> {
     }
 
     // Six bytes if it is bare.
-    fn fill(&self, i: usize, out: &mut [u8], n: usize) -> usize {
+    fn fill(&self, i: usize, b: usize, out: &mut [u8], n: usize) -> usize {
         let t = self.instructions;
-        let b = i * INSTRUCTION_COLUMNS;
-        let d = DrcInstructions::of_columns(t, b);
         if is_bare(t, b) {
+            let d = DrcInstructions::of_columns(t, b);
             let n1 = fill_all(out, n, true, &[two(t[b], 6, t[b + 2], 2)]);
             let n2 = fill_all(out, n1, true, &settings_bytes(d));
             return fill_all(out, n2, true, &effect_bytes(d.drc_set_effect));
         }
+        let d = DrcInstructions::of_columns(t, b);
         fill_instruction(d, self.additional, out, n)
     }
 }

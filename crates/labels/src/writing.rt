@@ -90,8 +90,12 @@ impl Rows for Labels<'_> {
 
     ghost may = { λ l. l.w < 8 };
 
-    fn plain(&self, i: usize) -> usize {
-        let e = TextLabelEntry::of_columns(self.entries, i * ENTRY_COLUMNS);
+    fn columns(&self) -> usize {
+        ENTRY_COLUMNS
+    }
+
+    fn plain(&self, i: usize, b: usize) -> usize {
+        let e = TextLabelEntry::of_columns(self.entries, b);
         plain_bytes(e, self.w, self.store)
     }
 
@@ -100,8 +104,8 @@ impl Rows for Labels<'_> {
         check_entry(n, e, self.w, self.store)
     }
 
-    fn fill(&self, i: usize, out: &mut [u8], n: usize) -> usize {
-        let e = TextLabelEntry::of_columns(self.entries, i * ENTRY_COLUMNS);
+    fn fill(&self, i: usize, b: usize, out: &mut [u8], n: usize) -> usize {
+        let e = TextLabelEntry::of_columns(self.entries, b);
         fill_entry(e, self.w, self.store, out, n)
     }
 }

@@ -70,8 +70,12 @@ impl Rows for LoudnessEntries<'_> {
 
     ghost may = { λ _. Unit {0} };
 
-    fn plain(&self, i: usize) -> usize {
-        let e = LoudnessInfoEntry::of_columns(self.entries, i * ENTRY_COLUMNS);
+    fn columns(&self) -> usize {
+        ENTRY_COLUMNS
+    }
+
+    fn plain(&self, i: usize, b: usize) -> usize {
+        let e = LoudnessInfoEntry::of_columns(self.entries, b);
         plain_bytes(e, self.store)
     }
 
@@ -80,8 +84,8 @@ impl Rows for LoudnessEntries<'_> {
         check_entry(n, e, self.store)
     }
 
-    fn fill(&self, i: usize, out: &mut [u8], n: usize) -> usize {
-        let e = LoudnessInfoEntry::of_columns(self.entries, i * ENTRY_COLUMNS);
+    fn fill(&self, i: usize, b: usize, out: &mut [u8], n: usize) -> usize {
+        let e = LoudnessInfoEntry::of_columns(self.entries, b);
         fill_entry(e, self.store, out, n)
     }
 }

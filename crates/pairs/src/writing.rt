@@ -13,21 +13,19 @@ use wire::rows::Range;
 use wire::spell::{check_all, fill_all, two};
 use wire::written::{Rows, fill_rows, plain_rows};
 
-// The byte of a row.
-fn pair_byte(table: &[u16], row: usize) -> u32
-    requires { (row + 1) * 2 ≤ length table.now }
+// The byte of a row, whose first column is `b`.
+fn pair_byte(table: &[u16], row: usize, b: usize) -> u32
+    requires { ((row + 1) * 2 ≤ length table.now) × (b ≡ row * 2) }
     ensures { Spells (pair_fields table.now row) result }
 {
-    let b = row * PAIR_COLUMNS;
     two(table[b], 1, table[b + 1], 7)
 }
 
 // Whether the fields of a row fit, asked without making its byte.
-fn pair_fits(table: &[u16], row: usize) -> bool
-    requires { (row + 1) * 2 ≤ length table.now }
+fn pair_fits(table: &[u16], row: usize, b: usize) -> bool
+    requires { ((row + 1) * 2 ≤ length table.now) × (b ≡ row * 2) }
     ensures { result ≡ fit (pair_fields table.now row) }
 {
-    let b = row * PAIR_COLUMNS;
     two_fit(table[b], 1, table[b + 1], 7)
 }
 
@@ -48,16 +46,20 @@ impl Rows for Pairs<'_> {
 
     ghost may = { λ _. Unit {0} };
 
-    fn plain(&self, i: usize) -> usize {
-        if pair_fits(self.table, i) { 1 } else { 0 }
+    fn columns(&self) -> usize {
+        PAIR_COLUMNS
+    }
+
+    fn plain(&self, i: usize, b: usize) -> usize {
+        if pair_fits(self.table, i, b) { 1 } else { 0 }
     }
 
     fn check(&self, n: usize, i: usize) -> Pen {
-        check_all(Ok(n), true, &[pair_byte(self.table, i)])
+        check_all(Ok(n), true, &[pair_byte(self.table, i, i * PAIR_COLUMNS)])
     }
 
-    fn fill(&self, i: usize, out: &mut [u8], n: usize) -> usize {
-        fill_all(out, n, true, &[pair_byte(self.table, i)])
+    fn fill(&self, i: usize, b: usize, out: &mut [u8], n: usize) -> usize {
+        fill_all(out, n, true, &[pair_byte(self.table, i, b)])
     }
 }
 

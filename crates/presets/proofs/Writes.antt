@@ -1,5 +1,5 @@
 -- The actions of a preset: its demands and three bytes, and its conditions.
-use Rattle.std.specs.Prelude.{Err}
+use Rattle.std.specs.Prelude.{Err, Some, None}
 use Prim.Native.Nat.{ℕ, ◌+◌, ◌-◌, ◌*◌, ◌/◌, ◌<◌, ◌≤◌, ◌^◌}
 use mathlib.Core.Path.{◌≡◌, refl, sym, ap, ◌∙◌}
 use mathlib.Core.List.{List, [], ◌∷◌, ◌++◌, map, flatten}
@@ -13,7 +13,7 @@ use Rattle.wire.specs.Bits.{Field, field, fit, total}
 use Rattle.wire.specs.Act.{Act, demand, byte, rows}
 use Rattle.wire.specs.Pen.{Checked, Quick, Ready, clean, bytes}
 use Rattle.wire.specs.Layout.{num, reserved, Columns, at, field_of, writes, shown, cells, matches, matched, every, has, family_acts, broken_acts}
-use Rattle.wire.specs.Spell.{PlainRows, fields_of, fit_all}
+use Rattle.wire.specs.Spell.{PlainRows, PlainRun, fields_of, fit_all}
 use Rattle.wire.specs.declared.pen.Fault.TheVariants as F
 use Rattle.wire.proofs.Fields.{less_one_fits}
 use Rattle.wire.proofs.Writing.Acts.{and_both}
@@ -159,6 +159,13 @@ module _ (u : List ℕ) (g : Columns) where
 
     pub kid_odd : i < g 6 → Quick (broken_acts preset room (row_acts u) g) 99 0
     kid_odd h = broken_odd_kid preset room (row_acts u) g 99 (kids_odd (row_acts u) (g 5) (g 6) v h)
+
+  -- the conditions, by one number
+  pub run_plain : {long : ℕ} → PlainRun (λ j. row_acts u (g 5 + j)) 6 (g 6) (Some long) → test ≡ true → Quick (broken_acts preset room (row_acts u) g) 99 (3 + long)
+  run_plain v e = kids_plain v e (omega arith)
+
+  pub run_odd : PlainRun (λ j. row_acts u (g 5 + j)) 6 (g 6) None → Quick (broken_acts preset room (row_acts u) g) 99 0
+  run_odd v = let (i, n, h, w) = v in kid_odd w h
 
   -- ---- the fill pass
 

@@ -15,7 +15,7 @@ use wire::pen;
 use wire::pen::{Fault, Pen};
 use wire::rows::in_table;
 use wire::spell::{check_all, fill_all, two};
-use wire::written::{Rows, check_rows, fill_rows, plain_rows};
+use wire::written::{Rows, check_rows, fill_rows, plain_run};
 
 // ---- the bytes
 
@@ -84,9 +84,15 @@ fn plain_bytes(p: GroupPreset, conditions: &[u16]) -> usize
     if !front_fits(p) {
         return 0;
     }
-    let count = r.count as usize;
-    let c = plain_rows(&Conditions { conditions }, r.first as usize, count);
-    if c.rows < count { 0 } else { 3 + c.bytes }
+    let k = plain_run(
+        &Conditions { conditions },
+        r.first as usize,
+        r.count as usize,
+    );
+    match k {
+        Some(bytes) => 3 + (bytes as usize),
+        None => 0,
+    }
 }
 
 // ---- the fill pass
@@ -126,8 +132,12 @@ impl Rows for Presets<'_> {
 
     ghost may = { λ _. Unit {0} };
 
-    fn plain(&self, i: usize) -> usize {
-        let p = GroupPreset::of_columns(self.presets, i * PRESET_COLUMNS);
+    fn columns(&self) -> usize {
+        PRESET_COLUMNS
+    }
+
+    fn plain(&self, i: usize, b: usize) -> usize {
+        let p = GroupPreset::of_columns(self.presets, b);
         plain_bytes(p, self.conditions)
     }
 
@@ -136,8 +146,8 @@ impl Rows for Presets<'_> {
         check_preset(n, p, self.conditions)
     }
 
-    fn fill(&self, i: usize, out: &mut [u8], n: usize) -> usize {
-        let p = GroupPreset::of_columns(self.presets, i * PRESET_COLUMNS);
+    fn fill(&self, i: usize, b: usize, out: &mut [u8], n: usize) -> usize {
+        let p = GroupPreset::of_columns(self.presets, b);
         fill_preset(p, self.conditions, out, n)
     }
 }

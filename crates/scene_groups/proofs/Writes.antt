@@ -8,19 +8,22 @@ use native.Mathlib.Nat.{add-zero}
 use lib.ListN.{length}
 use lib.Dec.{eqb, ltb}
 use borrow.Author.Tests.{eq-eqb, ne_eqb, eqb-true}
-use Rattle.wire.specs.Bits.{Field, is_flag, fit}
+use Rattle.wire.specs.Bits.{Field, field, is_flag, fit}
 use Rattle.wire.specs.Act.{Act, demand, byte, when, pick}
 use Rattle.wire.specs.Pen.{Quick, Ready, Filled, clean, bytes}
 use Rattle.wire.specs.Layout.{Columns, at, flat_acts, writes, shown, cells, matched, every, counted, flagged}
 use Rattle.wire.specs.Spell.{fields_of, fit_all, Spelt, FillsAll}
 use Rattle.wire.specs.declared.pen.Fault.TheVariants as F
+use Rattle.wire.proofs.Fields.{fit_append}
 use Rattle.wire.proofs.Writing.Acts.{and_both, clean_append}
 use Rattle.wire.proofs.Layouts.Cells.{fit_flags}
 use Rattle.wire.proofs.Writing.Passes.{quick_clean, quick_odd}
 use Rattle.wire.proofs.Layouts.Rowed.{loose, matches_loose}
-use Rattle.wire.proofs.Writing.Plain.{clean_when, clean_all, absorb, no_quick}
+use Rattle.wire.proofs.Writing.Plain.{clean_when, clean_all, fit_flat, absorb, no_quick}
 use Rattle.scene_groups.specs.Layout.{group}
-use Rattle.scene_groups.specs.Write.{part_fits, plain_fits, id_fits, kind_fits, no_parts, group_acts, row_acts}
+use Rattle.scene_groups.specs.declared.rows.PositionInteractivity.{PositionInteractivity}
+use Rattle.scene_groups.specs.declared.rows.GainInteractivity.{GainInteractivity}
+use Rattle.scene_groups.specs.Write.{position_fields, gain_fields, part_fits, plain_fits, id_fits, kind_fits, no_parts, group_acts, row_acts}
 use Rattle.scene_groups.specs.Rows.{group_cols, group_of, id_cells, flag_cells, content_cells, position_cells, gain_cells, language_cells, part_cells}
 
 -- ---- a group
@@ -183,6 +186,22 @@ row_acts_lem t i = group_acts_lem (group_cols (group_of t (i * 27))) ∙ same �
 
 pub row_at : (t : List ℕ) (b i : ℕ) → b ≡ i * 27 → group_acts (group_of t b) ≡ row_acts t i
 row_at t b i e = ap (λ (b : ℕ). group_acts (group_of t b)) e ∙ row_acts_lem t i
+
+-- ---- a part, by the columns that stand side by side
+
+pub position_fit : (p : PositionInteractivity) → fit (field 1 p.reserved_min_az ∷ field 7 p.min_az_offset ∷ field 1 p.reserved_max_az ∷ field 7 p.max_az_offset ∷ [])
+    && (fit (field 3 p.reserved_min_el ∷ field 5 p.min_el_offset ∷ field 3 p.reserved_max_el ∷ field 5 p.max_el_offset ∷ []) && fit (field 4 p.min_dist_offset ∷ field 4 p.max_dist_offset ∷ []))
+    ≡ fit_all (position_fields p)
+unfolding flatten
+position_fit p =
+    let azimuths = field 1 p.reserved_min_az ∷ field 7 p.min_az_offset ∷ field 1 p.reserved_max_az ∷ field 7 p.max_az_offset ∷ [] in
+    let elevations = field 3 p.reserved_min_el ∷ field 5 p.min_el_offset ∷ field 3 p.reserved_max_el ∷ field 5 p.max_el_offset ∷ [] in
+    let distances = field 4 p.min_dist_offset ∷ field 4 p.max_dist_offset ∷ [] in
+    ap (λ (b : Bool). fit azimuths && b) (sym (fit_append elevations distances)) ∙ sym (fit_append azimuths (elevations ++ distances)) ∙ fit_flat (position_fields p)
+
+pub gain_fit : (g : GainInteractivity) → fit (field 2 g.reserved_min ∷ field 6 g.min_gain ∷ field 3 g.reserved_max ∷ field 5 g.max_gain ∷ []) ≡ fit_all (gain_fields g)
+unfolding flatten
+gain_fit g = fit_flat (gain_fields g)
 
 -- ---- the three bytes, by the columns that stand side by side
 

@@ -11,7 +11,7 @@ use super::parsing::size;
 use super::rows::{
     ContentLanguage, GROUP_COLUMNS, GainInteractivity, PositionInteractivity, SceneGroup, column,
 };
-use wire::bits::{fits, four_fit, is_flag};
+use wire::bits::{fits, four_fit, is_flag, two_fit};
 use wire::pen;
 use wire::pen::{Fault, Pen};
 use wire::spell::{Joined, check_all, fill_all, fits_all, one, two};
@@ -101,13 +101,56 @@ fn check_group(n: usize, groups: &[u16], b: usize) -> Pen
     )
 }
 
+// Whether the fields of a part fit: its columns stand side by side.
+fn position_columns_fit(p: PositionInteractivity) -> bool
+    ensures { result ≡ fit_all (position_fields p) }
+{
+    let azimuths = four_fit(
+        p.reserved_min_az,
+        1,
+        p.min_az_offset,
+        7,
+        p.reserved_max_az,
+        1,
+        p.max_az_offset,
+        7,
+    );
+    let elevations = four_fit(
+        p.reserved_min_el,
+        3,
+        p.min_el_offset,
+        5,
+        p.reserved_max_el,
+        3,
+        p.max_el_offset,
+        5,
+    );
+    let distances = two_fit(p.min_dist_offset, 4, p.max_dist_offset, 4);
+    azimuths & (elevations & distances)
+}
+
+fn gain_columns_fit(g: GainInteractivity) -> bool
+    ensures { result ≡ fit_all (gain_fields g) }
+{
+    four_fit(
+        g.reserved_min,
+        2,
+        g.min_gain,
+        6,
+        g.reserved_max,
+        3,
+        g.max_gain,
+        5,
+    )
+}
+
 // Whether the fields of a part fit, if it is there: its columns are loaded behind its flag.
 fn position_fits(groups: &[u16], b: usize) -> bool
     requires { b + 27 ≤ length groups.now }
     ensures { result ≡ position_fits (position_of groups.now b) }
 {
     if column(groups, b, 7) == 1 {
-        fits_all(&position_bytes(PositionInteractivity::of_columns(groups, b)))
+        position_columns_fit(PositionInteractivity::of_columns(groups, b))
     } else {
         true
     }
@@ -118,7 +161,7 @@ fn gain_fits(groups: &[u16], b: usize) -> bool
     ensures { result ≡ gain_fits (gain_of groups.now b) }
 {
     if column(groups, b, 18) == 1 {
-        fits_all(&gain_bytes(GainInteractivity::of_columns(groups, b)))
+        gain_columns_fit(GainInteractivity::of_columns(groups, b))
     } else {
         true
     }
@@ -143,7 +186,7 @@ fn plain(groups: &[u16], b: usize) -> bool
     let position = position_fits(groups, b);
     let gain = gain_fits(groups, b);
     let language = language_fits(groups, b);
-    fits_all(&head_bytes(groups, b)) & (position & (gain & language))
+    head_fits(groups, b) & (position & (gain & language))
 }
 
 // The bytes of a row that has parts, or 0 if it has a fault.
@@ -294,15 +337,19 @@ impl Rows for Groups<'_> {
 
     ghost may = { λ _. Unit {0} };
 
-    fn plain(&self, i: usize) -> usize {
-        plain_bytes(self.groups, i * GROUP_COLUMNS)
+    fn columns(&self) -> usize {
+        GROUP_COLUMNS
+    }
+
+    fn plain(&self, i: usize, b: usize) -> usize {
+        plain_bytes(self.groups, b)
     }
 
     fn check(&self, n: usize, i: usize) -> Pen {
         check_group(n, self.groups, i * GROUP_COLUMNS)
     }
 
-    fn fill(&self, i: usize, out: &mut [u8], n: usize) -> usize {
-        fill_group(self.groups, i * GROUP_COLUMNS, out, n)
+    fn fill(&self, i: usize, b: usize, out: &mut [u8], n: usize) -> usize {
+        fill_group(self.groups, b, out, n)
     }
 }

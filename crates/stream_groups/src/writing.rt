@@ -126,8 +126,12 @@ impl Rows for Groups<'_> {
 
     ghost may = { λ _. Unit {0} };
 
-    fn plain(&self, i: usize) -> usize {
-        plain_bytes(self.groups, i * GROUP_COLUMNS)
+    fn columns(&self) -> usize {
+        GROUP_COLUMNS
+    }
+
+    fn plain(&self, i: usize, b: usize) -> usize {
+        plain_bytes(self.groups, b)
     }
 
     fn check(&self, n: usize, i: usize) -> Pen {
@@ -137,8 +141,8 @@ impl Rows for Groups<'_> {
         )
     }
 
-    fn fill(&self, i: usize, out: &mut [u8], n: usize) -> usize {
-        let g = MultiStreamGroup::of_columns(self.groups, i * GROUP_COLUMNS);
+    fn fill(&self, i: usize, b: usize, out: &mut [u8], n: usize) -> usize {
+        let g = MultiStreamGroup::of_columns(self.groups, b);
         fill_group(g, out, n)
     }
 }

@@ -56,9 +56,10 @@ fn check_switch_group(n: usize, g: SwitchGroup, members: &[u16]) -> Pen
     let flags = is_flag(g.allow_on_off) & is_flag(g.default_on_off);
     let p1 = pen::demand(p0, Fault::Field, flags);
     let p2 = pen::demand(p1, Fault::Empty, 1 <= g.members.count);
-    let m = check_all(p2, true, &head_bytes(g))?;
-    let p3 = check_pairs(m, g.members, members);
-    check_all(p3, true, &default_bytes(g))
+    let p3 = check_all(p2, true, &head_bytes(g));
+    let m = p3?;
+    let p4 = check_pairs(m, g.members, members);
+    check_all(p4, true, &default_bytes(g))
 }
 
 // Whether its own fields fit, columns that stand together by one test. The count is stored minus one, so 32 fits its five bits.
@@ -124,8 +125,12 @@ impl Rows for Switches<'_> {
 
     ghost may = { λ _. Unit {0} };
 
-    fn plain(&self, i: usize) -> usize {
-        let g = SwitchGroup::of_columns(self.switch_groups, i * SWITCH_GROUP_COLUMNS);
+    fn columns(&self) -> usize {
+        SWITCH_GROUP_COLUMNS
+    }
+
+    fn plain(&self, i: usize, b: usize) -> usize {
+        let g = SwitchGroup::of_columns(self.switch_groups, b);
         plain_bytes(g, self.members)
     }
 
@@ -134,8 +139,8 @@ impl Rows for Switches<'_> {
         check_switch_group(n, g, self.members)
     }
 
-    fn fill(&self, i: usize, out: &mut [u8], n: usize) -> usize {
-        let g = SwitchGroup::of_columns(self.switch_groups, i * SWITCH_GROUP_COLUMNS);
+    fn fill(&self, i: usize, b: usize, out: &mut [u8], n: usize) -> usize {
+        let g = SwitchGroup::of_columns(self.switch_groups, b);
         fill_switch_group(g, self.members, out, n)
     }
 }

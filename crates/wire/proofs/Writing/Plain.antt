@@ -1,10 +1,11 @@
 -- Rows that are plain, counted by a loop; the row that stopped it is looked at after the loop.
-use Prim.Native.Nat.{ℕ, zero, suc, ◌+◌, ◌-◌, ◌*◌, ◌≤◌, ◌<◌}
+use Prim.Native.Nat.{ℕ, zero, suc, ◌+◌, ◌-◌, ◌*◌, ◌≤◌, ◌<◌, ◌^◌}
 use mathlib.Core.Path.{◌≡◌, refl, sym, ap, subst, ◌∙◌}
 use mathlib.Core.List.{List, [], ◌∷◌, ◌++◌, append-nil, map, flatten}
 use mathlib.Core.Bool.{Bool, true, false, ◌&&◌, and-true}
 use native.Mathlib.Omega.{arith}
-use native.Mathlib.Nat.{add-zero, sub-zero, mul-suc, mul-le-mul_left}
+use native.Mathlib.Nat.{add-zero, sub-zero, mul-suc, suc-mul, mul-le-mul_left, lt_of_mul-lt-mul_right, mul-lt-mul_of_pos_right, eq-or-lt_of_le}
+use mathlib.Core.Logic.{◌⊎◌, inl, inr}
 use native.Mathlib.Numerals.{add-one}
 use lib.ListN.{length}
 use lib.Seq.{length-sets}
@@ -17,8 +18,8 @@ use Rattle.wire.specs.Pen.{look, glance, looks, Checked, Quick, Ready, Filled, c
 use Rattle.wire.specs.declared.pen.Fault.{Fault}
 use Rattle.wire.specs.declared.pen.Fault.TheVariants as F
 use Rattle.wire.specs.Pen.{Pen, At}
-use Rattle.std.specs.Prelude.{Ok, Err}
-use Rattle.wire.specs.Spell.{PlainRows, fit_all, Spelt, ChecksAll, ReadyAll, FillsAll}
+use Rattle.std.specs.Prelude.{Ok, Err, Some, None}
+use Rattle.wire.specs.Spell.{PlainRows, PlainRun, fit_all, Spelt, ChecksAll, ReadyAll, FillsAll}
 use Rattle.wire.proofs.Fields.{fit_append}
 use Rattle.wire.proofs.Writing.Passes.{looks_append, then, more, rows_turn, rows_end, Checking, check_odd, check_end, quick_clean, quick_odd, Filling, fill_start, fill_demand, fill_row_lem, fill_turn, fill_end}
 use Rattle.wire.proofs.Writing.Spelling.{spelt_long}
@@ -38,6 +39,27 @@ quick_few {k = suc k} w = let v = w.to (omega arith) 0 in omega (arith, v.near)
 -- so the next row still has room
 pub few_left : (most i count : ℕ) → i < count → most * i + most ≤ most * count
 few_left most i count h = omega (arith, mul-suc most i, mul-le-mul_left most h)
+
+-- the first column of a row, and of the next
+pub next_column : (i columns : ℕ) {b : ℕ} → b ≡ i * columns → b + columns ≡ (i + 1) * columns
+next_column i columns e = omega (arith, e, suc-mul i columns)
+
+pub next_behind : (first i columns : ℕ) {b : ℕ} → b ≡ (first + i) * columns → b + columns ≡ (first + (i + 1)) * columns
+next_behind first i columns e = next_column (first + i) columns e ∙ ap (λ (k : ℕ). k * columns) (omega arith)
+
+-- a column before the last row's end is of a row before the end, and one behind it is not
+pub row_left : (i end columns : ℕ) {b : ℕ} → b ≡ i * columns → b < end * columns → i < end
+row_left i end columns e h = lt_of_mul-lt-mul_right columns (rw e at h)
+
+pub none_left : (i end columns : ℕ) {b : ℕ} → 0 < columns → b ≡ i * columns → end * columns ≤ b → i ≤ end → end ≤ i
+none_left i end columns p e h l = go (eq-or-lt_of_le l)
+  where
+    go : (i ≡ end) ⊎ (i < end) → end ≤ i
+    go (inl q) = omega (arith, q)
+    go (inr q) = let z : i * columns < end * columns = mul-lt-mul_of_pos_right q p in absurd (omega (arith, z, e, h))
+
+pub column_fits : (i columns : ℕ) → i ≤ 2 ^ 32 → columns < 2 ^ 16 → i * columns < 2 ^ 49
+column_fits i columns h k = let l : i * columns ≤ i * 65536 = mul-le-mul_left i (omega (arith, k)) in omega (arith, l, h)
 
 pub going_start : (f : ℕ → List Act) (most count : ℕ) → Going f most count 0 0
 going_start f most count = record { within = omega arith; each = omega arith; few = omega arith; passes = λ n. rw (sub-zero, add-zero) }
@@ -62,6 +84,16 @@ module _ {f : ℕ → List Act} {most count i bytes : ℕ} (v : Going f most cou
 
 pub going_end : {f : ℕ → List Act} {most count i bytes : ℕ} → Going f most count i bytes → count ≤ i → PlainRows f most count i bytes
 going_end v h = record { within = v.within; each = v.each; few = v.few; passes = v.passes; odd = λ l. absurd (omega arith) }
+
+-- the same of a loop that only counts bytes
+module _ {f : ℕ → List Act} {most count i bytes : ℕ} (v : Going f most count i bytes) where
+  pub run_odd : {k : ℕ} → Quick (f i) most k → i < count → k ≡ 0 → PlainRun f most count None
+  run_odd q h z = (i, bytes, h, going_odd v q z)
+
+  pub run_end : count ≤ i → PlainRun f most count (Some bytes)
+  run_end h =
+      let e : i ≡ count = omega (arith, v.within) in
+      let w : Going f most count count bytes = rw e at v in going_end w (omega arith)
 
 -- what the check pass has after the loop
 module _ (f : ℕ → List Act) (most count n : ℕ) {i bytes : ℕ} (v : PlainRows f most count i bytes) where

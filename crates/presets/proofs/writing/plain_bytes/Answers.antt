@@ -11,7 +11,7 @@ use Rattle.wire.proofs.Writing.Acts.{both_and}
 use Rattle.presets.specs.Rows.{preset_cols}
 use Rattle.presets.specs.Write.{head_fields}
 use Rattle.presets.specs.declared.rows.GroupPreset.{GroupPreset}
-use Rattle.presets.proofs.Writes.{test, test_few, outside_odd, front_odd, kids_plain, kid_odd}
+use Rattle.presets.proofs.Writes.{test, test_few, outside_odd, front_odd, run_plain, run_odd}
 use Rattle.presets.proofs.writing.plain_bytes.Goals as goal
 
 -- its own fields were tested
@@ -27,17 +27,16 @@ pub returns-then-not-front_fits : goal.returns-then-not-front_fits
 returns-then-not-front_fits c =
     front_odd c.args.conditions.now (preset_cols c.args.p) (sym c.front_fits.ensures ∙ c.if-not-front_fits.true)
 
-pub plain_rows-c-requires : goal.plain_rows-c-requires
-plain_rows-c-requires c =
+pub plain_run-k-requires : goal.plain_run-k-requires
+plain_run-k-requires c =
     let a = c.args in
     let f = test_few a.conditions.now (preset_cols a.p) (tested a.conditions.now a.p c.in_table-inside.ensures c.if-not-inside.false c.front_fits.ensures c.if-not-front_fits.false) in
     (f.inside, tt, omega (arith, f.few), omega (arith, f.few))
 
-pub returns-then-c-count : goal.returns-then-c-count
-returns-then-c-count c = kid_odd c.args.conditions.now (preset_cols c.args.p) c.plain_rows-c.ensures c.if-c-count.true
-
-pub returns-else-c-count : goal.returns-else-c-count
-returns-else-c-count c =
+pub returns-in-Some : goal.returns-in-Some
+returns-in-Some c =
     let a = c.args in
-    let t = tested a.conditions.now a.p c.in_table-inside.ensures c.if-not-inside.false c.front_fits.ensures c.if-not-front_fits.false in
-    kids_plain a.conditions.now (preset_cols a.p) c.plain_rows-c.ensures t (omega (arith, c.if-c-count.false))
+    run_plain a.conditions.now (preset_cols a.p) c.in-Some.ensures (tested a.conditions.now a.p c.in_table-inside.ensures c.if-not-inside.false c.front_fits.ensures c.if-not-front_fits.false)
+
+pub returns-in-None : goal.returns-in-None
+returns-in-None c = run_odd c.args.conditions.now (preset_cols c.args.p) c.in-None.ensures

@@ -4,5 +4,5 @@ use Rattle.scene_groups.proofs.writing.plain.Goals as goal
 
 pub returns : goal.returns
 returns c =
-    λ i. c.fits_all.ensures.of _ c.head_bytes.ensures i && (c.position_fits-position.ensures i &&
+    λ i. c.head_fits.ensures i && (c.position_fits-position.ensures i &&
     (c.gain_fits-gain.ensures i && c.language_fits-language.ensures i))
