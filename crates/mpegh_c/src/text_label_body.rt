@@ -3,7 +3,8 @@ ghost use Rattle.std.specs.Prelude.{◌≡◌, [], ◌∷◌};
 ghost use Rattle.wire.specs.Prog.{span};
 ghost use Rattle.text_label.specs.Rows.{top_columns, top_row};
 ghost use Rattle.text_label.specs.Kind.{kind};
-ghost use Rattle.mpegh_c.specs.Host.{HostReads, HostMeasures, HostTallies, HostWrites};
+ghost use Rattle.mpegh_c.specs.Code.{answer_code};
+ghost use Rattle.mpegh_c.specs.Host.{unread, HostReads, HostMeasures, HostTallies, HostWrites};
 
 use super::codes;
 use frame::Refusal;
@@ -25,7 +26,7 @@ pub fn mpegh_text_label_read(
         return codes::refusal_code(Refusal::Short(x));
     }
     if top.len() < TOP_COLUMNS {
-        return codes::unread(text_label::measure(body));
+        return unread(body);
     }
     match text_label::read(body, languages, entries) {
         Ok(m) => {
@@ -34,6 +35,13 @@ pub fn mpegh_text_label_read(
         }
         Err(x) => codes::refusal_code(x),
     }
+}
+
+// No room for the top record, unless the body itself is refused. What measuring answers is kept here: the compiler clears what a function keeps where it begins, and a body that is refused at once need not pay for it.
+fn unread(body: &[u8]) -> u64
+    ensures { result ≡ answer_code (unread kind body.now) }
+{
+    codes::unread(text_label::measure(body))
 }
 
 // k, and the rows of tables 6 and 7 at the front of `rows`; or 2, or 1, or 3.

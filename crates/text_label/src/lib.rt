@@ -54,6 +54,17 @@ pub fn read(
         };
         return Ok(parsing::record_at(body, s));
     }
+    read_rows(body, languages, entries)
+}
+
+// The same of a body that may have languages. A function clears what it keeps where it begins: so a body without languages does not pay for the answer of measuring.
+fn read_rows(
+    body: &[u8],
+    languages: &mut [u16],
+    entries: &mut [u16],
+) -> Result<MpegH3dAudioTextLabel, Refusal>
+    ensures { Reads kind body.now (languages.old ∷ entries.old ∷ []) (answer_of result) (languages.new ∷ entries.new ∷ []) }
+{
     let s = measure(body)?;
     let a = and_table(Ok(()), 6, LANGUAGE_COLUMNS, s.languages as usize, languages);
     and_table(a, 7, ENTRY_COLUMNS, s.entries as usize, entries)?;

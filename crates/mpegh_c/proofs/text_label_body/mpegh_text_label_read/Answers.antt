@@ -11,8 +11,7 @@ pub returns-in-Err : goal.returns-in-Err
 returns-in-Err c = reads_neither kind _ top_row (headless _ c.in-Err.ensures) c.refusal_code.ensures
 
 pub returns-then-top-lt-TOP_COLUMNS : goal.returns-then-top-lt-TOP_COLUMNS
-returns-then-top-lt-TOP_COLUMNS c =
-    reads_unroomed kind _ top_row c.if-top-lt-TOP_COLUMNS.true (unread_measured kind (λ s. sized s.languages s.entries s.k) c.measure.result c.measure.ensures c.unread.ensures)
+returns-then-top-lt-TOP_COLUMNS c = reads_unroomed kind _ top_row c.if-top-lt-TOP_COLUMNS.true c.unread.ensures
 
 pub returns-in-Ok : goal.returns-in-Ok
 returns-in-Ok c =
