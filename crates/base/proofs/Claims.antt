@@ -21,7 +21,7 @@ use Rattle.frame.specs.Entry as E
 use Rattle.frame.specs.Body as B
 use Rattle.frame.specs.Body.{layouts, carried, parse, with_place, given, tables, zeros, heeds, heeded_rows}
 use Rattle.frame.specs.Claims.{none_read, Claims, Fixed}
-use Rattle.frame.proofs.Numbers.{fixes}
+use Rattle.frame.proofs.Numbers.{results_fixed}
 use Rattle.frame.proofs.Judged.{was, ran_well}
 use Rattle.frame.proofs.Lawful.{Samples}
 use Rattle.frame.proofs.Proofs as P
@@ -142,4 +142,4 @@ unfolding measure_of
 measured_back s = refl
 
 pub fixed : Fixed kind answer_of measured
-fixed = fixes claims (λ s. sized s.k) measure_of measured_back
+fixed = results_fixed claims (λ s. sized s.k) measure_of measured_back

@@ -23,7 +23,7 @@ use Rattle.frame.specs.Entry.{leaves, onto, into, Need, needs, lacking, room, fi
 use Rattle.frame.specs.Entry as E
 use Rattle.frame.specs.Body.{layouts, parse, with_place, tables, zeros, heeds, heeded_rows}
 use Rattle.frame.specs.Claims.{Lowest, this, later, rows_agree, none_read, Claims, Fixed}
-use Rattle.frame.proofs.Numbers.{fixes}
+use Rattle.frame.proofs.Numbers.{results_fixed}
 use Rattle.frame.proofs.Judged.{was, ran_well, measured as was-measured}
 use Rattle.frame.proofs.Lawful.{Samples}
 use Rattle.frame.proofs.Tables.{rows_at}
@@ -189,4 +189,4 @@ unfolding measure_of
 measured_back s = refl
 
 pub fixed : Fixed kind answer_of measured
-fixed = fixes claims (λ s. sized s.groups s.k) measure_of measured_back
+fixed = results_fixed claims (λ s. sized s.groups s.k) measure_of measured_back

@@ -3,7 +3,7 @@ use mathlib.Core.Path.{◌≡◌, refl}
 use Rattle.frame.specs.Numbers.{answer_of}
 use Rattle.frame.specs.Entry as E
 use Rattle.frame.specs.Claims.{Claims, Fixed}
-use Rattle.frame.proofs.Numbers.{fixes}
+use Rattle.frame.proofs.Numbers.{results_fixed}
 use Rattle.frame.proofs.Tables.{rows_at}
 use Rattle.scene_kind.specs.Kind.{kind}
 use Rattle.scene_kind.proofs.Claims as K
@@ -24,4 +24,4 @@ unfolding measure_of
 measured_back s = refl
 
 pub fixed : Fixed kind answer_of measured
-fixed = fixes claims sized measure_of measured_back
+fixed = results_fixed claims sized measure_of measured_back

@@ -20,7 +20,7 @@ use Rattle.frame.specs.Entry as E
 use Rattle.frame.specs.Body.{layouts, parse, with_place, tables, zeros}
 use Rattle.frame.specs.Ranges.{ranged, ranged_row}
 use Rattle.frame.specs.Claims.{Lowest, this, later, Claims, Fixed}
-use Rattle.frame.proofs.Numbers.{fixes}
+use Rattle.frame.proofs.Numbers.{results_fixed}
 use Rattle.frame.proofs.Judged.{was, ran_well, measured as was-measured}
 use Rattle.frame.proofs.Lawful.{Samples}
 use Rattle.frame.proofs.Tables.{rows_at}
@@ -193,4 +193,4 @@ unfolding measure_of
 measured_back s = refl
 
 pub fixed : Fixed kind answer_of measured
-fixed = fixes claims (λ s. sized s.languages s.entries s.k) measure_of measured_back
+fixed = results_fixed claims (λ s. sized s.languages s.entries s.k) measure_of measured_back
