@@ -2,7 +2,7 @@
 use Prim.Native.Nat.{ℕ, ◌-◌, ◌≤◌, ◌<◌}
 use mathlib.Core.List.{List, [], ◌∷◌}
 use mathlib.Core.Logic.{◌⊎◌}
-use mathlib.Core.Path.{◌≡◌, refl, sym, ap}
+use mathlib.Core.Path.{◌≡◌, refl, sym, ap, ◌∙◌}
 use native.Mathlib.Omega.{arith}
 use lib.ListN.{length}
 use borrow.Author.Tests.{ne_eqb, le-leb, lt-leb}
@@ -16,6 +16,7 @@ use Rattle.multi_stream.specs.Kind as MultiStream
 use Rattle.drc_kind.specs.Kind as DrcLoudness
 use Rattle.bench.specs.declared.kind.Kind as K
 use Rattle.bench.specs.declared.kind.Kind.TheVariants as V
+use Rattle.bench.specs.declared.line.Line.{Line}
 use Rattle.bench.specs.Kinds.{number_of}
 use Rattle.bench.specs.Line.{refused_line, too_long_line, judged_line, body_line, kind_line, line_of}
 
@@ -35,7 +36,7 @@ is_other k body h = rw (ne_eqb k 1 (omega arith), ne_eqb k 2 (omega arith), ne_e
 -- ---- a body
 
 module _ {Tree Top Value : Type 0} (K : Kind Tree Top Value) (body : List ℕ) where
-  too_long : 4096 < length body → too_long_line ≡ body_line K body
+  pub too_long : 4096 < length body → too_long_line ≡ body_line K body
   unfolding body_line
   too_long h = rw (lt-leb _ _ h, body_line) refl
 
@@ -43,6 +44,10 @@ module _ {Tree Top Value : Type 0} (K : Kind Tree Top Value) (body : List ℕ) w
   pub within : length body ≤ 4096 → judged_line (measuring K body) (tallying K body) ≡ body_line K body
   unfolding body_line
   within h = sym (rw (le-leb _ _ h, body_line) refl)
+
+  -- the same of what a call answered, which `search` finds by what it says
+  pub judged_within : {l : Line} → length body ≤ 4096 → l ≡ judged_line (measuring K body) (tallying K body) → l ≡ body_line K body
+  judged_within h e = e ∙ within h
 
 pub all_too_long : (k : K.Kind) (body : List ℕ) → 4096 < length body → too_long_line ≡ kind_line (number_of k) body
 unfolding kind_line

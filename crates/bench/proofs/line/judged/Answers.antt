@@ -1,12 +1,12 @@
 -- A body that is too long, or one of each kind.
-use Rattle.std.proofs.Common.{◌∙◌}
+use Rattle.std.proofs.Common.{rules, ◌∙◌}
 use Rattle.base.specs.Kind as Base
 use Rattle.scene_kind.specs.Kind as Scene
 use Rattle.text_label.specs.Kind as TextLabel
 use Rattle.multi_stream.specs.Kind as MultiStream
 use Rattle.drc_kind.specs.Kind as DrcLoudness
 use Rattle.bench.specs.Line.{kind_line}
-use Rattle.bench.proofs.Decided.{within, all_too_long}
+use Rattle.bench.proofs.Decided.{within, judged_within, all_too_long}
 use Rattle.bench.proofs.line.judged.Goals as goal
 
 pub returns-then-body-gt4096 : goal.returns-then-body-gt4096
@@ -30,4 +30,4 @@ returns-in-MultiStream c = rw c.in-MultiStream.is (c.multi_stream_line.ensures �
 
 pub returns-in-DrcLoudness : goal.returns-in-DrcLoudness
 unfolding kind_line
-returns-in-DrcLoudness c = rw c.in-DrcLoudness.is (c.drc_loudness_line.ensures ∙ within DrcLoudness.kind c.args.body.now c.if-body-gt4096.false)
+returns-in-DrcLoudness c = rw c.in-DrcLoudness.is (judged_within DrcLoudness.kind c.args.body.now c.if-body-gt4096.false (search rules))
