@@ -130,10 +130,13 @@ impl Rows for Groups<'_> {
         GROUP_COLUMNS
     }
 
+    // By the row's number: with the column `b` the compiler loads one more value for each row.
     fn plain(&self, i: usize, b: usize) -> usize {
-        plain_bytes(self.groups, b)
+        plain_bytes(self.groups, i * GROUP_COLUMNS)
     }
 
+    // Only a row with a fault comes here. Kept out of the loop over the plain rows, it leaves them the registers.
+    #[cold]
     fn check(&self, n: usize, i: usize) -> Pen {
         check_group(
             n,
