@@ -3,8 +3,7 @@ use mathlib.Core.Path.{refl}
 use Rattle.text_label.specs.Rows.{top_row}
 use Rattle.text_label.specs.Kind.{kind}
 use Rattle.text_label.proofs.Parsed.{headless}
-use Rattle.text_label.specs.Contract.{sized}
-use Rattle.mpegh_c.proofs.Hosted.{reads_neither, reads_unroomed, unread_measured, reads_refused, reads_done}
+use Rattle.mpegh_c.proofs.Hosted.{reads_neither, reads_unroomed, reads_refused, reads_done}
 use Rattle.mpegh_c.proofs.text_label_body.mpegh_text_label_read.Goals as goal
 
 pub returns-in-Err : goal.returns-in-Err
